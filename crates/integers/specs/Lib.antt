@@ -1,0 +1,2 @@
+-- Whole numbers, in reading order: the definitions that other crates' definitions use, then their laws.
+pub mod Sum
