@@ -1,0 +1,60 @@
+-- Document 01, "A drawing", for any total D and row limit.
+--     choose b f g                         f where b holds, else g; only the one chosen is computed
+--     Run, run settled next b made ws      the iteration of a move with a budget of b further moves
+--     start limit D                        all weight on the first row
+--     runFrom D n m a b ws                 the moves of document 01 from the weights ws
+--     drawing D limit rows m n budget      what the call answers
+use Prim.Native.Nat.{ℕ, zero, suc}
+use mathlib.Core.Bool.{Bool, true, false}
+use mathlib.Core.List.{List}
+use lib.Dec.{leb}
+use lib.IntN.{ℤ}
+use lib.ListN.{replicate, set}
+use Rattle.refusal.specs.Number.{limits, budget}
+use Rattle.refusal.specs.Outcome.{refused}
+use Rattle.refusal.specs.declared.Outcome.{Outcome}
+use Rattle.refusal.specs.declared.Outcome.the-variants.{Accepted}
+use Rattle.ball.specs.Move.{settled, moved, weightOf}
+use Rattle.ball.specs.Limits.{rowsWithin, coordinate, budgetLimit}
+use Rattle.ball.specs.Ball.{ballOf, noBall}
+use Rattle.ball.specs.declared.Drawing.{Drawing}
+
+abbrev pub choose : {A : Type 0} → Bool → (Unit {0} → A) → (Unit {0} → A) → A
+choose true f g = f tt
+choose false f g = g tt
+
+-- the weights at the end of a run and the moves made
+pub record Run : Type 0 where
+  pub weights : List ℕ
+  pub moves : ℕ
+
+-- It ends when the weights are Settled, else when the budget has been moved
+unfoldable pub run : (List ℕ → Bool) → (List ℕ → List ℕ) → ℕ → ℕ → List ℕ → Run
+run stop next zero made ws = record { weights = ws; moves = made }
+run stop next (suc b) made ws =
+    elim (stop ws) [ true ↦ record { weights = ws; moves = made } | false ↦ run stop next b (suc made) (next ws) ]
+
+-- It starts with all weight on row 1
+unfoldable pub start : ℕ → ℕ → List ℕ
+start limit D = set (replicate limit 0) 0 D
+
+unfoldable pub runFrom : ℕ → ℕ → ℕ → (ℕ → ℕ → ℤ) → ℕ → ℕ → List ℕ → Run
+runFrom D n m a = run (λ ws. settled D n m a (weightOf ws)) (moved D n m a)
+
+-- X, M, L, the weights, the ending and the moves made
+abbrev pub drawn : ℕ → ℕ → ℕ → (ℕ → ℕ → ℤ) → Run → Drawing
+drawn D n m a r =
+    record { outcome = Accepted; ball = ballOf D n m a (weightOf (r .weights)); weights = r .weights; moves = r .moves }
+
+-- a refusal: every figure and weight 0
+abbrev pub notDrawn : ℕ → Outcome → Drawing
+notDrawn limit o = record { outcome = o; ball = noBall; weights = replicate limit 0; moves = 0 }
+
+-- 8, then 9, then the drawing
+unfoldable pub drawing : ℕ → ℕ → List ℤ → ℕ → ℕ → ℕ → Drawing
+drawing D limit rows m n b =
+    choose (rowsWithin limit rows m n)
+    (λ _. choose (leb b budgetLimit)
+    (λ _. drawn D n m (coordinate rows n) (runFrom D n m (coordinate rows n) b 0 (start limit D)))
+    (λ _. notDrawn limit (refused budget)))
+    (λ _. notDrawn limit (refused limits))

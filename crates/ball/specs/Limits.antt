@@ -1,0 +1,50 @@
+-- Document 01's limits on what a drawing or a check is lent, and the figures' limits.
+--     total, rowLimit, channelLimit, coordinateLimit, budgetLimit     the numbers that the contracts fix
+--     distanceLimit D, centreLimit D                                  the limits on s, M and L, and on X, for a total D
+--     coordinate rows n i k                                           row i's coordinate in channel k of a table of n channels
+--     coordinatesWithin c rows                                        the first c places are within the coordinate limit of 0
+--     rowsWithin limit rows m n                                       n, m, the places and the coordinates are within limits
+use Prim.Native.Nat.{ℕ, zero, suc, _+_, _*_}
+use mathlib.Core.Bool.{Bool, true, _&&_}
+use mathlib.Core.List.{List}
+use lib.Dec.{leb}
+use lib.IntN.{ℤ, pos, natAbs}
+use lib.ListN.{length, getD}
+
+-- D
+abbrev pub total : ℕ
+total = 65536
+
+abbrev pub rowLimit : ℕ
+rowLimit = 256
+
+abbrev pub channelLimit : ℕ
+channelLimit = 8
+
+abbrev pub coordinateLimit : ℕ
+coordinateLimit = 4000
+
+abbrev pub budgetLimit : ℕ
+budgetLimit = 1000000
+
+-- the limit on X: 262,144,000 where D is 65,536
+abbrev pub centreLimit : ℕ → ℕ
+centreLimit D = coordinateLimit * D
+
+-- the limit on s, M and L: 2,199,023,255,552,000,000 where D is 65,536
+abbrev pub distanceLimit : ℕ → ℕ
+distanceLimit D = channelLimit * (2 * centreLimit D) * (2 * centreLimit D)
+
+-- a table holds its rows one after the other
+unfoldable pub coordinate : List ℤ → ℕ → ℕ → ℕ → ℤ
+coordinate rows n i k = getD rows (i * n + k) (pos 0)
+
+unfoldable pub coordinatesWithin : ℕ → List ℤ → Bool
+coordinatesWithin zero rows = true
+coordinatesWithin (suc c) rows = coordinatesWithin c rows && leb (natAbs (getD rows c (pos 0))) coordinateLimit
+
+-- n from 1 to 8, m from 1 to the row limit, at least m times n places, each of those within 4,000 of 0
+unfoldable pub rowsWithin : ℕ → List ℤ → ℕ → ℕ → Bool
+rowsWithin limit rows m n =
+    (leb 1 n && leb n channelLimit)
+    && ((leb 1 m && leb m limit) && (leb (m * n) (length rows) && coordinatesWithin (m * n) rows))

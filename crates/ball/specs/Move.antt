@@ -1,0 +1,60 @@
+-- Document 01, "One move", for any rows, weights and total D.
+--     distanceOf D n m a w i        s of row i under the weights w
+--     farRow D n m a w              the far row
+--     nearRow D n m a w             the near row
+--     difference D n m a w          g
+--     separation D n m a w          d²
+--     settled D n m a w             whether the weights are Settled
+--     transfer D n m a w            t
+--     moveWeight t from to ws       the list of weights with t moved from one row to another
+--     next D n m a ws               the list of weights after one move, or as it is where Settled
+use Prim.Native.Nat.{ℕ, _+_, _*_, _-_, _/_, min}
+use mathlib.Core.Bool.{Bool, cond}
+use mathlib.Core.List.{List}
+use lib.Dec.{leb, ltb}
+use lib.IntN.{ℤ}
+use lib.ListN.{getD, set}
+use Rattle.ball.specs.Figures.{squaredDistance, scaledCentre, scaledSquaredDistance}
+use Rattle.ball.specs.Select.{farthest, nearest}
+
+module _ (D n m : ℕ) (a : ℕ → ℕ → ℤ) (w : ℕ → ℕ) where
+  unfoldable pub distanceOf : ℕ → ℕ
+  distanceOf i = scaledSquaredDistance D n (scaledCentre a w m) (a i)
+
+  -- The far row has the largest s of all rows
+  unfoldable pub farRow : ℕ
+  farRow = farthest ltb distanceOf m
+
+  -- The near row has the smallest s among rows of weight above 0
+  unfoldable pub nearRow : ℕ
+  nearRow = nearest ltb w distanceOf m
+
+  -- g = (s far - s near)/D, always whole. The source's Δ (formulas 11 and 18), in units of 1/D², is half of s far - s near
+  unfoldable pub difference : ℕ
+  difference = (distanceOf farRow - distanceOf nearRow) / D
+
+  -- d² is the squared distance between the two rows
+  unfoldable pub separation : ℕ
+  separation = squaredDistance n (a farRow) (a nearRow)
+
+  -- Settled where g is at most d² (both 0 included); the source goes on until Δ is 0
+  unfoldable pub settled : Bool
+  settled = leb difference separation
+
+  -- t is the whole part of (g + d² - 1)/(2d²), never more than the near row's weight. The source's step is Δ/d² (formula 26)
+  -- under the same cap (formula 27); D times it is g/(2d²), here rounded to a whole number above 0 while a move still gains
+  unfoldable pub transfer : ℕ
+  transfer = min ((difference + separation - 1) / (2 * separation)) (w nearRow)
+
+-- One row loses t, the other gains t, and no other weight changes (formula 31)
+unfoldable pub moveWeight : ℕ → ℕ → ℕ → List ℕ → List ℕ
+moveWeight t from to ws = let lowered = set ws from (getD ws from 0 - t) in set lowered to (getD lowered to 0 + t)
+
+-- The weight of row i in a list of weights: places past its end are 0
+abbrev pub weightOf : List ℕ → ℕ → ℕ
+weightOf ws i = getD ws i 0
+
+-- The weights after one move
+unfoldable pub moved : ℕ → ℕ → ℕ → (ℕ → ℕ → ℤ) → List ℕ → List ℕ
+moved D n m a ws =
+    moveWeight (transfer D n m a (weightOf ws)) (nearRow D n m a (weightOf ws)) (farRow D n m a (weightOf ws)) ws

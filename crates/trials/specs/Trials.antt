@@ -1,0 +1,98 @@
+-- Document 01, "Trial figures": the cases marked with a star as one table, and one law that computes them all.
+--     Trial             the figures that the definitions give and those that document 01 states
+--     trials            the table, in document 01's order
+--     trials-agree      every case gives document 01's figures
+use Prim.Native.Nat.{ℕ, _-_}
+use mathlib.Core.Path.{_≡_, refl}
+use mathlib.Core.Bool.{Bool, true, false, cond}
+use mathlib.Core.List.{List, [], _∷_, _++_, map}
+use lib.IntN.{ℤ, pos}
+use lib.ListN.{length, take}
+use Rattle.integers.specs.Sum.{sumℤ, sumℕ, square}
+use Rattle.ball.specs.Figures.{squaredLength, squaredDistance, scaledCentre, scaledSquaredDistance, largest, scaledSquaredRadius, scaledLowerBound}
+use Rattle.ball.specs.Select.{farthest, replaces, nearest}
+use Rattle.ball.specs.Move.{distanceOf, farRow, nearRow, difference, separation, settled, transfer, moveWeight, moved, weightOf}
+use Rattle.ball.specs.Limits.{total, rowLimit, coordinate, coordinatesWithin, rowsWithin}
+use Rattle.ball.specs.Ball.{tabulate, centreList, ballOf}
+use Rattle.ball.specs.Draw.{run, start, runFrom, drawing}
+use Rattle.ball.specs.declared.Drawing.{Drawing}
+
+pub record Trial : Type 0 where
+  pub computed : List ℤ
+  pub stated : List ℤ
+
+numbers : List ℕ → List ℤ
+numbers = map pos
+
+flag : Bool → ℕ
+flag b = cond b 1 0
+
+-- the drawing of a table of one channel's rows, or of n channels'
+draw : ℕ → List ℤ → ℕ → ℕ → Drawing
+draw n rows m budget = drawing total rowLimit rows m n budget
+
+-- moves, M, L, Settled
+outline : Drawing → List ℤ
+outline r =
+    numbers (r .moves ∷ r .ball .«scaled_squared_radius» ∷ r .ball .«scaled_lower_bound» ∷ flag (r .ball .settled) ∷ [])
+
+-- the outline, X and the weights of the first m rows
+whole : ℕ → ℕ → Drawing → List ℤ
+whole n m r = outline r ++ take n (r .ball .«scaled_centre») ++ numbers (take m (r .weights))
+
+-- g, and t, of one channel's rows under some weights
+gain : List ℤ → List ℕ → ℕ
+gain rows ws = difference total 1 (length rows) (coordinate rows 1) (weightOf ws)
+
+shift : List ℤ → List ℕ → ℕ
+shift rows ws = transfer total 1 (length rows) (coordinate rows 1) (weightOf ws)
+
+right-triangle : List ℤ
+right-triangle = numbers (0 ∷ 0 ∷ 6 ∷ 0 ∷ 0 ∷ 8 ∷ [])
+
+pub trials : List Trial
+trials =
+    -- Rows 0, 10: one move, t = 32,768, M = L = 107,374,182,400
+    record {
+      computed =
+          numbers (shift (numbers (0 ∷ 10 ∷ [])) (65536 ∷ 0 ∷ []) ∷ []) ++ outline (draw 1 (numbers (0 ∷ 10 ∷ [])) 2 10000);
+      stated = numbers (32768 ∷ 1 ∷ 107374182400 ∷ 107374182400 ∷ 1 ∷ []);
+    }
+    -- Rows 0, 1: M = 1,073,741,824, gap 0
+    ∷ record {
+      computed = outline (draw 1 (numbers (0 ∷ 1 ∷ [])) 2 10000);
+      stated = numbers (1 ∷ 1073741824 ∷ 1073741824 ∷ 1 ∷ []);
+    }
+    -- One row 7, budget 0: Settled, M = 0
+    ∷ record { computed = outline (draw 1 (numbers (7 ∷ [])) 1 0); stated = numbers (0 ∷ 0 ∷ 0 ∷ 1 ∷ []) }
+    -- Rows 5, 5: Settled, no move
+    ∷ record {
+      computed = outline (draw 1 (numbers (5 ∷ 5 ∷ [])) 2 10000);
+      stated = numbers (0 ∷ 0 ∷ 0 ∷ 1 ∷ []);
+    }
+    -- The record: 2 moves
+    ∷ record {
+      computed = whole 2 3 (draw 2 right-triangle 3 10000);
+      stated =
+          numbers (2 ∷ 107374182400 ∷ 107374182400 ∷ 1 ∷ 196608 ∷ 262144 ∷ 0 ∷ 32768 ∷ 32768 ∷ []);
+    }
+    -- The same with budget 1: Budget, M = 223,338,299,392, L = 68,719,476,736
+    ∷ record {
+      computed = outline (draw 2 right-triangle 3 1);
+      stated = numbers (1 ∷ 223338299392 ∷ 68719476736 ∷ 0 ∷ []);
+    }
+    -- Rows 0, 10, weights 32,767 and 32,769: g = 200, t = 1
+    ∷ record {
+      computed = numbers (gain (numbers (0 ∷ 10 ∷ [])) (32767 ∷ 32769 ∷ []) ∷ shift (numbers (0 ∷ 10 ∷ [])) (32767 ∷ 32769 ∷ []) ∷ []);
+      stated = numbers (200 ∷ 1 ∷ []);
+    }
+    -- Rows 0, 1, 2, weights 32,768, 1, 32,767: g = 65,538, t held to 1
+    ∷ record {
+      computed = numbers (gain (numbers (0 ∷ 1 ∷ 2 ∷ [])) (32768 ∷ 1 ∷ 32767 ∷ []) ∷ shift (numbers (0 ∷ 1 ∷ 2 ∷ [])) (32768 ∷ 1 ∷ 32767 ∷ []) ∷ []);
+      stated = numbers (65538 ∷ 1 ∷ []);
+    }
+    ∷ []
+
+pub trials-agree : map (λ (t : Trial). t .computed) trials ≡ map (λ (t : Trial). t .stated) trials
+unfolding trials numbers flag draw outline whole gain shift right-triangle sumℤ sumℕ square squaredLength squaredDistance scaledCentre scaledSquaredDistance largest scaledSquaredRadius scaledLowerBound farthest replaces nearest distanceOf farRow nearRow difference separation settled transfer moveWeight moved coordinate coordinatesWithin rowsWithin tabulate centreList ballOf run start runFrom drawing
+trials-agree = refl
