@@ -1,25 +1,21 @@
 -- Document 01, "Weights from anybody", for any total D and row limit.
---     weightsTotal m ws                      the sum of the m weights
 --     checking D limit rows m n ws           what the call answers
-use Prim.Native.Nat.{ℕ, _*_}
-use mathlib.Core.Bool.{Bool, _&&_}
+use Prim.Native.Nat.{ℕ}
+use mathlib.Core.Bool.{_&&_}
 use mathlib.Core.List.{List}
 use lib.Dec.{eqb}
 use lib.IntN.{ℤ}
 use lib.ListN.{length}
-use Rattle.integers.specs.Sum.{sumℕ}
 use Rattle.refusal.specs.Number.{limits, disagreement}
 use Rattle.refusal.specs.Outcome.{refused}
 use Rattle.refusal.specs.declared.Outcome.{Outcome}
 use Rattle.refusal.specs.declared.Outcome.the-variants.{Accepted}
-use Rattle.ball.specs.Move.{weightOf}
-use Rattle.ball.specs.Limits.{rowsWithin, coordinate}
+use Rattle.geometry.specs.Move.{weightOf}
+use Rattle.geometry.specs.Limits.{rowsWithin, coordinate}
+use Rattle.geometry.specs.Places.{weightsTotal}
 use Rattle.ball.specs.Ball.{ballOf, noBall}
 use Rattle.ball.specs.Draw.{choose}
 use Rattle.ball.specs.declared.Checked.{Checked}
-
-unfoldable pub weightsTotal : ℕ → List ℕ → ℕ
-weightsTotal m ws = sumℕ m (weightOf ws)
 
 abbrev pub notChecked : Outcome → Checked
 notChecked o = record { outcome = o; ball = noBall }

@@ -14,8 +14,8 @@ use Rattle.refusal.specs.Number.{limits, budget}
 use Rattle.refusal.specs.Outcome.{refused}
 use Rattle.refusal.specs.declared.Outcome.{Outcome}
 use Rattle.refusal.specs.declared.Outcome.the-variants.{Accepted}
-use Rattle.ball.specs.Move.{settled, moved, weightOf}
-use Rattle.ball.specs.Limits.{rowsWithin, coordinate, budgetLimit}
+use Rattle.geometry.specs.Move.{settled, moved, weightOf}
+use Rattle.geometry.specs.Limits.{rowsWithin, coordinate, budgetLimit}
 use Rattle.ball.specs.Ball.{ballOf, noBall}
 use Rattle.ball.specs.declared.Drawing.{Drawing}
 

@@ -9,11 +9,12 @@ use mathlib.Core.List.{List, [], _∷_, _++_, map}
 use lib.IntN.{ℤ, pos}
 use lib.ListN.{length, take}
 use Rattle.integers.specs.Sum.{sumℤ, sumℕ, square}
-use Rattle.ball.specs.Figures.{squaredLength, squaredDistance, scaledCentre, scaledSquaredDistance, largest, scaledSquaredRadius, scaledLowerBound}
-use Rattle.ball.specs.Select.{farthest, replaces, nearest}
-use Rattle.ball.specs.Move.{distanceOf, farRow, nearRow, difference, separation, settled, transfer, moveWeight, moved, weightOf}
-use Rattle.ball.specs.Limits.{total, rowLimit, coordinate, coordinatesWithin, rowsWithin}
-use Rattle.ball.specs.Ball.{tabulate, centreList, ballOf}
+use Rattle.geometry.specs.Figures.{squaredLength, squaredDistance, scaledCentre, scaledSquaredDistance, largest, scaledSquaredRadius, weightedSquaredLength, scaledLowerBound}
+use Rattle.geometry.specs.Select.{farthest, replaces, nearest}
+use Rattle.geometry.specs.Move.{distanceOf, farRow, nearRow, difference, separation, settled, transfer, moveWeight, moved, weightOf}
+use Rattle.geometry.specs.Limits.{total, rowLimit, coordinate, coordinatesWithin, rowsWithin}
+use Rattle.geometry.specs.Places.{tabulate, centreList}
+use Rattle.ball.specs.Ball.{ballOf}
 use Rattle.ball.specs.Draw.{run, start, runFrom, drawing}
 use Rattle.ball.specs.declared.Drawing.{Drawing}
 
@@ -94,5 +95,5 @@ trials =
     ∷ []
 
 pub trials-agree : map (λ (t : Trial). t .computed) trials ≡ map (λ (t : Trial). t .stated) trials
-unfolding trials numbers flag draw outline whole gain shift right-triangle sumℤ sumℕ square squaredLength squaredDistance scaledCentre scaledSquaredDistance largest scaledSquaredRadius scaledLowerBound farthest replaces nearest distanceOf farRow nearRow difference separation settled transfer moveWeight moved coordinate coordinatesWithin rowsWithin tabulate centreList ballOf run start runFrom drawing
+unfolding trials numbers flag draw outline whole gain shift right-triangle sumℤ sumℕ square squaredLength squaredDistance scaledCentre scaledSquaredDistance largest scaledSquaredRadius weightedSquaredLength scaledLowerBound farthest replaces nearest distanceOf farRow nearRow difference separation settled transfer moveWeight moved coordinate coordinatesWithin rowsWithin tabulate centreList ballOf run start runFrom drawing
 trials-agree = refl

@@ -14,8 +14,8 @@ use mathlib.Core.List.{List}
 use lib.Dec.{leb, ltb}
 use lib.IntN.{ℤ}
 use lib.ListN.{getD, set}
-use Rattle.ball.specs.Figures.{squaredDistance, scaledCentre, scaledSquaredDistance}
-use Rattle.ball.specs.Select.{farthest, nearest}
+use Rattle.geometry.specs.Figures.{squaredDistance, scaledCentre, scaledSquaredDistance}
+use Rattle.geometry.specs.Select.{farthest, nearest}
 
 module _ (D n m : ℕ) (a : ℕ → ℕ → ℤ) (w : ℕ → ℕ) where
   unfoldable pub distanceOf : ℕ → ℕ

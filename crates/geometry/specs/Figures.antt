@@ -5,6 +5,7 @@
 --     scaledSquaredDistance D n X p           s of a row p
 --     largest m f                             the largest of f 0, …, f (m - 1)
 --     scaledSquaredRadius D n m a X           M, the ball
+--     weightedSquaredLength n m a w           the sum of weight times the row's squared length
 --     scaledLowerBound D n m a w              L, the floor
 --     largestSquaredDistance n m a            the largest squared distance between two rows
 -- Rows and channels count from 0. `a i k` is the coordinate of row i in channel k, `w i` the weight of row i, a point is
@@ -35,10 +36,14 @@ largest (suc m) f = max (largest m f) (f m)
 unfoldable pub scaledSquaredRadius : ℕ → ℕ → ℕ → (ℕ → ℕ → ℤ) → (ℕ → ℤ) → ℕ
 scaledSquaredRadius D n m a X = largest m (λ i. scaledSquaredDistance D n X (a i))
 
+-- The sum of weight times the row's squared length
+unfoldable pub weightedSquaredLength : ℕ → ℕ → (ℕ → ℕ → ℤ) → (ℕ → ℕ) → ℕ
+weightedSquaredLength n m a w = sumℕ m (λ i. w i * squaredLength n (a i))
+
 -- The floor L is D times (the sum of weight times the row's squared length), less the squared length of X: D² times the
 -- source's -2Q (formulas 2 and 4). Where the weights sum to D the second is at most the first, so nothing is cut off at 0
 unfoldable pub scaledLowerBound : ℕ → ℕ → ℕ → (ℕ → ℕ → ℤ) → (ℕ → ℕ) → ℕ
-scaledLowerBound D n m a w = D * sumℕ m (λ i. w i * squaredLength n (a i)) - squaredLength n (scaledCentre a w m)
+scaledLowerBound D n m a w = D * weightedSquaredLength n m a w - squaredLength n (scaledCentre a w m)
 
 -- The largest squared distance between two rows; the same row may be taken twice
 unfoldable pub largestSquaredDistance : ℕ → ℕ → (ℕ → ℕ → ℤ) → ℕ

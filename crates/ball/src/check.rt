@@ -1,0 +1,58 @@
+// The check of anybody's weights.
+ghost use mathlib.Core.Path.{_≡_};
+ghost use Prim.Native.Nat.{_≤_};
+ghost use lib.ListN.{length};
+ghost use Rattle.geometry.specs.Limits.{total, rowLimit};
+ghost use Rattle.geometry.specs.Places.{weightsTotal};
+ghost use Rattle.ball.specs.Check.{notChecked, checking};
+use crate::Checked;
+use crate::draw::ball_of;
+use crate::draw::no_ball;
+use figures::centre::scaled_centre;
+use figures::limits::TOTAL;
+use figures::limits::rows_within;
+use moves::step::pair_of;
+use refusal::Outcome;
+
+// The sum of the first m weights.
+fn weights_total(w: &[u32], m: usize) -> u64
+    requires { ⌜ (m ≤ 256) × (m ≤ length (now w)) ⌝ }
+    ensures { λ r. ⌜ r ≡ weightsTotal m (now (w .entry)) ⌝ }
+{
+    let mut sum: u64 = 0;
+    let mut i = 0;
+    while i < m {
+        sum += w[i] as u64;
+        i += 1;
+    }
+    sum
+}
+
+fn not_checked(outcome: Outcome) -> Checked
+    ensures { λ r. ⌜ r ≡ notChecked outcome ⌝ }
+{
+    let ball = no_ball();
+    Checked { outcome, ball }
+}
+
+// The figures of the weights that the caller lends, one for each of the first m rows of n channels. Refused: 8, then 12.
+pub fn check(rows: &[i32], m: usize, n: usize, weights: &[u32]) -> Checked
+    ensures { λ r. ⌜ r ≡ checking total rowLimit (now (rows .entry)) m n (now (weights .entry)) ⌝ }
+{
+    if !rows_within(rows, m, n) {
+        return not_checked(refusal::refused_at(refusal::LIMITS, 0));
+    }
+    if weights.len() != m {
+        return not_checked(refusal::refused_at(refusal::LIMITS, 0));
+    }
+    if weights_total(weights, m) != (TOTAL as u64) {
+        return not_checked(refusal::refused_at(refusal::DISAGREEMENT, 0));
+    }
+    let centre = scaled_centre(rows, m, n, weights);
+    let pair = pair_of(rows, m, n, weights, &centre);
+    let ball = ball_of(rows, m, n, weights, centre, pair);
+    Checked {
+        outcome: Outcome::Accepted,
+        ball,
+    }
+}

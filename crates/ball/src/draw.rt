@@ -1,0 +1,151 @@
+// The drawing: moves from all weight on the first row until the weights are Settled or the budget is used.
+ghost use mathlib.Core.Path.{_≡_};
+ghost use mathlib.Core.Bool.{_&&_};
+ghost use lib.Dec.{leb, ltb};
+ghost use Rattle.geometry.specs.Figures.{scaledCentre};
+ghost use Rattle.geometry.specs.Move.{weightOf};
+ghost use Rattle.geometry.specs.Limits.{total, rowLimit, coordinate};
+ghost use Rattle.geometry.specs.Places.{centreList};
+ghost use Rattle.ball.specs.Ball.{ballOf, noBall};
+ghost use Rattle.ball.specs.Draw.{start, runFrom, drawn, drawing, notDrawn};
+ghost use Rattle.geometry.specs.Asked.{Table, WeightsOf};
+ghost use Rattle.moves.specs.Given.{Paired};
+ghost use Rattle.ball.specs.Ran.{Ran};
+ghost use Rattle.refusal.specs.Outcome.{refused};
+use crate::Ball;
+use crate::Drawing;
+use crate::Ended;
+use figures::bound::lower_bound;
+use figures::centre::scaled_centre;
+use figures::limits::BUDGET_MOST;
+use figures::limits::CHANNELS;
+use figures::limits::ROWS;
+use figures::limits::TOTAL;
+use figures::limits::rows_within;
+use moves::Pair;
+use moves::step::one_move;
+use moves::step::pair_of;
+use moves::step::shift_centre;
+use moves::step::transfer_of;
+use refusal::Outcome;
+
+// All weight on the first row.
+fn all_on_first() -> [u32; ROWS]
+    ensures { λ r. ⌜ r ≡ start rowLimit total ⌝ }
+{
+    let mut weights = [0u32; ROWS];
+    weights[0] = TOTAL;
+    weights
+}
+
+// Whether another move is made: the weights are not Settled and the budget is not used.
+fn goes_on(difference: u64, separation: u64, moves: u32, budget: u32) -> bool
+    ensures { λ r. ⌜ r ≡ (ltb separation difference && ltb moves budget) ⌝ }
+{
+    if difference <= separation {
+        return false;
+    }
+    moves < budget
+}
+
+// The moves. X is carried from move to move.
+fn run(rows: &[i32], m: usize, n: usize, budget: u32) -> Ended
+    requires { ⌜ Table (now rows) m n ⌝ }
+    ensures { λ r. ⌜ Ran (now (rows .entry)) m n budget r ⌝ }
+{
+    let mut weights = all_on_first();
+    let mut centre = scaled_centre(rows, m, n, &weights);
+    let mut pair = pair_of(rows, m, n, &weights, &centre);
+    let mut moves: u32 = 0;
+    while goes_on(pair.difference, pair.separation, moves, budget) {
+        let from = pair.near;
+        let to = pair.far;
+        let t = transfer_of(pair.difference, pair.separation, weights[from]);
+        weights = one_move(rows, m, n, pair, t, weights);
+        centre = shift_centre(centre, rows, n, from, to, t);
+        pair = pair_of(rows, m, n, &weights, &centre);
+        moves += 1;
+    }
+    Ended {
+        weights,
+        centre,
+        pair,
+        moves,
+    }
+}
+
+// The figures of weights whose X and pair of rows are known.
+pub fn ball_of(
+    rows: &[i32],
+    m: usize,
+    n: usize,
+    w: &[u32],
+    centre: [i64; CHANNELS],
+    pair: Pair,
+) -> Ball
+    requires { ⌜ Table (now rows) m n × (WeightsOf m (now w) × ((centre ≡ centreList n (scaledCentre (coordinate (now rows) n) (weightOf (now w)) m)) × Paired (now rows) m n (now w) pair)) ⌝ }
+    ensures { λ r. ⌜ r ≡ ballOf total n m (coordinate (now (rows .entry)) n) (weightOf (now (w .entry))) ⌝ }
+{
+    let bound = lower_bound(rows, m, n, w, &centre);
+    Ball {
+        scaled_centre: centre,
+        scaled_squared_radius: pair.distance,
+        scaled_lower_bound: bound,
+        settled: pair.difference <= pair.separation,
+    }
+}
+
+// Every figure 0, beside a refusal.
+pub fn no_ball() -> Ball
+    ensures { λ r. ⌜ r ≡ noBall ⌝ }
+{
+    Ball {
+        scaled_centre: [0i64; CHANNELS],
+        scaled_squared_radius: 0,
+        scaled_lower_bound: 0,
+        settled: false,
+    }
+}
+
+fn not_drawn(outcome: Outcome) -> Drawing
+    ensures { λ r. ⌜ r ≡ notDrawn rowLimit outcome ⌝ }
+{
+    let ball = no_ball();
+    Drawing {
+        outcome,
+        ball,
+        weights: [0u32; ROWS],
+        moves: 0,
+    }
+}
+
+// The drawing of rows within limits with a budget within its limit.
+fn drawn_within(rows: &[i32], m: usize, n: usize, budget: u32) -> Drawing
+    requires { ⌜ Table (now rows) m n ⌝ }
+    ensures { λ r. ⌜ r ≡ drawn total n m (coordinate (now (rows .entry)) n) (runFrom total n m (coordinate (now (rows .entry)) n) budget 0 (start rowLimit total)) ⌝ }
+{
+    let ended = run(rows, m, n, budget);
+    let weights = ended.weights;
+    let centre = ended.centre;
+    let pair = ended.pair;
+    let ball = ball_of(rows, m, n, &weights, centre, pair);
+    Drawing {
+        outcome: Outcome::Accepted,
+        ball,
+        weights,
+        moves: ended.moves,
+    }
+}
+
+// The drawing of the first m rows of n channels with a budget of moves. Refused: 8, then 9.
+pub fn draw(rows: &[i32], m: usize, n: usize, budget: u32) -> Drawing
+    ensures { λ r. ⌜ r ≡ drawing total rowLimit (now (rows .entry)) m n budget ⌝ }
+{
+    if !rows_within(rows, m, n) {
+        return not_drawn(refusal::refused_at(refusal::LIMITS, 0));
+    }
+    if BUDGET_MOST < budget {
+        return not_drawn(refusal::refused_at(refusal::BUDGET, 0));
+    }
+    drawn_within(rows, m, n, budget)
+}

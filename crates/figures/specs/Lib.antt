@@ -1,0 +1,2 @@
+-- The functions of the figures: what each gives.
+pub mod Given

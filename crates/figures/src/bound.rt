@@ -1,0 +1,81 @@
+// L of a set of weights.
+ghost use mathlib.Core.Path.{_≡_};
+ghost use Prim.Native.Nat.{_≤_};
+ghost use lib.IntN.{natAbs};
+ghost use Rattle.integers.specs.Sum.{square};
+ghost use Rattle.geometry.specs.Figures.{squaredLength, scaledCentre, weightedSquaredLength, scaledLowerBound};
+ghost use Rattle.geometry.specs.Move.{weightOf};
+ghost use Rattle.geometry.specs.Limits.{total, coordinate, coordinateLimit, centreLimit};
+ghost use Rattle.geometry.specs.Places.{centreList, centreOf};
+ghost use Rattle.geometry.specs.Asked.{Bounded, CentreWithin, RowAt, Table, WeightsOf};
+use crate::limits::CHANNELS;
+use crate::limits::TOTAL;
+
+// The square of a coordinate.
+fn square_of(a: i32) -> u64
+    requires { ⌜ natAbs a ≤ coordinateLimit ⌝ }
+    ensures { λ r. ⌜ Bounded 16000000 r (square a) ⌝ }
+{
+    let d = a as i64;
+    (d * d) as u64
+}
+
+// The squared length of a row.
+fn squared_length(rows: &[i32], n: usize, row: usize) -> u64
+    requires { ⌜ RowAt (now rows) n row ⌝ }
+    ensures { λ r. ⌜ Bounded 128000000 r (squaredLength n (coordinate (now (rows .entry)) n row)) ⌝ }
+{
+    let base = row * n;
+    let mut sum: u64 = 0;
+    let mut k = 0;
+    while k < n {
+        sum += square_of(rows[base + k]);
+        k += 1;
+    }
+    sum
+}
+
+// The square of one coordinate of X.
+fn square_of_centre(x: i64) -> u64
+    requires { ⌜ natAbs x ≤ centreLimit total ⌝ }
+    ensures { λ r. ⌜ Bounded 68719476736000000 r (square x) ⌝ }
+{
+    (x * x) as u64
+}
+
+// The squared length of X.
+fn squared_length_of_centre(x: &[i64; CHANNELS], n: usize) -> u64
+    requires { ⌜ CentreWithin (now x) × (n ≤ 8) ⌝ }
+    ensures { λ r. ⌜ Bounded 549755813888000000 r (squaredLength n (centreOf (now (x .entry)))) ⌝ }
+{
+    let mut sum: u64 = 0;
+    let mut k = 0;
+    while k < n {
+        sum += square_of_centre(x[k]);
+        k += 1;
+    }
+    sum
+}
+
+// The sum of weight times the row's squared length.
+fn weighted_squared_length(rows: &[i32], m: usize, n: usize, w: &[u32]) -> u64
+    requires { ⌜ Table (now rows) m n × WeightsOf m (now w) ⌝ }
+    ensures { λ r. ⌜ Bounded 8388608000000 r (weightedSquaredLength n m (coordinate (now (rows .entry)) n) (weightOf (now (w .entry)))) ⌝ }
+{
+    let mut sum: u64 = 0;
+    let mut i = 0;
+    while i < m {
+        sum += (w[i] as u64) * squared_length(rows, n, i);
+        i += 1;
+    }
+    sum
+}
+
+// L of the weights whose X is x.
+pub fn lower_bound(rows: &[i32], m: usize, n: usize, w: &[u32], x: &[i64; CHANNELS]) -> u64
+    requires { ⌜ Table (now rows) m n × (WeightsOf m (now w) × (now x ≡ centreList n (scaledCentre (coordinate (now rows) n) (weightOf (now w)) m))) ⌝ }
+    ensures { λ r. ⌜ r ≡ scaledLowerBound total n m (coordinate (now (rows .entry)) n) (weightOf (now (w .entry))) ⌝ }
+{
+    let first = (TOTAL as u64) * weighted_squared_length(rows, m, n, w);
+    first - squared_length_of_centre(x, n)
+}

@@ -1,0 +1,59 @@
+// s of a row, and d² of two rows.
+ghost use Prim.Native.Nat.{_≤_};
+ghost use lib.IntN.{natAbs, pos, _-ℤ_, _*ℤ_};
+ghost use Rattle.integers.specs.Sum.{square};
+ghost use Rattle.geometry.specs.Figures.{squaredDistance, scaledSquaredDistance};
+ghost use Rattle.geometry.specs.Limits.{total, coordinate, coordinateLimit, centreLimit, distanceLimit};
+ghost use Rattle.geometry.specs.Places.{centreOf};
+ghost use Rattle.geometry.specs.Asked.{Bounded, CentreWithin, RowAt};
+use crate::limits::CHANNELS;
+use crate::limits::TOTAL;
+
+// One channel's part of s: the square of (D times coordinate - X).
+fn scaled_square(a: i32, x: i64) -> u64
+    requires { ⌜ (natAbs a ≤ coordinateLimit) × (natAbs x ≤ centreLimit total) ⌝ }
+    ensures { λ r. ⌜ Bounded 274877906944000000 r (square (pos total *ℤ a -ℤ x)) ⌝ }
+{
+    let d = (TOTAL as i64) * (a as i64) - x;
+    (d * d) as u64
+}
+
+// s of a row.
+pub fn scaled_squared_distance(rows: &[i32], n: usize, row: usize, x: &[i64; CHANNELS]) -> u64
+    requires { ⌜ RowAt (now rows) n row × CentreWithin (now x) ⌝ }
+    ensures { λ r. ⌜ Bounded (distanceLimit total) r (scaledSquaredDistance total n (centreOf (now (x .entry))) (coordinate (now (rows .entry)) n row)) ⌝ }
+{
+    let base = row * n;
+    let mut sum: u64 = 0;
+    let mut k = 0;
+    while k < n {
+        sum += scaled_square(rows[base + k], x[k]);
+        k += 1;
+    }
+    sum
+}
+
+// The square of the difference of two coordinates.
+fn square_of_difference(a: i32, b: i32) -> u64
+    requires { ⌜ (natAbs a ≤ coordinateLimit) × (natAbs b ≤ coordinateLimit) ⌝ }
+    ensures { λ r. ⌜ Bounded 64000000 r (square (a -ℤ b)) ⌝ }
+{
+    let d = (a as i64) - (b as i64);
+    (d * d) as u64
+}
+
+// d² of two rows.
+pub fn squared_distance(rows: &[i32], n: usize, i: usize, j: usize) -> u64
+    requires { ⌜ RowAt (now rows) n i × RowAt (now rows) n j ⌝ }
+    ensures { λ r. ⌜ Bounded 512000000 r (squaredDistance n (coordinate (now (rows .entry)) n i) (coordinate (now (rows .entry)) n j)) ⌝ }
+{
+    let base = i * n;
+    let other = j * n;
+    let mut sum: u64 = 0;
+    let mut k = 0;
+    while k < n {
+        sum += square_of_difference(rows[base + k], rows[other + k]);
+        k += 1;
+    }
+    sum
+}

@@ -1,0 +1,65 @@
+// The limits on the rows that a caller lends.
+ghost use mathlib.Core.Path.{_≡_};
+ghost use Prim.Native.Nat.{_≤_};
+ghost use lib.Dec.{leb};
+ghost use lib.IntN.{natAbs};
+ghost use lib.ListN.{length};
+ghost use Rattle.geometry.specs.Limits.{coordinateLimit, rowLimit, coordinatesWithin, rowsWithin};
+
+pub const TOTAL: u32 = 65536;
+
+pub const ROWS: usize = 256;
+
+pub const CHANNELS: usize = 8;
+
+pub const COORDINATE: i32 = 4000;
+
+pub const BUDGET_MOST: u32 = 1_000_000;
+
+fn coordinate_within(z: i32) -> bool
+    ensures { λ r. ⌜ r ≡ leb (natAbs z) coordinateLimit ⌝ }
+{
+    if z < -COORDINATE {
+        return false;
+    }
+    z <= COORDINATE
+}
+
+// Whether the first `count` places are within the coordinate limit.
+fn coordinates_within(rows: &[i32], count: usize) -> bool
+    requires { ⌜ count ≤ length (now rows) ⌝ }
+    ensures { λ r. ⌜ r ≡ coordinatesWithin count (now (rows .entry)) ⌝ }
+{
+    let mut i = 0;
+    while i < count {
+        let z = rows[i];
+        if !coordinate_within(z) {
+            return false;
+        }
+        i += 1;
+    }
+    true
+}
+
+// Whether m, n, the places and the coordinates are within limits. The product is formed once both factors are small.
+pub fn rows_within(rows: &[i32], m: usize, n: usize) -> bool
+    ensures { λ r. ⌜ r ≡ rowsWithin rowLimit (now (rows .entry)) m n ⌝ }
+{
+    if n < 1 {
+        return false;
+    }
+    if CHANNELS < n {
+        return false;
+    }
+    if m < 1 {
+        return false;
+    }
+    if ROWS < m {
+        return false;
+    }
+    let count = m * n;
+    if rows.len() < count {
+        return false;
+    }
+    coordinates_within(rows, count)
+}

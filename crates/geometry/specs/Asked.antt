@@ -1,0 +1,37 @@
+-- What the functions below the public calls ask of their arguments, and give. No public call asks anything.
+--     CentreWithin x            every coordinate is within the limit on X
+--     RowAt rows n i            row i of the table lies in the list and its coordinates are within limits
+--     Table rows m n            n, m, the places and the coordinates are within limits
+--     WeightsOf m ws            a list of at least m weights of sum `total`
+--     Bounded limit r d         r is the number d, which is at most limit
+use Prim.Native.Nat.{ℕ, _+_, _*_, _≤_, _<_}
+use mathlib.Core.Path.{_≡_}
+use mathlib.Core.List.{List}
+use lib.IntN.{ℤ, pos, natAbs}
+use lib.ListN.{length, getD}
+use Rattle.geometry.specs.Places.{weightsTotal}
+use Rattle.geometry.specs.Limits.{total, rowLimit, channelLimit, coordinateLimit, centreLimit, coordinate}
+
+pub record CentreWithin (x : List ℤ) : Type 0 where
+  pub bound : (k : ℕ) → natAbs (getD x k (pos 0)) ≤ centreLimit total
+
+pub record RowAt (rows : List ℤ) (n i : ℕ) : Type 0 where
+  pub channels : n ≤ channelLimit
+  pub places : i * n + n ≤ length rows
+  pub bound : (k : ℕ) → k < n → natAbs (coordinate rows n i k) ≤ coordinateLimit
+
+pub record Table (rows : List ℤ) (m n : ℕ) : Type 0 where
+  pub some-channel : 1 ≤ n
+  pub channels : n ≤ channelLimit
+  pub some-row : 1 ≤ m
+  pub rows-most : m ≤ rowLimit
+  pub places : m * n ≤ length rows
+  pub bound : (i k : ℕ) → i < m → k < n → natAbs (coordinate rows n i k) ≤ coordinateLimit
+
+pub record WeightsOf (m : ℕ) (ws : List ℕ) : Type 0 where
+  pub places : m ≤ length ws
+  pub sum : weightsTotal m ws ≡ total
+
+pub record Bounded (limit r defined : ℕ) : Type 0 where
+  pub is : r ≡ defined
+  pub most : r ≤ limit

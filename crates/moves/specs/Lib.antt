@@ -1,0 +1,2 @@
+-- The functions of one move: what each gives.
+pub mod Given

@@ -1,0 +1,101 @@
+// One move: the pair of rows with g and d², t, the weights and X after it.
+ghost use mathlib.Core.Path.{_≡_};
+ghost use Prim.Native.Nat.{_+_, _*_, _-_, _/_, _≤_, _<_, min};
+ghost use lib.IntN.{natAbs, pos, _+ℤ_, _-ℤ_, _*ℤ_};
+ghost use Rattle.geometry.specs.Figures.{scaledCentre};
+ghost use Rattle.geometry.specs.Move.{weightOf, transfer, moved};
+ghost use Rattle.geometry.specs.Limits.{total, coordinateLimit, centreLimit, coordinate};
+ghost use Rattle.geometry.specs.Places.{centreList};
+ghost use Rattle.geometry.specs.Asked.{Bounded, CentreWithin, RowAt, Table, WeightsOf};
+ghost use Rattle.moves.specs.Given.{Paired, shiftCentre};
+use crate::Pair;
+use crate::select::farthest_row;
+use crate::select::nearest_row;
+use figures::distance::squared_distance;
+use figures::limits::CHANNELS;
+use figures::limits::ROWS;
+use figures::limits::TOTAL;
+
+// The far and the near row of the weights whose X is x, with g and d².
+pub fn pair_of(rows: &[i32], m: usize, n: usize, w: &[u32], x: &[i64; CHANNELS]) -> Pair
+    requires { ⌜ Table (now rows) m n × (WeightsOf m (now w) × (now x ≡ centreList n (scaledCentre (coordinate (now rows) n) (weightOf (now w)) m))) ⌝ }
+    ensures { λ r. ⌜ Paired (now (rows .entry)) m n (now (w .entry)) r ⌝ }
+{
+    let far = farthest_row(rows, m, n, x);
+    let near = nearest_row(rows, m, n, w, x);
+    let far_row = far.row;
+    let near_row = near.row;
+    let difference = (far.distance - near.distance) / (TOTAL as u64);
+    let separation = squared_distance(rows, n, far_row, near_row);
+    Pair {
+        far: far_row,
+        near: near_row,
+        distance: far.distance,
+        difference,
+        separation,
+    }
+}
+
+// t: the whole part of (g + d² - 1)/(2d²), never more than the near row's weight.
+pub fn transfer_of(difference: u64, separation: u64, weight: u32) -> u32
+    requires { ⌜ (0 < separation) × ((separation ≤ 512000000) × (difference ≤ 33554432000000)) ⌝ }
+    ensures { λ r. ⌜ Bounded weight r (min ((difference + separation - 1) / (2 * separation)) weight) ⌝ }
+{
+    let most = weight as u64;
+    let t = (difference + separation - 1) / (2 * separation);
+    if t < most {
+        return t as u32;
+    }
+    weight
+}
+
+// The weights after one move: the near row loses t, the far row gains t. The rows and their counts say of which move.
+pub fn one_move(
+    rows: &[i32],
+    m: usize,
+    n: usize,
+    pair: Pair,
+    t: u32,
+    weights: [u32; ROWS],
+) -> [u32; ROWS]
+    requires { ⌜ Table (now rows) m n × (WeightsOf m weights × (Paired (now rows) m n weights pair × (t ≡ transfer total n m (coordinate (now rows) n) (weightOf weights)))) ⌝ }
+    ensures { λ r. ⌜ r ≡ moved total n m (coordinate (now (rows .entry)) n) weights ⌝ }
+{
+    let from = pair.near;
+    let to = pair.far;
+    let mut changed = weights;
+    changed[from] = changed[from] - t;
+    changed[to] = changed[to] + t;
+    changed
+}
+
+// t times the difference of two coordinates, added to a coordinate of X.
+fn shifted(x: i64, t: u32, gains: i32, loses: i32) -> i64
+    requires { ⌜ (natAbs x ≤ centreLimit total) × ((t ≤ total) × ((natAbs gains ≤ coordinateLimit) × (natAbs loses ≤ coordinateLimit))) ⌝ }
+    ensures { λ r. ⌜ r ≡ x +ℤ pos t *ℤ (gains -ℤ loses) ⌝ }
+{
+    x + (t as i64) * ((gains as i64) - (loses as i64))
+}
+
+// X after t has moved from one row to another (formula 31).
+pub fn shift_centre(
+    x: [i64; CHANNELS],
+    rows: &[i32],
+    n: usize,
+    from: usize,
+    to: usize,
+    t: u32,
+) -> [i64; CHANNELS]
+    requires { ⌜ RowAt (now rows) n from × (RowAt (now rows) n to × (CentreWithin x × (t ≤ total))) ⌝ }
+    ensures { λ r. ⌜ r ≡ shiftCentre (now (rows .entry)) n from to t x ⌝ }
+{
+    let mut changed = x;
+    let lower = from * n;
+    let higher = to * n;
+    let mut k = 0;
+    while k < n {
+        changed[k] = shifted(changed[k], t, rows[higher + k], rows[lower + k]);
+        k += 1;
+    }
+    changed
+}
