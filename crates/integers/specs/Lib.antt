@@ -1,2 +1,3 @@
 -- Whole numbers, in reading order: the definitions that other crates' definitions use, then their laws.
 pub mod Sum
+pub mod Ring
