@@ -1,3 +1,4 @@
 -- Whole numbers, in reading order: the definitions that other crates' definitions use, then their laws.
 pub mod Sum
 pub mod Ring
+pub mod Solver
