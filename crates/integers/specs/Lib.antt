@@ -2,3 +2,4 @@
 pub mod Sum
 pub mod Ring
 pub mod Solver
+pub mod Order

@@ -2,7 +2,7 @@
 --     ℤ-induction       from 0 up by `sucℤ` and down by `predℤ`
 --     +ℤ-swap           a + b + c ≡ a + c + b
 --     +ℤ-interchange    (a + b) + (c + d) ≡ (a + c) + (b + d)
---     -ℤ-self           a - a ≡ 0
+--     -ℤ-self           a - a ≡ 0 (in a `use` list not the first name: `{-` opens a comment)
 --     -ℤ-zero           a - b ≡ 0 gives a ≡ b
 --     negℤ-unique       a + b ≡ 0 gives b ≡ - a
 --     *ℤ-distrib-right, *ℤ-distrib-left, negℤ-*ℤ, *ℤ-negℤ, *ℤ-sub-right, *ℤ-assoc
