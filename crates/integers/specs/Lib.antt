@@ -3,3 +3,4 @@ pub mod Sum
 pub mod Ring
 pub mod Solver
 pub mod Order
+pub mod SumLaws
