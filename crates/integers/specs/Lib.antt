@@ -4,3 +4,4 @@ pub mod Ring
 pub mod Solver
 pub mod Order
 pub mod SumLaws
+pub mod Absolute

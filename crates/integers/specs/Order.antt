@@ -8,6 +8,8 @@
 --     pos-le, pos-le-inv, nn-pos
 --     sub-nn            a ⊑ b exactly when 0 ⊑ b - a
 --     nn-add, nn-mul, nn-sq, ⊑-mul, ⊑-cancel
+--     leZ-true, leZ-false, ltZ-true, ltZ-false          what a test that the code makes says; <ℤ-⊑ for the kit's strict order
+--     le-leZ, lt-leZ, lt-ltZ, le-ltZ                    and how it comes out
 --     certify           a ⊑ b from p that is 0 or more and is b - a, by `ring`
 -- For a linear goal hand `omega` each hypothesis through `linear .. .0`, and take the goal from `linear .. .1`. A product in it is an
 -- argument of its own: `linear 2 (λ p y. p ⊕ y ≼ y) (a *ℤ b) c`.
@@ -17,11 +19,12 @@ use Prim.Native.Nat.{ℕ, zero, suc, _+_, _*_, _-_, _≤_, _<_, zero-le}
 use native.Mathlib.Nat.{le-of-mul-le-mul-left, mul-add}
 use native.Mathlib.Decide.{decLe}
 use native.Mathlib.Omega.{arith}
-use lib.Dec.{leb→le, le→leb, ltb→lt, lt→ltb}
+use mathlib.Core.Bool.{Bool, true, false, not}
+use lib.Dec.{T, leb→le, le→leb, ltb→lt, lt→ltb}
 use lib.IntN.{ℤ, pos, negsuc, negℤ, _+ℤ_, _-ℤ_, _*ℤ_, +ℤ-idl, +ℤ-idr}
-use lib.Signed.{_≤ℤ_, _<ℤ_, ≤ℤ-refl}
+use lib.Signed.{_≤ℤ_, _<ℤ_, ≤ℤ-refl, leZ, ltZ, ltZ-no}
 use Rattle.integers.specs.Ring.{pos-inj}
-use Rattle.integers.specs.Solver.{Expr, var, #_, _⊕_, _⊖_, _⊗_, ⊝_, Equation, _≈_, Over, Each, each, at-vars, none, value, ring}
+use Rattle.integers.specs.Solver.{Expr, var, #_, _⊕_, _⊖_, _⊗_, ⊝_, Equation, _≈_, Over, Each, each, at-vars, blank, value, ring}
 
 infix 4 _⊑_ _≼_
 abbrev pub _⊑_ : ℤ → ℤ → Type 0
@@ -107,8 +110,8 @@ reads : (q : Inequality) (ρ : ℕ → ℤ) → Reads q ρ
 reads (l ≼ r) ρ =
     (λ h. omega (arith, ⊑-ℕ (value l ρ) (value r ρ) .0 h, balance l ρ, balance r ρ), λ h. ⊑-ℕ (value l ρ) (value r ρ) .1 (omega (arith, balance l ρ, balance r ρ)))
 
-pub linear : (n : ℕ) (f : Over Inequality n) → Each Reads n f none
-linear n f = each Reads n f (reads (at-vars n f)) none
+pub linear : (n : ℕ) (f : Over Inequality n) → Each Reads n f blank
+linear n f = each Reads n f (reads (at-vars n f)) blank
 
 abbrev pub ReadsEq : Equation → (ℕ → ℤ) → Type 0
 ReadsEq (l ≈ r) ρ = (value l ρ ≡ value r ρ) ↔ (ups l ρ + downs r ρ ≡ ups r ρ + downs l ρ)
@@ -117,8 +120,8 @@ reads-eq : (q : Equation) (ρ : ℕ → ℤ) → ReadsEq q ρ
 reads-eq (l ≈ r) ρ =
     (λ h. omega (arith, ≡-ℕ (value l ρ) (value r ρ) .0 h, balance l ρ, balance r ρ), λ h. ≡-ℕ (value l ρ) (value r ρ) .1 (omega (arith, balance l ρ, balance r ρ)))
 
-pub linear-eq : (n : ℕ) (f : Over Equation n) → Each ReadsEq n f none
-linear-eq n f = each ReadsEq n f (reads-eq (at-vars n f)) none
+pub linear-eq : (n : ℕ) (f : Over Equation n) → Each ReadsEq n f blank
+linear-eq n f = each ReadsEq n f (reads-eq (at-vars n f)) blank
 
 -- ---- the laws
 
@@ -192,6 +195,51 @@ pub ⊑-cancel : (c a b : ℤ) → pos 1 ⊑ c → c *ℤ a ⊑ c *ℤ b → a �
 ⊑-cancel (pos k) a b h l =
     ⊑-ℕ a b .1 (le-of-mul-le-mul-left (simp mul-add (omega (arith, linear 3 (λ c a b. c ⊗ a ≼ c ⊗ b) (pos k) a b .0 l))) (pos-le-inv h))
 ⊑-cancel (negsuc k) a b h l = absurd (h .le)
+
+-- ---- the tests of the code
+
+true-T : {b : Bool} → b ≡ true → T b
+true-T e = subst T (sym e) tt
+
+T-true : (b : Bool) → T b → b ≡ true
+T-true true t = refl
+T-true false t = absurd t
+
+T-false : (b : Bool) → (T b → ⊥) → b ≡ false
+T-false true h = absurd (h tt)
+T-false false h = refl
+
+module _ (a b : ℤ) where
+  pub <ℤ-⊑ : (a <ℤ b) ↔ (a +ℤ pos 1 ⊑ b)
+  <ℤ-⊑ = (λ h. linear 2 (λ a b. a ⊕ # (pos 1) ≼ b) a b .1 (omega (arith, <ℤ-ℕ a b .0 h)), λ h. <ℤ-ℕ a b .1 (omega (arith, linear 2 (λ a b. a ⊕ # (pos 1) ≼ b) a b .0 h)))
+
+  pub leZ-true : leZ a b ≡ true → a ⊑ b
+  leZ-true e = record { le = true-T e }
+
+  pub ltZ-true : ltZ a b ≡ true → a +ℤ pos 1 ⊑ b
+  ltZ-true e = <ℤ-⊑ .0 (record { lt = true-T e })
+
+  pub leZ-false : leZ a b ≡ false → b +ℤ pos 1 ⊑ a
+  leZ-false e = go (⊑-total a b)
+    where
+      go : (a ⊑ b) ⊎ (b +ℤ pos 1 ⊑ a) → b +ℤ pos 1 ⊑ a
+      go (inl h) = absurd (subst T e (h .le))
+      go (inr h) = h
+
+  pub ltZ-false : ltZ a b ≡ false → b ⊑ a
+  ltZ-false e = ltZ-no (true-T (ap not e))
+
+  pub le-leZ : a ⊑ b → leZ a b ≡ true
+  le-leZ h = T-true (leZ a b) (h .le)
+
+  pub lt-ltZ : a +ℤ pos 1 ⊑ b → ltZ a b ≡ true
+  lt-ltZ h = T-true (ltZ a b) (<ℤ-⊑ .1 h .lt)
+
+  pub lt-leZ : b +ℤ pos 1 ⊑ a → leZ a b ≡ false
+  lt-leZ h = T-false (leZ a b) (λ t. omega (arith, ⊑-ℕ a b .0 (record { le = t }), linear 2 (λ a b. b ⊕ # (pos 1) ≼ a) a b .0 h))
+
+  pub le-ltZ : b ⊑ a → ltZ a b ≡ false
+  le-ltZ h = T-false (ltZ a b) (λ t. omega (arith, <ℤ-ℕ a b .0 (record { lt = t }), ⊑-ℕ b a .0 h))
 
 -- worked calls: a linear goal, and one of degree 2
 linear-goal : (a b c : ℤ) → a ⊑ b → b +ℤ pos 1 ⊑ c → a +ℤ a ⊑ c +ℤ c -ℤ pos 2

@@ -59,8 +59,8 @@ abbrev pub push : ℤ → (ℕ → ℤ) → ℕ → ℤ
 push a ρ zero = a
 push a ρ (suc i) = ρ i
 
-abbrev pub none : ℕ → ℤ
-none i = pos 0
+abbrev pub blank : ℕ → ℤ
+blank i = pos 0
 
 abbrev pub Each : {C : Type 0} → (C → (ℕ → ℤ) → Type 0) → (n : ℕ) → Over C n → (ℕ → ℤ) → Type 0
 Each M zero f ρ = M f ρ
@@ -217,8 +217,8 @@ vanishes-zero (X p q) ρ t =
 sound : (e : Equation) → T (passes e) → (ρ : ℕ → ℤ) → Holds e ρ
 sound (l ≈ r) t ρ = -ℤ-zero (value l ρ) (value r ρ) (sym (eval-normal (l ⊖ r) ρ) ∙ vanishes-zero (normal (l ⊖ r)) ρ t)
 
-pub ring : (n : ℕ) (f : Over Equation n) → T (passes (at-vars n f)) → Each Holds n f none
-ring n f t = each Holds n f (sound (at-vars n f) t) none
+pub ring : (n : ℕ) (f : Over Equation n) → T (passes (at-vars n f)) → Each Holds n f blank
+ring n f t = each Holds n f (sound (at-vars n f) t) blank
 
 -- worked calls
 square-of-sum : (a b : ℤ) → (a +ℤ b) *ℤ (a +ℤ b) ≡ a *ℤ a +ℤ pos 2 *ℤ a *ℤ b +ℤ b *ℤ b
