@@ -1,6 +1,7 @@
 -- Absolute values and squares as naturals, and the integers that a signed width holds. State a range as `natAbs z ≤ B`: `omega` reads it.
 --     abs-ℕ              natAbs z ≤ B, by the two naturals `up z` and `down z` of Order
 --     abs-le             natAbs z ≤ B exactly when - B ⊑ z and z ⊑ B
+--     abs-above, abs-under       B < natAbs z, from B < z or z < - B
 --     abs-neg, abs-add, abs-sub, abs-mul, abs-sum, abs-zero
 --     square-pos, square-neg, square-mul, square-le, square-inv, square-zero
 --     fitsw, fits32, fits64      an integer below half the width's power fits it
@@ -10,16 +11,16 @@
 --     within-not                 neither z < - B nor B < z, tested
 --     above, under, above-not, under-not                B < natAbs z, by the test that says so
 --     abs-nonneg, abs-negative   z by its absolute value and the test of its sign
-use mathlib.Core.Path.{_≡_, refl, sym, _∙_, ap, ap₂, subst}
+use mathlib.Core.Path.{_≡_, refl, sym, _∙_, ap, subst}
 use mathlib.Core.Logic.{_↔_}
 use mathlib.Core.Bool.{true, false}
-use Prim.Native.Nat.{ℕ, zero, suc, _+_, _*_, _-_, _^_, _≤_, _<_, zero-le}
+use Prim.Native.Nat.{ℕ, zero, suc, _+_, _*_, _^_, _≤_, _<_, zero-le}
 use native.Mathlib.Nat.{le-refl, mul-suc, suc-mul, mul-le-mul, mul-mul-mul-comm}
 use native.Mathlib.Decide.{decLe}
 use native.Mathlib.Omega.{arith}
 use lib.Dec.{T, ltb→lt}
 use lib.IntN.{ℤ, pos, negsuc, negℤ, natAbs, _+ℤ_, _-ℤ_, _*ℤ_}
-use lib.Signed.{mag, leZ, ltZ, natAbs-le}
+use lib.Signed.{leZ, ltZ, natAbs-le}
 use mir.Syntax.{Width, w32, w64}
 use mir.Val.{SFits, hbits, toZ, ofZ}
 use mir.Facts.{toZ-ofZ}
@@ -136,17 +137,23 @@ module _ (z : ℤ) (B : ℕ) where
   beyond : (natAbs z ≤ B → ⊥) → B < natAbs z
   beyond h = omega arith
 
+  pub abs-above : pos B +ℤ pos 1 ⊑ z → B < natAbs z
+  abs-above l = beyond (λ h. omega (arith, abs-ℕ z B .0 h, linear 2 (λ b z. b ⊕ # (pos 1) ≼ z) (pos B) z .0 l))
+
+  pub abs-under : z +ℤ pos 1 ⊑ negℤ (pos B) → B < natAbs z
+  abs-under l = beyond (λ h. omega (arith, abs-ℕ z B .0 h, linear 2 (λ b z. z ⊕ # (pos 1) ≼ ⊝ b) (pos B) z .0 l))
+
   pub above : ltZ (pos B) z ≡ true → B < natAbs z
-  above e = beyond (λ h. omega (arith, abs-ℕ z B .0 h, linear 2 (λ b z. b ⊕ # (pos 1) ≼ z) (pos B) z .0 (ltZ-true (pos B) z e)))
+  above e = abs-above (ltZ-true (pos B) z e)
 
   pub under : ltZ z (negℤ (pos B)) ≡ true → B < natAbs z
-  under e = beyond (λ h. omega (arith, abs-ℕ z B .0 h, linear 2 (λ b z. z ⊕ # (pos 1) ≼ ⊝ b) (pos B) z .0 (ltZ-true z (negℤ (pos B)) e)))
+  under e = abs-under (ltZ-true z (negℤ (pos B)) e)
 
   pub above-not : leZ z (pos B) ≡ false → B < natAbs z
-  above-not e = beyond (λ h. omega (arith, abs-ℕ z B .0 h, linear 2 (λ b z. b ⊕ # (pos 1) ≼ z) (pos B) z .0 (leZ-false z (pos B) e)))
+  above-not e = abs-above (leZ-false z (pos B) e)
 
   pub under-not : leZ (negℤ (pos B)) z ≡ false → B < natAbs z
-  under-not e = beyond (λ h. omega (arith, abs-ℕ z B .0 h, linear 2 (λ b z. z ⊕ # (pos 1) ≼ ⊝ b) (pos B) z .0 (leZ-false (negℤ (pos B)) z e)))
+  under-not e = abs-under (leZ-false (negℤ (pos B)) z e)
 
 pub abs-nonneg : (z : ℤ) → ltZ z (pos 0) ≡ false → z ≡ pos (natAbs z)
 abs-nonneg (pos n) e = refl

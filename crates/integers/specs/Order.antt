@@ -15,7 +15,7 @@
 -- argument of its own: `linear 2 (λ p y. p ⊕ y ≼ y) (a *ℤ b) c`.
 use mathlib.Core.Path.{_≡_, refl, sym, _∙_, ap, ap₂, subst}
 use mathlib.Core.Logic.{_↔_, _⊎_, inl, inr}
-use Prim.Native.Nat.{ℕ, zero, suc, _+_, _*_, _-_, _≤_, _<_, zero-le}
+use Prim.Native.Nat.{ℕ, suc, _+_, _*_, _-_, _≤_, _<_, zero-le}
 use native.Mathlib.Nat.{le-of-mul-le-mul-left, mul-add}
 use native.Mathlib.Decide.{decLe}
 use native.Mathlib.Omega.{arith}
@@ -87,12 +87,15 @@ abbrev mutual
   downs (a ⊗ b) ρ = ups a ρ * downs b ρ + downs a ρ * ups b ρ
   downs (⊝ a) ρ = ups a ρ
 
+at-parts : {M : ℤ → ℤ → ℤ → ℤ → Type 0} (a b : Expr) (ρ : ℕ → ℤ) → ((p n q m : ℤ) → M p n q m) → M (pos (ups a ρ)) (pos (downs a ρ)) (pos (ups b ρ)) (pos (downs b ρ))
+at-parts a b ρ h = h (pos (ups a ρ)) (pos (downs a ρ)) (pos (ups b ρ)) (pos (downs b ρ))
+
 value-split : (e : Expr) (ρ : ℕ → ℤ) → value e ρ ≡ pos (ups e ρ) -ℤ pos (downs e ρ)
 value-split (var i) ρ = split (ρ i)
 value-split (# c) ρ = split c
-value-split (a ⊕ b) ρ = ap₂ _+ℤ_ (value-split a ρ) (value-split b ρ) ∙ ring 4 (λ p n q m. (p ⊖ n) ⊕ (q ⊖ m) ≈ (p ⊕ q) ⊖ (n ⊕ m)) tt (pos (ups a ρ)) (pos (downs a ρ)) (pos (ups b ρ)) (pos (downs b ρ))
-value-split (a ⊖ b) ρ = ap₂ _-ℤ_ (value-split a ρ) (value-split b ρ) ∙ ring 4 (λ p n q m. (p ⊖ n) ⊖ (q ⊖ m) ≈ (p ⊕ m) ⊖ (n ⊕ q)) tt (pos (ups a ρ)) (pos (downs a ρ)) (pos (ups b ρ)) (pos (downs b ρ))
-value-split (a ⊗ b) ρ = ap₂ _*ℤ_ (value-split a ρ) (value-split b ρ) ∙ ring 4 (λ p n q m. (p ⊖ n) ⊗ (q ⊖ m) ≈ (p ⊗ q ⊕ n ⊗ m) ⊖ (p ⊗ m ⊕ n ⊗ q)) tt (pos (ups a ρ)) (pos (downs a ρ)) (pos (ups b ρ)) (pos (downs b ρ))
+value-split (a ⊕ b) ρ = ap₂ _+ℤ_ (value-split a ρ) (value-split b ρ) ∙ at-parts a b ρ (ring 4 (λ p n q m. (p ⊖ n) ⊕ (q ⊖ m) ≈ (p ⊕ q) ⊖ (n ⊕ m)) tt)
+value-split (a ⊖ b) ρ = ap₂ _-ℤ_ (value-split a ρ) (value-split b ρ) ∙ at-parts a b ρ (ring 4 (λ p n q m. (p ⊖ n) ⊖ (q ⊖ m) ≈ (p ⊕ m) ⊖ (n ⊕ q)) tt)
+value-split (a ⊗ b) ρ = ap₂ _*ℤ_ (value-split a ρ) (value-split b ρ) ∙ at-parts a b ρ (ring 4 (λ p n q m. (p ⊖ n) ⊗ (q ⊖ m) ≈ (p ⊗ q ⊕ n ⊗ m) ⊖ (p ⊗ m ⊕ n ⊗ q)) tt)
 value-split (⊝ a) ρ = ap negℤ (value-split a ρ) ∙ ring 2 (λ p n. ⊝ (p ⊖ n) ≈ n ⊖ p) tt (pos (ups a ρ)) (pos (downs a ρ))
 
 -- what two ways to split an integer have in common

@@ -3,6 +3,7 @@
 -- f is a λ over n expressions; its body is `left ≈ right`, made of the variables and of
 --     x ⊕ y    x ⊖ y    x ⊗ y    ⊝ x    # c        sum, difference, product, negation, an integer constant
 -- `tt` is the proof that the test passed. Where the equation is no identity of rings, the test computes to false and `tt` is refused.
+-- Under a sum or another λ, state the identity as a law of its own: there what `ring` says is not computed.
 -- An identity of ℕ: `pos-inj (ring 2 (λ x y. ..) tt (pos m) (pos n))`.
 -- The rest is for other readers of the same expressions:
 --     Expr, Equation          the expressions, and two of them

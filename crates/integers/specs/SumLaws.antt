@@ -13,22 +13,23 @@
 --     sumℤ-change₂, sumℕ-change₂      two terms changed
 --     sumℕ-set                        one element of a list replaced
 --     pos-sum                         a sum of naturals, in ℤ
--- `simp (sumℤ-add, sumℤ-mul-left)` with bare names pushes a sum through a linear combination.
+-- `simp (sumℤ-add, sumℤ-neg, sumℤ-mul-left, sumℤ-mul-right)` with bare names pushes a sum through a linear combination. A difference is
+-- a sum with a negation there, so that `sumℤ-sub` would have to stand first. What `ring` says of the terms goes in as a law of its own.
 use mathlib.Core.Path.{_≡_, refl, sym, _∙_, ap, ap₂, subst}
 use mathlib.Core.Logic.{_≢_, _⊎_, inl, inr}
-use mathlib.Core.Bool.{Bool, true, false, cond}
+use mathlib.Core.Bool.{cond}
 use mathlib.Core.List.{List}
 use Prim.Native.Nat.{ℕ, zero, suc, _+_, _*_, _-_, _≤_, _<_, zero-le}
-use native.Mathlib.Nat.{le-refl, mul-add, add-mul, mul-zero, zero-mul, suc-mul}
+use native.Mathlib.Nat.{le-refl}
 use native.Mathlib.Decide.{ℕ-discrete}
 use native.Mathlib.Omega.{arith}
 use borrow.Author.Tests.{eq-eqb, ne-eqb}
 use lib.Dec.{eqb}
 use lib.ListN.{length, getD, set}
 use lib.Seq.{getD-set-same, getD-set-other}
-use lib.IntN.{ℤ, pos, negsuc, negℤ, _+ℤ_, _-ℤ_, _*ℤ_, +ℤ-idl, *ℤ-comm, *ℤ-zero, zero-*ℤ, negℤ-+ℤ, sucℤ-*ℤ}
-use Rattle.integers.specs.Ring.{pos-inj, *ℤ-distrib-left, *ℤ-distrib-right, +ℤ-interchange}
-use Rattle.integers.specs.Solver.{_⊕_, _⊖_, _⊗_, ⊝_, #_, _≈_, ring}
+use lib.IntN.{ℤ, pos, negℤ, _+ℤ_, _-ℤ_, _*ℤ_, *ℤ-comm, *ℤ-zero, zero-*ℤ, negℤ-+ℤ, sucℤ-*ℤ}
+use Rattle.integers.specs.Ring.{pos-inj, *ℤ-distrib-left, +ℤ-interchange}
+use Rattle.integers.specs.Solver.{_⊕_, _⊖_, _⊗_, #_, _≈_, ring}
 use Rattle.integers.specs.Order.{_⊑_, ⊑-refl, ⊑-add}
 use Rattle.integers.specs.Sum.{sumℤ, sumℕ}
 
@@ -135,14 +136,10 @@ sumℕ-sub f g zero h = refl
 sumℕ-sub f g (suc n) h = omega (arith, sumℕ-sub f g n (below n h), sumℕ-mono n (below n h), last n h)
 
 pub sumℕ-mul-left : (c : ℕ) (f : ℕ → ℕ) (n : ℕ) → sumℕ n (λ i. c * f i) ≡ c * sumℕ n f
-unfolding sumℕ
-sumℕ-mul-left c f zero = sym (mul-zero c)
-sumℕ-mul-left c f (suc n) = ap (λ x. x + c * f n) (sumℕ-mul-left c f n) ∙ sym (mul-add c (sumℕ n f) (f n))
+sumℕ-mul-left c f n = pos-inj (pos-sum n (λ i. c * f i) ∙ sumℤ-mul-left (pos c) (λ i. pos (f i)) n ∙ ap (λ x. pos c *ℤ x) (sym (pos-sum n f)))
 
 pub sumℕ-mul-right : (f : ℕ → ℕ) (c n : ℕ) → sumℕ n (λ i. f i * c) ≡ sumℕ n f * c
-unfolding sumℕ
-sumℕ-mul-right f c zero = sym (zero-mul c)
-sumℕ-mul-right f c (suc n) = ap (λ x. x + f n * c) (sumℕ-mul-right f c n) ∙ sym (add-mul (sumℕ n f) (f n) c)
+sumℕ-mul-right f c n = pos-inj (pos-sum n (λ i. f i * c) ∙ sumℤ-mul-right (λ i. pos (f i)) (pos c) n ∙ ap (λ x. x *ℤ pos c) (sym (pos-sum n f)))
 
 pub sumℕ-swap : (f : ℕ → ℕ → ℕ) (m n : ℕ) → sumℕ m (λ i. sumℕ n (λ k. f i k)) ≡ sumℕ n (λ k. sumℕ m (λ i. f i k))
 unfolding sumℕ
@@ -223,9 +220,12 @@ sumℕ-set l n j v h k =
     sumℕ-change (λ i. getD l i 0) (λ i. getD (set l j v) i 0) n j h (λ i b e. getD-set-other l j i v 0 e) ∙
     ap (λ x. sumℕ n (λ i. getD l i 0) + x) (getD-set-same l j v 0 k)
 
--- worked calls
-linear-combination : (n : ℕ) (c : ℤ) (f g : ℕ → ℤ) → sumℤ n (λ i. c *ℤ f i +ℤ g i *ℤ c) ≡ c *ℤ sumℤ n f +ℤ sumℤ n g *ℤ c
-linear-combination n c f g = simp (sumℤ-add, sumℤ-mul-left, sumℤ-mul-right)
+-- worked calls: the terms are rewritten by a law that `ring` proves, then the sum goes through
+gap-term : (w a y : ℤ) → w *ℤ ((a -ℤ y) *ℤ (a -ℤ y)) ≡ w *ℤ (a *ℤ a) -ℤ pos 2 *ℤ y *ℤ (w *ℤ a) +ℤ w *ℤ (y *ℤ y)
+gap-term w a y = ring 3 (λ w a y. w ⊗ ((a ⊖ y) ⊗ (a ⊖ y)) ≈ w ⊗ (a ⊗ a) ⊖ # (pos 2) ⊗ y ⊗ (w ⊗ a) ⊕ w ⊗ (y ⊗ y)) tt w a y
+
+gap-sum : (n : ℕ) (w a : ℕ → ℤ) (y : ℤ) → sumℤ n (λ i. w i *ℤ ((a i -ℤ y) *ℤ (a i -ℤ y))) ≡ sumℤ n (λ i. w i *ℤ (a i *ℤ a i)) -ℤ pos 2 *ℤ y *ℤ sumℤ n (λ i. w i *ℤ a i) +ℤ sumℤ n w *ℤ (y *ℤ y)
+gap-sum n w a y = simp (gap-term, sumℤ-add, sumℤ-neg, sumℤ-mul-left, sumℤ-mul-right)
 
 weighted-bound : (n B : ℕ) (f : ℕ → ℕ) → ((i : ℕ) → f i ≤ B) → sumℕ n (λ i. 2 * f i) ≤ 2 * (n * B)
 weighted-bound n B f h = simp sumℕ-mul-left (omega (arith, sumℕ-bound n B (λ i l. h i)))
