@@ -1,15 +1,19 @@
 -- Absolute values and squares as naturals, and the integers that a signed width holds. State a range as `natAbs z ≤ B`: `omega` reads it.
---     abs-ℕ              natAbs z ≤ B, by the two naturals `up z` and `down z` of Order
---     abs-le             natAbs z ≤ B exactly when - B ⊑ z and z ⊑ B
+--     abs-ℕ                      natAbs z ≤ B, by the two naturals `up z` and `down z` of Order
+--     abs-le                     natAbs z ≤ B exactly when - B ⊑ z and z ⊑ B
 --     abs-above, abs-under       B < natAbs z, from B < z or z < - B
---     abs-neg, abs-add, abs-sub, abs-mul, abs-sum, abs-zero
---     square-pos, square-neg, square-mul, square-le, square-inv, square-zero
+--     abs-neg, abs-mul           of a negation and a product, equal
+--     abs-add, abs-sub, abs-sum  of a sum, a difference, a sum over a range, at most
+--     abs-zero                   only 0 has the absolute value 0
+--     square-pos                 the square as an integer
+--     square-neg, square-mul     of a negation and a product
+--     square-le, square-inv      natAbs z ≤ B exactly when square z ≤ B * B
+--     square-zero                only 0 has the square 0
 --     fitsw, fits32, fits64      an integer below half the width's power fits it
 --     backw, back32, back64      and is read back as it was written
 --     fits-abs                   the bound of an integer that fits
---     within                     - B ≤ z ≤ B, tested
---     within-not                 neither z < - B nor B < z, tested
---     above, under, above-not, under-not                B < natAbs z, by the test that says so
+--     within, within-not         natAbs z ≤ B, by the tests - B ≤ z ≤ B, or by the failed tests z < - B and B < z
+--     above, under, above-not, under-not    B < natAbs z, by the test that says so
 --     abs-nonneg, abs-negative   z by its absolute value and the test of its sign
 use mathlib.Core.Path.{_≡_, refl, sym, _∙_, ap, subst}
 use mathlib.Core.Logic.{_↔_}
@@ -24,8 +28,8 @@ use lib.Signed.{leZ, ltZ, natAbs-le}
 use mir.Syntax.{Width, w32, w64}
 use mir.Val.{SFits, hbits, toZ, ofZ}
 use mir.Facts.{toZ-ofZ}
-use Rattle.integers.specs.Solver.{_⊕_, ⊝_, #_, _≈_}
-use Rattle.integers.specs.Order.{_⊑_, _≼_, up, down, ⊑-ℕ, linear, linear-eq, leZ-true, leZ-false, ltZ-true, ltZ-false}
+use Rattle.integers.specs.Solver.{_⊕_, ⊝_, #_}
+use Rattle.integers.specs.Order.{_⊑_, _≼_, _≍_, up, down, ⊑-ℕ, linear, leZ-true, leZ-false, ltZ-true, ltZ-false}
 use Rattle.integers.specs.Sum.{sumℤ, sumℕ, square}
 
 -- ---- absolute values
@@ -51,7 +55,7 @@ abs-zero (negsuc n) e = absurd (omega arith)
 
 pub abs-add : (a b : ℤ) → natAbs (a +ℤ b) ≤ natAbs a + natAbs b
 abs-add a b = abs-ℕ (a +ℤ b) (natAbs a + natAbs b) .1
-    (omega (arith, linear-eq 3 (λ s a b. s ≈ a ⊕ b) (a +ℤ b) a b .0 refl, abs-ℕ a (natAbs a) .0 (le-refl (natAbs a)), abs-ℕ b (natAbs b) .0 (le-refl (natAbs b))))
+    (omega (arith, linear 3 (λ s a b. s ≍ a ⊕ b) (a +ℤ b) a b .0 refl, abs-ℕ a (natAbs a) .0 (le-refl (natAbs a)), abs-ℕ b (natAbs b) .0 (le-refl (natAbs b))))
 
 pub abs-sub : (a b : ℤ) → natAbs (a -ℤ b) ≤ natAbs a + natAbs b
 abs-sub a b = subst (λ x. natAbs (a -ℤ b) ≤ natAbs a + x) (abs-neg b) (abs-add a (negℤ b))

@@ -1,18 +1,29 @@
 -- The order of ℤ, under a sign that can stand beside `+ℤ`: `a ⊑ b` is the kit's `a ≤ℤ b`, at the fixity of `≡`.
 -- A strict order a < b is said `a +ℤ pos 1 ⊑ b`.
---     up, down          the two naturals with z ≡ up z - down z
---     ⊑-ℕ, <ℤ-ℕ, ≡-ℕ    an order or equation of two integers, as one of naturals that `omega` reads
---     linear            the same for an inequality of n expressions, `left ≼ right`, at n integers; linear-eq for `left ≈ right`
---     ⊑-refl, ⊑-trans, ⊑-antisym, ⊑-total, ⊑-add, ⊑-eq
---     le-by, le-witness a ⊑ b is b ≡ a + k for a natural k
---     pos-le, pos-le-inv, nn-pos
+-- Linear claims:
+--     deduce n f a₁ … aₙ (omega arith) h₁ …    the last claim of f from the others, by `omega`; f is a λ over n expressions (as of `ring`), its
+--                       body `claim ⇒ claim ⇒ ⊢ claim`, a claim `left ≼ right` or `left ≍ right` (at most, equal); h₁ … prove the claims before `⊢`
+--     linear n f        one claim, as the ↔ of the claim of ℤ and one of ℕ that `omega` reads beside other facts
+--     up, down, split   the two naturals with z ≡ up z - down z, in which those claims are said
+--     ⊑-ℕ, <ℤ-ℕ, ≡-ℕ    that ↔ for two integers
+-- A product in a linear claim is an argument of its own: `deduce 2 (λ p y. ..) (a *ℤ b) c`.
+-- Claims of any degree:
+--     certify           a ⊑ b from b - a ≡ p, by `ring`, and 0 ⊑ p, by the nn- laws
+--     nn-add, nn-mul    a sum and a product of numbers that are 0 or more
+--     nn-sq             a square
+--     nn-pos            such a number is a natural
 --     sub-nn            a ⊑ b exactly when 0 ⊑ b - a
---     nn-add, nn-mul, nn-sq, ⊑-mul, ⊑-cancel
---     leZ-true, leZ-false, ltZ-true, ltZ-false          what a test that the code makes says; <ℤ-⊑ for the kit's strict order
---     le-leZ, lt-leZ, lt-ltZ, le-ltZ                    and how it comes out
---     certify           a ⊑ b from p that is 0 or more and is b - a, by `ring`
--- For a linear goal hand `omega` each hypothesis through `linear .. .0`, and take the goal from `linear .. .1`. A product in it is an
--- argument of its own: `linear 2 (λ p y. p ⊕ y ≼ y) (a *ℤ b) c`.
+--     ⊑-mul, ⊑-cancel   a factor of 0 or more put in, a positive one taken away
+-- Laws of the order:
+--     ⊑-refl, ⊑-eq, ⊑-trans, ⊑-antisym
+--     ⊑-total           a ⊑ b, or b < a
+--     ⊑-add             side by side
+--     le-by, le-witness a ⊑ b is b ≡ a + k for a natural k
+--     pos-le, pos-le-inv    the order of ℕ
+-- The tests of the code:
+--     leZ-true, leZ-false, ltZ-true, ltZ-false    what a test that came out so says
+--     le-leZ, lt-leZ, lt-ltZ, le-ltZ              how a test comes out
+--     <ℤ-⊑              the kit's strict order
 use mathlib.Core.Path.{_≡_, refl, sym, _∙_, ap, ap₂, subst}
 use mathlib.Core.Logic.{_↔_, _⊎_, inl, inr}
 use Prim.Native.Nat.{ℕ, suc, _+_, _*_, _-_, _≤_, _<_, zero-le}
@@ -24,9 +35,11 @@ use lib.Dec.{T, leb→le, le→leb, ltb→lt, lt→ltb}
 use lib.IntN.{ℤ, pos, negsuc, negℤ, _+ℤ_, _-ℤ_, _*ℤ_, +ℤ-idl, +ℤ-idr}
 use lib.Signed.{_≤ℤ_, _<ℤ_, ≤ℤ-refl, leZ, ltZ, ltZ-no}
 use Rattle.integers.specs.Ring.{pos-inj}
-use Rattle.integers.specs.Solver.{Expr, var, #_, _⊕_, _⊖_, _⊗_, ⊝_, Equation, _≈_, Over, Each, each, at-vars, blank, value, ring}
+use Rattle.integers.specs.Solver.{Expr, var, #_, _⊕_, _⊖_, _⊗_, ⊝_, _≈_, Over, Each, each, at-vars, blank, value, ring}
 
-infix 4 _⊑_ _≼_
+infix 4 _⊑_ _≼_ _≍_
+infix 3 ⊢_
+infixr 2 _⇒_
 abbrev pub _⊑_ : ℤ → ℤ → Type 0
 a ⊑ b = a ≤ℤ b
 
@@ -67,8 +80,13 @@ pub ≡-ℕ : (a b : ℤ) → (a ≡ b) ↔ (up a + down b ≡ up b + down a)
 
 -- ---- linear claims
 
-pub data Inequality : Type 0 where
-  _≼_ : Expr → Expr → Inequality
+pub data Claim : Type 0 where
+  _≼_ : Expr → Expr → Claim
+  _≍_ : Expr → Expr → Claim
+
+pub data Rule : Type 0 where
+  ⊢_ : Claim → Rule
+  _⇒_ : Claim → Rule → Rule
 
 abbrev mutual
   pub ups : Expr → (ℕ → ℤ) → ℕ
@@ -106,25 +124,43 @@ cross u d p n e =
 balance : (e : Expr) (ρ : ℕ → ℤ) → up (value e ρ) + downs e ρ ≡ ups e ρ + down (value e ρ)
 balance e ρ = pos-inj (cross (pos (up (value e ρ))) (pos (down (value e ρ))) (pos (ups e ρ)) (pos (downs e ρ)) (sym (split (value e ρ)) ∙ value-split e ρ))
 
-abbrev pub Reads : Inequality → (ℕ → ℤ) → Type 0
-Reads (l ≼ r) ρ = (value l ρ ⊑ value r ρ) ↔ (ups l ρ + downs r ρ ≤ ups r ρ + downs l ρ)
+abbrev pub Inℤ : Claim → (ℕ → ℤ) → Type 0
+Inℤ (l ≼ r) ρ = value l ρ ⊑ value r ρ
+Inℤ (l ≍ r) ρ = value l ρ ≡ value r ρ
 
-reads : (q : Inequality) (ρ : ℕ → ℤ) → Reads q ρ
+abbrev pub Inℕ : Claim → (ℕ → ℤ) → Type 0
+Inℕ (l ≼ r) ρ = ups l ρ + downs r ρ ≤ ups r ρ + downs l ρ
+Inℕ (l ≍ r) ρ = ups l ρ + downs r ρ ≡ ups r ρ + downs l ρ
+
+abbrev pub Reads : Claim → (ℕ → ℤ) → Type 0
+Reads c ρ = Inℤ c ρ ↔ Inℕ c ρ
+
+reads : (c : Claim) (ρ : ℕ → ℤ) → Reads c ρ
 reads (l ≼ r) ρ =
     (λ h. omega (arith, ⊑-ℕ (value l ρ) (value r ρ) .0 h, balance l ρ, balance r ρ), λ h. ⊑-ℕ (value l ρ) (value r ρ) .1 (omega (arith, balance l ρ, balance r ρ)))
-
-pub linear : (n : ℕ) (f : Over Inequality n) → Each Reads n f blank
-linear n f = each Reads n f (reads (at-vars n f)) blank
-
-abbrev pub ReadsEq : Equation → (ℕ → ℤ) → Type 0
-ReadsEq (l ≈ r) ρ = (value l ρ ≡ value r ρ) ↔ (ups l ρ + downs r ρ ≡ ups r ρ + downs l ρ)
-
-reads-eq : (q : Equation) (ρ : ℕ → ℤ) → ReadsEq q ρ
-reads-eq (l ≈ r) ρ =
+reads (l ≍ r) ρ =
     (λ h. omega (arith, ≡-ℕ (value l ρ) (value r ρ) .0 h, balance l ρ, balance r ρ), λ h. ≡-ℕ (value l ρ) (value r ρ) .1 (omega (arith, balance l ρ, balance r ρ)))
 
-pub linear-eq : (n : ℕ) (f : Over Equation n) → Each ReadsEq n f blank
-linear-eq n f = each ReadsEq n f (reads-eq (at-vars n f)) blank
+pub linear : (n : ℕ) (f : Over Claim n) → Each Reads n f blank
+linear n f = each Reads n f (reads (at-vars n f)) blank
+
+abbrev pub Ruleℤ : Rule → (ℕ → ℤ) → Type 0
+Ruleℤ (⊢ c) ρ = Inℤ c ρ
+Ruleℤ (c ⇒ r) ρ = Inℤ c ρ → Ruleℤ r ρ
+
+abbrev pub Ruleℕ : Rule → (ℕ → ℤ) → Type 0
+Ruleℕ (⊢ c) ρ = Inℕ c ρ
+Ruleℕ (c ⇒ r) ρ = Inℕ c ρ → Ruleℕ r ρ
+
+abbrev pub Follows : Rule → (ℕ → ℤ) → Type 0
+Follows r ρ = Ruleℕ r ρ → Ruleℤ r ρ
+
+follows : (r : Rule) (ρ : ℕ → ℤ) → Follows r ρ
+follows (⊢ c) ρ h = reads c ρ .1 h
+follows (c ⇒ r) ρ h = λ k. follows r ρ (h (reads c ρ .0 k))
+
+pub deduce : (n : ℕ) (f : Over Rule n) → Each Follows n f blank
+deduce n f = each Follows n f (follows (at-vars n f)) blank
 
 -- ---- the laws
 
@@ -141,13 +177,13 @@ pub ⊑-eq : {a b : ℤ} → a ≡ b → a ⊑ b
 ⊑-eq {a} {b} e = subst (λ x. a ⊑ x) e (⊑-refl a)
 
 pub ⊑-trans : {a b c : ℤ} → a ⊑ b → b ⊑ c → a ⊑ c
-⊑-trans {a} {b} {c} h k = ⊑-ℕ a c .1 (omega (arith, ⊑-ℕ a b .0 h, ⊑-ℕ b c .0 k))
+⊑-trans {a} {b} {c} h k = deduce 3 (λ a b c. a ≼ b ⇒ b ≼ c ⇒ ⊢ a ≼ c) a b c (omega arith) h k
 
 pub ⊑-antisym : {a b : ℤ} → a ⊑ b → b ⊑ a → a ≡ b
-⊑-antisym {a} {b} h k = ≡-ℕ a b .1 (omega (arith, ⊑-ℕ a b .0 h, ⊑-ℕ b a .0 k))
+⊑-antisym {a} {b} h k = deduce 2 (λ a b. a ≼ b ⇒ b ≼ a ⇒ ⊢ a ≍ b) a b (omega arith) h k
 
 pub ⊑-add : {a b c d : ℤ} → a ⊑ b → c ⊑ d → a +ℤ c ⊑ b +ℤ d
-⊑-add {a} {b} {c} {d} h k = linear 4 (λ a b c d. a ⊕ c ≼ b ⊕ d) a b c d .1 (omega (arith, ⊑-ℕ a b .0 h, ⊑-ℕ c d .0 k))
+⊑-add {a} {b} {c} {d} h k = deduce 4 (λ a b c d. a ≼ b ⇒ c ≼ d ⇒ ⊢ a ⊕ c ≼ b ⊕ d) a b c d (omega arith) h k
 
 -- for every two integers, the one is at most the other or the other is less
 pub ⊑-total : (a b : ℤ) → (a ⊑ b) ⊎ (b +ℤ pos 1 ⊑ a)
@@ -158,17 +194,16 @@ pub ⊑-total : (a b : ℤ) → (a ⊑ b) ⊎ (b +ℤ pos 1 ⊑ a)
     go (no h) = inr (linear 2 (λ a b. b ⊕ # (pos 1) ≼ a) a b .1 (omega arith))
 
 pub le-by : (a : ℤ) (k : ℕ) {b : ℤ} → b ≡ a +ℤ pos k → a ⊑ b
-le-by a k {b} e = ⊑-ℕ a b .1 (omega (arith, linear-eq 3 (λ a b k. b ≈ a ⊕ k) a b (pos k) .0 e))
+le-by a k {b} e = deduce 3 (λ a b k. b ≍ a ⊕ k ⇒ ⊢ a ≼ b) a b (pos k) (omega arith) e
 
 pub le-witness : {a b : ℤ} → a ⊑ b → (k : ℕ) × (b ≡ a +ℤ pos k)
-le-witness {a} {b} h = (gap, linear-eq 3 (λ a b k. b ≈ a ⊕ k) a b (pos gap) .1 (omega (arith, ⊑-ℕ a b .0 h)))
+le-witness {a} {b} h = (gap, linear 3 (λ a b k. b ≍ a ⊕ k) a b (pos gap) .1 (omega (arith, ⊑-ℕ a b .0 h)))
   where
     gap : ℕ
     gap = up b + down a - (up a + down b)
 
 pub sub-nn : (a b : ℤ) → (a ⊑ b) ↔ (pos 0 ⊑ b -ℤ a)
-sub-nn a b =
-    (λ h. linear 2 (λ a b. # (pos 0) ≼ b ⊖ a) a b .1 (omega (arith, ⊑-ℕ a b .0 h)), λ h. ⊑-ℕ a b .1 (omega (arith, linear 2 (λ a b. # (pos 0) ≼ b ⊖ a) a b .0 h)))
+sub-nn a b = (deduce 2 (λ a b. a ≼ b ⇒ ⊢ # (pos 0) ≼ b ⊖ a) a b (omega arith), deduce 2 (λ a b. # (pos 0) ≼ b ⊖ a ⇒ ⊢ a ≼ b) a b (omega arith))
 
 pub certify : (a b : ℤ) {p : ℤ} → b -ℤ a ≡ p → pos 0 ⊑ p → a ⊑ b
 certify a b e h = sub-nn a b .1 (subst (λ x. pos 0 ⊑ x) (sym e) h)
@@ -246,8 +281,7 @@ module _ (a b : ℤ) where
 
 -- worked calls: a linear goal, and one of degree 2
 linear-goal : (a b c : ℤ) → a ⊑ b → b +ℤ pos 1 ⊑ c → a +ℤ a ⊑ c +ℤ c -ℤ pos 2
-linear-goal a b c h k = linear 2 (λ a c. a ⊕ a ≼ c ⊕ c ⊖ # (pos 2)) a c .1
-    (omega (arith, linear 2 (λ a b. a ≼ b) a b .0 h, linear 2 (λ b c. b ⊕ # (pos 1) ≼ c) b c .0 k))
+linear-goal a b c h k = deduce 3 (λ a b c. a ≼ b ⇒ b ⊕ # (pos 1) ≼ c ⇒ ⊢ a ⊕ a ≼ c ⊕ c ⊖ # (pos 2)) a b c (omega arith) h k
 
 two-products : (a b : ℤ) → pos 2 *ℤ a *ℤ b ⊑ a *ℤ a +ℤ b *ℤ b
 two-products a b = certify (pos 2 *ℤ a *ℤ b) (a *ℤ a +ℤ b *ℤ b)

@@ -5,7 +5,10 @@
 --     -ℤ-self           a - a ≡ 0 (in a `use` list not the first name: `{-` opens a comment)
 --     -ℤ-zero           a - b ≡ 0 gives a ≡ b
 --     negℤ-unique       a + b ≡ 0 gives b ≡ - a
---     *ℤ-distrib-right, *ℤ-distrib-left, negℤ-*ℤ, *ℤ-negℤ, *ℤ-sub-right, *ℤ-assoc
+--     *ℤ-distrib-right, *ℤ-distrib-left    the product of a sum
+--     *ℤ-sub-right      the product of a difference
+--     negℤ-*ℤ, *ℤ-negℤ  a negation moves out of the product
+--     *ℤ-assoc          a * b * c ≡ a * (b * c)
 --     pos-inj           `pos` keeps numbers apart
 --     pos-add, pos-mul  sum and product of ℕ are those of ℤ, by computation
 --     pos-sub           and so is the difference, where it is not cut off
