@@ -1,2 +1,7 @@
 -- Whole numbers, in reading order: the definitions that other crates' definitions use, then their laws.
 pub mod Sum
+pub mod Ring
+pub mod Solver
+pub mod Order
+pub mod SumLaws
+pub mod Absolute
