@@ -7,3 +7,6 @@ pub mod Limits
 pub mod Places
 pub mod Asked
 pub mod SelectLaws
+pub mod PlacesLaws
+pub mod TableLaws
+pub mod FigureLaws
