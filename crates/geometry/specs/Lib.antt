@@ -6,7 +6,7 @@ pub mod Move
 pub mod Limits
 pub mod Places
 pub mod Asked
-pub mod SelectLaws
 pub mod PlacesLaws
 pub mod TableLaws
 pub mod FigureLaws
+pub mod SelectLaws
