@@ -1,0 +1,14 @@
+//! The outside implementation: what the product is compared with. It shares no code with the
+//! product and is written from document 01 alone.
+//!
+//! - `rules`: the figures, the move, the drawing, the check and their refusals.
+//! - `random`: a seeded source of numbers.
+//! - `sets`: reference sets of many shapes and sizes, whole and damaged.
+//! - `cases`: arguments of the two calls, with budgets and weights of many kinds.
+//! - `known`: the cases that document 01 and the list of bad input name.
+
+pub mod cases;
+pub mod known;
+pub mod random;
+pub mod rules;
+pub mod sets;
