@@ -6,9 +6,11 @@
 //! - `sets`: reference sets of many shapes and sizes, whole and damaged.
 //! - `cases`: arguments of the two calls, with budgets and weights of many kinds.
 //! - `known`: the cases that document 01 and the list of bad input name.
+//! - `stored`: a set of cases as the input and the output of a program.
 
 pub mod cases;
 pub mod known;
 pub mod random;
 pub mod rules;
 pub mod sets;
+pub mod stored;
