@@ -14,6 +14,16 @@
 //! - *Settled*: no move of weight between two rows is called for. M - L is then at most D times
 //!   the largest squared distance between two rows.
 //!
+//! ```
+//! let rows = [0, 10];
+//! let drawing = cundarivo::draw(&rows, 2, 1, 10_000)?;
+//! assert_eq!(drawing.ending, cundarivo::Ending::Settled);
+//! assert_eq!(drawing.scaled_centre, [327_680]); // 5 · 65,536
+//! let checked = cundarivo::check(&rows, 2, 1, &drawing.weights)?;
+//! assert_eq!(checked.scaled_squared_radius, drawing.scaled_squared_radius);
+//! # Ok::<(), cundarivo::Refusal>(())
+//! ```
+//!
 //! [`draw`] and [`check`] answer with lists of their own. [`draw_into`] and [`check_into`] are the
 //! library's own calls on lent slices, and answer with numbers alone.
 

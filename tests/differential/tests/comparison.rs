@@ -2,11 +2,10 @@
 //! environment give another seed and another number of sets.
 
 use differential::compare::{self, Lent, Room};
-use differential::demands::Demands;
 use differential::tally::Tally;
 use outside::cases::{self, Answer, Case, WEIGHTINGS};
+use outside::demands::Demands;
 use outside::random::{Random, number_from_environment};
-use outside::rules;
 use outside::sets::{self, DAMAGES, SHAPES, Set};
 
 const SEED: u64 = 20_260_101;
@@ -33,8 +32,7 @@ fn compare_set(random: &mut Random, tally: &mut Tally) {
     let shape = random.pick(&SHAPES);
     let (m, n) = sets::size(random);
     let set = sets::set(random, shape, m, n);
-    let rows = rules::rows_within_limits(&set.places, m, n).expect("a whole set");
-    let demands = Demands::new(random, rows);
+    let demands = Demands::new(random, set.rows());
     tally.sets += 1;
     tally.count_kind("shape", shape);
 

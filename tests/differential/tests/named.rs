@@ -7,15 +7,21 @@ use outside::known::{self, Known};
 use outside::random::Random;
 use outside::rules::BUFFER_TOO_SHORT;
 
-/// The product gives the answer that is written down, whatever room is lent.
+/// The product gives this answer to the case in each of the rooms.
+fn answers(random: &mut Random, known: &Known, rooms: &[Room], answer: &Answer) {
+    for &room in rooms {
+        let lent = Lent::new(random, &known.case, room);
+        let given = compare::compare(&known.case, lent);
+        assert_eq!(&given, answer, "{}, {room:?}", known.name);
+    }
+}
+
+/// The product gives the answer that is written down.
 fn holds(list: Vec<Known>, name: &str) {
-    let mut random = Random::new(3);
     let known = list.into_iter().find(|known| known.name == name);
     let known = known.expect("a known case");
-    for room in [Room::Exact, Room::Longer] {
-        let lent = Lent::new(&mut random, &known.case, room);
-        assert_eq!(compare::compare(&known.case, lent), known.answer);
-    }
+    let rooms = [Room::Exact, Room::Longer];
+    answers(&mut Random::new(3), &known, &rooms, &known.answer);
     compare::compare_owned(&known.case);
 }
 
@@ -72,39 +78,28 @@ named!(trials, outside::known::trials:
 #[test]
 fn refusals_come_before_short_room() {
     let mut random = Random::new(4);
+    let rooms = [Room::CentreShort, Room::WeightsShort];
     for known in known::bad_input() {
-        for room in [Room::CentreShort, Room::WeightsShort] {
-            let lent = Lent::new(&mut random, &known.case, room);
-            assert_eq!(
-                compare::compare(&known.case, lent),
-                known.answer,
-                "{}",
-                known.name
-            );
-        }
+        answers(&mut random, &known, &rooms, &known.answer);
     }
 }
 
+/// A check is lent no room for weights.
 #[test]
 fn short_room_is_refused() {
-    let refused = Answer::from(BUFFER_TOO_SHORT);
     let mut random = Random::new(5);
+    let rooms = [Room::CentreShort, Room::WeightsShort];
     for known in known::trials() {
-        let lent = Lent::new(&mut random, &known.case, Room::CentreShort);
-        assert_eq!(
-            compare::compare(&known.case, lent),
-            refused,
-            "{}",
-            known.name
+        let count = if matches!(known.case, Case::Draw(..)) {
+            2
+        } else {
+            1
+        };
+        answers(
+            &mut random,
+            &known,
+            &rooms[..count],
+            &BUFFER_TOO_SHORT.into(),
         );
-        if matches!(known.case, Case::Draw(..)) {
-            let lent = Lent::new(&mut random, &known.case, Room::WeightsShort);
-            assert_eq!(
-                compare::compare(&known.case, lent),
-                refused,
-                "{}",
-                known.name
-            );
-        }
     }
 }

@@ -180,8 +180,8 @@ pub fn weights(random: &mut Random, set: &Set, drawn: &[i128], kind: Weighting) 
     match kind {
         Weighting::Drawn => narrow(drawn),
         Weighting::Moved => {
-            let rows = rules::rows_within_limits(&set.places, set.m, set.n).expect("whole set");
-            narrow(&rules::one_move(&rows, drawn).unwrap_or(drawn.to_vec()))
+            let moved = rules::one_move(&set.rows(), drawn);
+            narrow(&moved.unwrap_or(drawn.to_vec()))
         }
         Weighting::Shifted => shifted(random, narrow(drawn)),
         Weighting::Random => shared_out(random, set.m, 4 * set.m),

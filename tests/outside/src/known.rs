@@ -98,141 +98,208 @@ pub fn bad_input() -> Vec<Known> {
     list
 }
 
-fn drawn(
+/// An accepted drawing: its arguments, and all that it answers.
+struct Drawn {
     name: &'static str,
-    (set, budget): (Set, u32),
-    (settled, moves): (bool, u32),
-    (radius, floor): (i128, i128),
-    (centre, weights): (&[i128], &[i128]),
-) -> Known {
-    let answer = Answer {
-        settled,
-        moves,
-        scaled_squared_radius: radius,
-        scaled_lower_bound: floor,
-        scaled_centre: centre.to_vec(),
-        weights: weights.to_vec(),
-        ..Answer::default()
-    };
-    let case = Case::Draw(set, budget);
-    Known { name, case, answer }
+    places: &'static [i32],
+    size: (usize, usize),
+    budget: u32,
+    settled: bool,
+    moves: u32,
+    radius_and_lower_bound: (i128, i128),
+    centre: &'static [i128],
+    weights: &'static [i128],
 }
 
-fn unsettled(
-    name: &'static str,
-    places: &[i32],
-    weights: &[u32],
-    (radius, floor): (i128, i128),
-    centre: i128,
-) -> Known {
-    let answer = Answer {
-        scaled_squared_radius: radius,
-        scaled_lower_bound: floor,
-        scaled_centre: vec![centre],
-        ..Answer::default()
-    };
-    let case = Case::Check(set(places, 1), weights.to_vec());
-    Known { name, case, answer }
+impl Drawn {
+    fn known(&self) -> Known {
+        let (m, n) = self.size;
+        let places = self.places.to_vec();
+        let answer = Answer {
+            settled: self.settled,
+            moves: self.moves,
+            scaled_squared_radius: self.radius_and_lower_bound.0,
+            scaled_lower_bound: self.radius_and_lower_bound.1,
+            scaled_centre: self.centre.to_vec(),
+            weights: self.weights.to_vec(),
+            ..Answer::default()
+        };
+        Known {
+            name: self.name,
+            case: Case::Draw(Set { places, m, n }, self.budget),
+            answer,
+        }
+    }
 }
+
+/// An accepted check of one channel, whose weights are not Settled.
+struct Unsettled {
+    name: &'static str,
+    places: &'static [i32],
+    weights: &'static [u32],
+    radius_and_lower_bound: (i128, i128),
+    centre: i128,
+}
+
+impl Unsettled {
+    fn known(&self) -> Known {
+        let answer = Answer {
+            scaled_squared_radius: self.radius_and_lower_bound.0,
+            scaled_lower_bound: self.radius_and_lower_bound.1,
+            scaled_centre: vec![self.centre],
+            ..Answer::default()
+        };
+        Known {
+            name: self.name,
+            case: Case::Check(set(self.places, 1), self.weights.to_vec()),
+            answer,
+        }
+    }
+}
+
+const ALL_ON_FIRST: [i128; ROW_LIMIT] = {
+    let mut weights = [0; ROW_LIMIT];
+    weights[0] = 65_536;
+    weights
+};
+
+const LOW: i32 = -COORDINATE_LIMIT;
+const HIGH: i32 = COORDINATE_LIMIT;
+
+const AT_THE_LIMITS: [Drawn; 3] = [
+    Drawn {
+        name: "largest_distance",
+        places: &[
+            LOW, LOW, LOW, LOW, LOW, LOW, LOW, LOW, HIGH, HIGH, HIGH, HIGH, HIGH, HIGH, HIGH, HIGH,
+        ],
+        size: (2, CHANNEL_LIMIT),
+        budget: 0,
+        settled: false,
+        moves: 0,
+        radius_and_lower_bound: (2_199_023_255_552_000_000, 0),
+        centre: &[-262_144_000; CHANNEL_LIMIT],
+        weights: &[65_536, 0],
+    },
+    Drawn {
+        name: "largest_counts",
+        places: &[HIGH; ROW_LIMIT * CHANNEL_LIMIT],
+        size: (ROW_LIMIT, CHANNEL_LIMIT),
+        budget: BUDGET_LIMIT,
+        settled: true,
+        moves: 0,
+        radius_and_lower_bound: (0, 0),
+        centre: &[262_144_000; CHANNEL_LIMIT],
+        weights: &ALL_ON_FIRST,
+    },
+    Drawn {
+        name: "coordinate_past_the_rows",
+        places: &[0, 10, HIGH + 1],
+        size: (2, 1),
+        budget: BUDGET_LIMIT,
+        settled: true,
+        moves: 1,
+        radius_and_lower_bound: (107_374_182_400, 107_374_182_400),
+        centre: &[327_680],
+        weights: &[32_768, 32_768],
+    },
+];
+
+const DRAWN_TRIALS: [Drawn; 6] = [
+    Drawn {
+        name: "rows_0_10",
+        places: &[0, 10],
+        size: (2, 1),
+        budget: 10_000,
+        settled: true,
+        moves: 1,
+        radius_and_lower_bound: (107_374_182_400, 107_374_182_400),
+        centre: &[327_680],
+        weights: &[32_768, 32_768],
+    },
+    Drawn {
+        name: "rows_0_1",
+        places: &[0, 1],
+        size: (2, 1),
+        budget: 10_000,
+        settled: true,
+        moves: 1,
+        radius_and_lower_bound: (1_073_741_824, 1_073_741_824),
+        centre: &[32_768],
+        weights: &[32_768, 32_768],
+    },
+    Drawn {
+        name: "one_row_budget_0",
+        places: &[7],
+        size: (1, 1),
+        budget: 0,
+        settled: true,
+        moves: 0,
+        radius_and_lower_bound: (0, 0),
+        centre: &[458_752],
+        weights: &[65_536],
+    },
+    Drawn {
+        name: "rows_5_5",
+        places: &[5, 5],
+        size: (2, 1),
+        budget: 10_000,
+        settled: true,
+        moves: 0,
+        radius_and_lower_bound: (0, 0),
+        centre: &[327_680],
+        weights: &[65_536, 0],
+    },
+    Drawn {
+        name: "record",
+        places: &[0, 0, 6, 0, 0, 8],
+        size: (3, 2),
+        budget: 10_000,
+        settled: true,
+        moves: 2,
+        radius_and_lower_bound: (107_374_182_400, 107_374_182_400),
+        centre: &[196_608, 262_144],
+        weights: &[0, 32_768, 32_768],
+    },
+    Drawn {
+        name: "record_budget_1",
+        places: &[0, 0, 6, 0, 0, 8],
+        size: (3, 2),
+        budget: 1,
+        settled: false,
+        moves: 1,
+        radius_and_lower_bound: (223_338_299_392, 68_719_476_736),
+        centre: &[0, 262_144],
+        weights: &[32_768, 0, 32_768],
+    },
+];
+
+const CHECKED_TRIALS: [Unsettled; 2] = [
+    Unsettled {
+        name: "one_more_is_moved",
+        places: &[0, 10],
+        weights: &[32_767, 32_769],
+        radius_and_lower_bound: (107_380_736_100, 107_374_182_300),
+        centre: 327_690,
+    },
+    Unsettled {
+        name: "held_to_the_weight",
+        places: &[0, 1, 2],
+        weights: &[32_768, 1, 32_767],
+        radius_and_lower_bound: (4_295_098_369, 4_294_901_759),
+        centre: 65_535,
+    },
+];
 
 /// Input at the limits, which is accepted.
 pub fn at_the_limits() -> Vec<Known> {
-    let limit = COORDINATE_LIMIT;
-    let mut opposite = vec![-limit; CHANNEL_LIMIT];
-    opposite.extend([limit; CHANNEL_LIMIT]);
-    let equal = vec![limit; ROW_LIMIT * CHANNEL_LIMIT];
-    let mut past = set(&[0, 10], 1);
-    past.places.push(limit + 1);
-    let ten = 107_374_182_400;
-    let mut all_on_first = vec![0; ROW_LIMIT];
-    all_on_first[0] = 65_536;
-    vec![
-        drawn(
-            "largest_distance",
-            (set(&opposite, CHANNEL_LIMIT), 0),
-            (false, 0),
-            (2_199_023_255_552_000_000, 0),
-            (&[-262_144_000; CHANNEL_LIMIT], &[65_536, 0]),
-        ),
-        drawn(
-            "largest_counts",
-            (set(&equal, CHANNEL_LIMIT), BUDGET_LIMIT),
-            (true, 0),
-            (0, 0),
-            (&[262_144_000; CHANNEL_LIMIT], &all_on_first),
-        ),
-        drawn(
-            "coordinate_past_the_rows",
-            (past, BUDGET_LIMIT),
-            (true, 1),
-            (ten, ten),
-            (&[327_680], &[32_768, 32_768]),
-        ),
-    ]
+    AT_THE_LIMITS.iter().map(Drawn::known).collect()
 }
 
 /// The starred trial figures that concern the ball; what document 01 leaves out of a figure's line
 /// is worked out by hand from its rules.
 pub fn trials() -> Vec<Known> {
-    let half = 32_768;
-    let ten = 107_374_182_400;
-    let record = || set(&[0, 0, 6, 0, 0, 8], 2);
-    vec![
-        drawn(
-            "rows_0_10",
-            (set(&[0, 10], 1), 10_000),
-            (true, 1),
-            (ten, ten),
-            (&[327_680], &[half, half]),
-        ),
-        drawn(
-            "rows_0_1",
-            (set(&[0, 1], 1), 10_000),
-            (true, 1),
-            (1_073_741_824, 1_073_741_824),
-            (&[half], &[half, half]),
-        ),
-        drawn(
-            "one_row_budget_0",
-            (set(&[7], 1), 0),
-            (true, 0),
-            (0, 0),
-            (&[458_752], &[65_536]),
-        ),
-        drawn(
-            "rows_5_5",
-            (set(&[5, 5], 1), 10_000),
-            (true, 0),
-            (0, 0),
-            (&[327_680], &[65_536, 0]),
-        ),
-        drawn(
-            "record",
-            (record(), 10_000),
-            (true, 2),
-            (ten, ten),
-            (&[196_608, 262_144], &[0, half, half]),
-        ),
-        drawn(
-            "record_budget_1",
-            (record(), 1),
-            (false, 1),
-            (223_338_299_392, 68_719_476_736),
-            (&[0, 262_144], &[half, 0, half]),
-        ),
-        unsettled(
-            "one_more_is_moved",
-            &[0, 10],
-            &[32_767, 32_769],
-            (107_380_736_100, 107_374_182_300),
-            327_690,
-        ),
-        unsettled(
-            "held_to_the_weight",
-            &[0, 1, 2],
-            &[32_768, 1, 32_767],
-            (4_295_098_369, 4_294_901_759),
-            65_535,
-        ),
-    ]
+    let drawn = DRAWN_TRIALS.iter().map(Drawn::known);
+    drawn
+        .chain(CHECKED_TRIALS.iter().map(Unsettled::known))
+        .collect()
 }

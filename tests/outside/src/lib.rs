@@ -5,10 +5,12 @@
 //! - `random`: a seeded source of numbers.
 //! - `sets`: reference sets of many shapes and sizes, whole and damaged.
 //! - `cases`: arguments of the two calls, with budgets and weights of many kinds.
+//! - `demands`: what demand 3 says of the figures, tested in whole numbers.
 //! - `known`: the cases that document 01 and the list of bad input name.
 //! - `stored`: a set of cases as the input and the output of a program.
 
 pub mod cases;
+pub mod demands;
 pub mod known;
 pub mod random;
 pub mod rules;

@@ -2,7 +2,7 @@
 //! damaged so that one limit is just broken.
 
 use crate::random::Random;
-use crate::rules::{CHANNEL_LIMIT, COORDINATE_LIMIT, ROW_LIMIT};
+use crate::rules::{self, CHANNEL_LIMIT, COORDINATE_LIMIT, ROW_LIMIT, Vector};
 
 /// Rows as they are lent to a call: the first m·n of `places` count.
 #[derive(Clone, Debug, PartialEq, Eq)]
@@ -10,6 +10,13 @@ pub struct Set {
     pub places: Vec<i32>,
     pub m: usize,
     pub n: usize,
+}
+
+impl Set {
+    /// The rows of a set within the limits.
+    pub fn rows(&self) -> Vec<Vector> {
+        rules::rows_within_limits(&self.places, self.m, self.n).expect("a set within the limits")
+    }
 }
 
 #[derive(Clone, Copy, Debug, PartialEq, Eq)]
@@ -67,6 +74,13 @@ pub fn set(random: &mut Random, shape: Shape, m: usize, n: usize) -> Set {
         Shape::Exchanged => exchanged(random, m, n),
     };
     Set { places, m, n }
+}
+
+/// A set of any shape, of at most 12 rows.
+pub fn small_set(random: &mut Random) -> Set {
+    let shape = random.pick(&SHAPES);
+    let (m, n) = (1 + random.index(12), 1 + random.index(CHANNEL_LIMIT));
+    set(random, shape, m, n)
 }
 
 /// `count` places, each from -`limit` to `limit`.

@@ -77,7 +77,7 @@ fn cases_of(random: &mut Random, set: Set, budget: u32, index: usize) -> Vec<Cas
     let kind = WEIGHTINGS[index % WEIGHTINGS.len()];
     let weights = cases::weights(random, &set, &drawn, kind);
     let mut list = vec![draw, Case::Check(set.clone(), weights.clone())];
-    if index % 3 == 0 {
+    if index.is_multiple_of(3) {
         let damaged = [
             cases::damaged_draw(random, &set, budget).1,
             cases::damaged_check(random, &set, &weights).1,

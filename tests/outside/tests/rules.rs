@@ -53,11 +53,9 @@ fn ties_go_to_the_lowest_row() {
 fn each_move_raises_the_lower_bound() {
     let mut random = Random::new(1);
     for _ in 0..300 {
-        let shape = random.pick(&SHAPES);
-        let (m, n) = (1 + random.index(12), 1 + random.index(8));
-        let set = sets::set(&mut random, shape, m, n);
-        let rows = rules::rows_within_limits(&set.places, m, n).expect("within limits");
-        let mut weights = rules::first_weights(m);
+        let set = sets::small_set(&mut random);
+        let rows = set.rows();
+        let mut weights = rules::first_weights(set.m);
         while let Some(moved) = rules::one_move(&rows, &weights) {
             let pair = rules::pair(&rows, &weights);
             let amount = pair.amount(&weights);

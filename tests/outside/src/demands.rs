@@ -3,9 +3,9 @@
 //! With q at most 2^20 and the rival's centre within twice the limit on coordinates, each side of
 //! the first statement is below 2^106, so that 128 bits hold it.
 
-use outside::cases::Answer;
-use outside::random::Random;
-use outside::rules::{self, COORDINATE_LIMIT, TOTAL, Vector};
+use crate::cases::Answer;
+use crate::random::Random;
+use crate::rules::{self, COORDINATE_LIMIT, TOTAL, Vector};
 
 const LARGEST_DENOMINATOR: i128 = 1 << 20;
 
@@ -52,12 +52,19 @@ impl Demands {
     fn test_ball(&self, answer: &Answer) {
         let radius = answer.scaled_squared_radius;
         let distances = rules::scaled_squared_distances(&self.rows, &answer.scaled_centre);
-        assert!(distances.iter().all(|&distance| distance <= radius));
-        assert!(distances.contains(&radius));
+        let largest = distances.iter().max();
+        assert_eq!(largest, Some(&radius), "M is the largest s");
         let gap = radius - answer.scaled_lower_bound;
-        assert!(gap >= 0);
-        assert!(!answer.settled || gap <= TOTAL * self.largest_squared_distance);
-        assert!(i128::from(answer.moves) <= answer.scaled_lower_bound);
+        assert!(gap >= 0, "L is at most M");
+        let settled_gap = TOTAL * self.largest_squared_distance;
+        assert!(
+            !answer.settled || gap <= settled_gap,
+            "Settled, but the gap is wide"
+        );
+        assert!(
+            i128::from(answer.moves) <= answer.scaled_lower_bound,
+            "more moves than L"
+        );
     }
 }
 
@@ -90,10 +97,7 @@ impl Rival {
             .collect();
         let owed = q * q * answer.scaled_lower_bound + rules::squared_length(&apart);
         let given = TOTAL * TOTAL * self.squared_radius;
-        assert!(
-            given >= owed,
-            "a rival of denominator {q} beats the lower bound"
-        );
+        assert!(given >= owed, "a rival beats the lower bound");
         (given - owed) * 1_000 < given
     }
 }
@@ -110,11 +114,12 @@ fn furthest_rows(rows: &[Vector]) -> (i128, usize, usize) {
     furthest
 }
 
-/// A centre anywhere within twice the limit on coordinates.
+/// A centre anywhere within twice the limit on coordinates, or in a quarter of it.
 fn random_rival(random: &mut Random, rows: &[Vector]) -> Rival {
     let denominator = 1 + random.below(LARGEST_DENOMINATOR as u64) as i128;
-    let reach = 2 * COORDINATE_LIMIT;
-    let place = |_| denominator * i128::from(random.between(-reach, reach)) / 3;
+    let reach = random.pick(&[2 * COORDINATE_LIMIT, COORDINATE_LIMIT / 4]);
+    let furthest = denominator * i128::from(reach);
+    let place = |_| i128::from(random.below(2 * furthest as u64 + 1)) - furthest;
     let centre = (0..rows[0].len()).map(place).collect();
     Rival::new(rows, centre, denominator)
 }
