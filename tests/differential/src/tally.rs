@@ -7,12 +7,14 @@ use std::fmt::Debug;
 #[derive(Default)]
 pub struct Tally {
     pub sets: u64,
+    /// Sets of as many rows and channels as the limits allow.
+    pub full_sets: u64,
     pub draws: u64,
     pub checks: u64,
     pub moves: u64,
     pub rivals: u64,
     pub close_rivals: u64,
-    /// How often each outcome, damage and kind of weights was met, by name.
+    /// How often each outcome and each kind of input was met, by name.
     pub reached: BTreeMap<String, u64>,
 }
 
@@ -58,7 +60,10 @@ impl Tally {
     }
 
     pub fn print(&self) {
-        println!("sets: {}", self.sets);
+        println!(
+            "sets: {}, of 256 rows and 8 channels: {}",
+            self.sets, self.full_sets
+        );
         println!("draws compared: {}", self.draws);
         println!("checks compared: {}", self.checks);
         println!("moves in all: {}", self.moves);

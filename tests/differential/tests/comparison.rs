@@ -6,10 +6,13 @@ use differential::tally::Tally;
 use outside::cases::{self, Answer, Case, WEIGHTINGS};
 use outside::demands::Demands;
 use outside::random::{Random, number_from_environment};
+use outside::rules::{BUDGET_LIMIT, CHANNEL_LIMIT, ROW_LIMIT};
 use outside::sets::{self, DAMAGES, SHAPES, Set};
 
 const SEED: u64 = 20_260_101;
 const SETS: u64 = 200_000;
+/// The budgets that must have been met.
+const BUDGETS: [u32; 5] = [0, 1, 2, 10_000, BUDGET_LIMIT];
 
 fn main() {
     let seed = number_from_environment("SEED", SEED);
@@ -24,7 +27,8 @@ fn main() {
     let damages = DAMAGES.iter().map(|kind| format!("damage: {kind:?}"));
     let weightings = WEIGHTINGS.iter().map(|kind| format!("weights: {kind:?}"));
     let shapes = SHAPES.iter().map(|kind| format!("shape: {kind:?}"));
-    tally.require(damages.chain(weightings).chain(shapes));
+    let budgets = BUDGETS.iter().map(|budget| format!("budget: {budget}"));
+    tally.require(damages.chain(weightings).chain(shapes).chain(budgets));
 }
 
 /// A whole set drawn and checked, and in one of four sets a damaged drawing and check too.
@@ -34,9 +38,13 @@ fn compare_set(random: &mut Random, tally: &mut Tally) {
     let set = sets::set(random, shape, m, n);
     let demands = Demands::new(random, set.rows());
     tally.sets += 1;
+    tally.full_sets += u64::from((m, n) == (ROW_LIMIT, CHANNEL_LIMIT));
     tally.count_kind("shape", shape);
 
     let budget = cases::budget(random);
+    if BUDGETS.contains(&budget) {
+        tally.count_kind("budget", budget);
+    }
     let draw = Case::Draw(set.clone(), budget);
     let drawn = compare_whole(random, tally, &demands, &draw);
 
