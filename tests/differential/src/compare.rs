@@ -4,6 +4,10 @@ use outside::cases::{Answer, Case};
 use outside::random::Random;
 use outside::rules::BUFFER_TOO_SHORT;
 
+/// Room is lent for no more places than these, however large the counts of a refused case are.
+const MOST_WEIGHTS: usize = 300;
+const MOST_CHANNELS: usize = 20;
+
 /// The slices lent to be written. A check is lent the centre alone.
 #[derive(Clone, Debug, PartialEq, Eq)]
 pub struct Lent {
@@ -23,7 +27,8 @@ pub enum Room {
 impl Lent {
     /// Slices of random numbers, so that a place written or left is told apart.
     pub fn new(random: &mut Random, case: &Case, room: Room) -> Lent {
-        let (m, n) = (case.set().m.min(300), case.set().n.min(20));
+        let m = case.set().m.min(MOST_WEIGHTS);
+        let n = case.set().n.min(MOST_CHANNELS);
         let (centre, weights) = match room {
             Room::Exact => (n, m),
             Room::Longer => (n + 1 + random.index(9), m + 1 + random.index(9)),
@@ -66,7 +71,7 @@ fn expected(case: &Case, lent: &mut Lent) -> Answer {
     answer
 }
 
-/// The product's answer in numbers; the lists are what it has written to the lent slices.
+/// The product's answer in numbers; it writes its lists to the lent slices.
 fn product(case: &Case, lent: &mut Lent) -> Answer {
     let set = case.set();
     let rows = set.places.clone();
