@@ -10,3 +10,5 @@ pub mod PlacesLaws
 pub mod TableLaws
 pub mod FigureLaws
 pub mod SelectLaws
+pub mod MoveLaws
+pub mod Demand
