@@ -24,6 +24,7 @@ use borrow.Author.Tests.{ltb-true, ltb-false, lt-ltb, le-ltb, ne-eqb, eqb-false}
 use lib.Dec.{ltb, eqb}
 use Rattle.geometry.specs.Select.{farthest, replaces, nearest}
 use Rattle.geometry.specs.Figures.{largest}
+use Rattle.geometry.specs.TableLaws.{both}
 
 pub record Strict {A : Type 0} (less : A → A → Bool) : Type 0 where
   pub one-way : (x y : A) → less x y ≡ true → less y x ≡ false
@@ -51,14 +52,6 @@ choice : (P : ℕ → Type 0) (b : Bool) {x y : ℕ} → (b ≡ true → P x) �
 choice P true h k = h refl
 choice P false h k = k refl
 
-same-row : (b : Bool) (x : ℕ) → cond b x x ≡ x
-same-row true x = refl
-same-row false x = refl
-
-&&-true : (a b : Bool) → (a && b) ≡ true → (a ≡ true) × (b ≡ true)
-&&-true true b h = (refl, h)
-&&-true false b h = clash h refl
-
 ||-false : (a b : Bool) → (a || b) ≡ false → (a ≡ false) × (b ≡ false)
 ||-false true b h = clash refl h
 ||-false false b h = (refl, h)
@@ -68,7 +61,7 @@ same-row false x = refl
 module _ {A : Type 0} (less : A → A → Bool) (score : ℕ → A) where
   pub farthest-one : farthest less score 1 ≡ 0
   unfolding farthest
-  farthest-one = same-row (less (score 0) (score 0)) 0
+  farthest-one = choice (λ x. x ≡ 0) (less (score 0) (score 0)) (λ t. refl) (λ t. refl)
 
   pub farthest-taken : (i : ℕ) → less (score (farthest less score i)) (score i) ≡ true → farthest less score (i + 1) ≡ i
   unfolding farthest
@@ -148,7 +141,7 @@ module _ {A : Type 0} (less : A → A → Bool) (w : ℕ → ℕ) (score : ℕ �
   replaces-true : (j i : ℕ) → replaces less w score j i ≡ true → (0 < w i) × (0 < w j → less (score i) (score j) ≡ true)
   unfolding replaces
   replaces-true j i h =
-      let p = &&-true (ltb 0 (w i)) (eqb (w j) 0 || less (score i) (score j)) h in
+      let p = both (ltb 0 (w i)) (eqb (w j) 0 || less (score i) (score j)) h in
       (ltb-true 0 (w i) (p .0), λ k. ap (λ b. b || less (score i) (score j)) (sym (ne-eqb (w j) 0 (omega arith))) ∙ p .1)
 
   replaces-false : (j i : ℕ) → replaces less w score j i ≡ false → 0 < w i → (0 < w j) × (less (score i) (score j) ≡ false)
