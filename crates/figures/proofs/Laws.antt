@@ -3,28 +3,31 @@
 --     Reads z d B                   the machine's reading z is the integer d, which is within B of 0
 --     held, kept                    a parameter or an element of a signed type; the same or an operation's result, as an i64
 --     number                        a number of 0 or more
---     difference, product           of two readings
+--     addition, difference, product of two readings
 --     fits                          what an operation or a cast to i64 asks
 --     square-cast, square-is        the square of a reading, cast to u64
---     Partial B f n k sum           sum is the sum of f over the first k of n places, each term at most B
+--     sumℤ-next, sumℕ-next          a sum with one more term
+--     sumℕ-part                     a sum over fewer places
+--     Partial B c f n k sum         sum is the sum of f over the first k of n places, and at most B * c
 --     partial-none, -more, -all     it at the start, after a turn and at the end
 --     row-held, centre-held         an element of a row and of X, as a callee is passed it
 --     passed, given, given₂         what a callee asks and gives of readings, as said of the integers themselves
 use mathlib.Core.Path.{_≡_, refl, sym, ap, ap₂, subst, _∙_}
 use mathlib.Core.List.{List}
-use Prim.Native.Nat.{ℕ, _+_, _*_, _^_, _≤_, _<_}
-use native.Mathlib.Nat.{le-refl, mul-add, mul-le-mul, mul-le-mul-left}
+use Prim.Native.Nat.{ℕ, zero, suc, _+_, _*_, _^_, _≤_, _<_}
+use native.Mathlib.Nat.{mul-add, mul-le-mul, mul-le-mul-left}
+use native.Mathlib.Decide.{decLe}
 use native.Mathlib.Numerals.{add-one}
 use native.Mathlib.Omega.{arith}
 use lib.Dec.{T, ltb, ltb→lt}
-use lib.IntN.{ℤ, pos, natAbs, _-ℤ_, _*ℤ_}
+use lib.IntN.{ℤ, pos, natAbs, _+ℤ_, _-ℤ_, _*ℤ_}
 use lib.ListN.{getD}
 use lib.Signed.{nonNeg}
 use mir.Syntax.{Width, w32, w64}
 use mir.Val.{Fits, SFits, toZ, ofZ}
 use mir.Facts.{toZ-ofZ}
-use Rattle.integers.specs.Sum.{sumℕ, square}
-use Rattle.integers.specs.Absolute.{abs-sub, abs-mul, fits32, fits64, square-pos, square-le}
+use Rattle.integers.specs.Sum.{sumℤ, sumℕ, square}
+use Rattle.integers.specs.Absolute.{abs-add, abs-sub, abs-mul, fits32, fits64, square-pos, square-le}
 use Rattle.geometry.specs.Asked.{Bounded, CentreWithin, RowAt}
 use Rattle.geometry.specs.Limits.{total, coordinate, coordinateLimit, centreLimit}
 use Rattle.geometry.specs.Places.{centreOf}
@@ -55,6 +58,9 @@ module _ {z d : ℤ} {B : ℕ} (r : Reads z d B) where
   pub difference : {y e : ℤ} {C : ℕ} → Reads y e C → Reads (z -ℤ y) (d -ℤ e) (B + C)
   difference {y} {e} s = record { is = ap₂ _-ℤ_ (r .is) (s .is); most = omega (arith, abs-sub d e, r .most, s .most) }
 
+  pub addition : {y e : ℤ} {C : ℕ} → Reads y e C → Reads (z +ℤ y) (d +ℤ e) (B + C)
+  addition {y} {e} s = record { is = ap₂ _+ℤ_ (r .is) (s .is); most = omega (arith, abs-add d e, r .most, s .most) }
+
   pub product : {y e : ℤ} {C : ℕ} → Reads y e C → Reads (z *ℤ y) (d *ℤ e) (B * C)
   product {y} {e} {C} s = record { is = ap₂ _*ℤ_ (r .is) (s .is); most = subst (λ x. x ≤ B * C) (sym (abs-mul d e)) (mul-le-mul (r .most) (s .most)) }
 
@@ -71,28 +77,44 @@ module _ {z d : ℤ} {B : ℕ} (r : Reads z d B) (l : T (ltb (B * B) (2 ^ 63))) 
 
 -- ---- a sum of terms, one a turn
 
-pub record Partial (B : ℕ) (f : ℕ → ℕ) (n k sum : ℕ) : Type 0 where
+pub sumℤ-next : (f : ℕ → ℤ) (k : ℕ) → sumℤ (k + 1) f ≡ sumℤ k f +ℤ f k
+unfolding sumℤ
+sumℤ-next f k = ap (λ i. sumℤ i f) (add-one k)
+
+pub sumℕ-next : (f : ℕ → ℕ) (k : ℕ) → sumℕ (k + 1) f ≡ sumℕ k f + f k
+unfolding sumℕ
+sumℕ-next f k = ap (λ i. sumℕ i f) (add-one k)
+
+pub sumℕ-part : (f : ℕ → ℕ) (n k : ℕ) → k ≤ n → sumℕ k f ≤ sumℕ n f
+unfolding sumℕ
+sumℕ-part f zero k l = let e : k ≡ zero = omega arith in rw e (omega arith)
+sumℕ-part f (suc n) k l = go (decLe k n) (sumℕ-part f n k)
+  where
+    go : Dec (k ≤ n) → (k ≤ n → sumℕ k f ≤ sumℕ n f) → sumℕ k f ≤ sumℕ n f + f n
+    go (yes h) r = omega (arith, r h)
+    go (no h) r = let e : k ≡ suc n = omega arith in rw e (omega arith)
+
+pub record Partial (B count : ℕ) (f : ℕ → ℕ) (n k sum : ℕ) : Type 0 where
   pub place : k ≤ n
   pub is : sum ≡ sumℕ k f
-  pub most : sum ≤ B * k
+  pub most : sum ≤ B * count
 
 module _ {B : ℕ} {f : ℕ → ℕ} {n : ℕ} where
-  pub partial-none : Partial B f n 0 0
+  pub partial-none : Partial B 0 f n 0 0
   unfolding sumℕ
   partial-none = record { place = omega arith; is = refl; most = omega arith }
 
-  pub partial-more : {k sum r : ℕ} → Partial B f n k sum → k < n → Bounded B r (f k) → Partial B f n (k + 1) (sum + r)
-  unfolding sumℕ
-  partial-more {k} {sum} {r} p l b = record {
+  pub partial-more : {count k sum r : ℕ} (c : ℕ) → Partial B count f n k sum → k < n → Bounded (B * c) r (f k) → Partial B (count + c) f n (k + 1) (sum + r)
+  partial-more {count} {k} {sum} {r} c p l b = record {
     place = omega arith;
-    is = ap₂ _+_ (p .is) (b .is) ∙ ap (λ i. sumℕ i f) (sym (add-one k));
-    most = omega (arith, mul-add B k 1, p .most, b .most);
+    is = ap₂ _+_ (p .is) (b .is) ∙ sym (sumℕ-next f k);
+    most = omega (arith, mul-add B count c, p .most, b .most);
   }
 
-  pub partial-all : {k sum : ℕ} → Partial B f n k sum → n ≤ k → n ≤ 8 → Bounded (B * 8) sum (sumℕ n f)
-  partial-all {k} {sum} p l h =
+  pub partial-all : {count k sum : ℕ} (C : ℕ) → Partial B count f n k sum → n ≤ k → count ≤ C → Bounded (B * C) sum (sumℕ n f)
+  partial-all {count} {k} {sum} C p l h =
       let e : k ≡ n = omega arith in
-      record { is = p .is ∙ ap (λ i. sumℕ i f) e; most = omega (arith, p .most, mul-le-mul-left {m = k} {n = 8} B (omega arith)) }
+      record { is = p .is ∙ ap (λ i. sumℕ i f) e; most = omega (arith, p .most, mul-le-mul-left {m = count} {n = C} B h) }
 
 -- ---- what a callee is passed and gives
 

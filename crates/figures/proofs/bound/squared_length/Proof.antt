@@ -1,58 +1,56 @@
+-- `figures::bound::squared_length` meets its contract. The loop's invariant: the sum is that of the squares of the channels passed,
+-- each at most 16,000,000. The measure is what is left of the channels.
+use Prim.Native.Nat.{_-_}
+use native.Mathlib.Omega.{arith}
+use Rattle.integers.specs.Sum.{square}
+use Rattle.geometry.specs.Figures.{squaredLength}
+use Rattle.geometry.specs.Limits.{coordinate}
+use Rattle.figures.proofs.Laws.{Partial, partial-none, partial-more, partial-all, row-held, passed, given}
 use Rattle.figures.proofs.bound.squared_length.Statement.{statement}
 use Rattle.figures.proofs.bound.squared_length.Tie as tie
-use Rattle.figures.proofs.bound.squared_length.Reads as reads
-use Rattle.figures.proofs.bound.squared_length.Lts as lts
-use Rattle.figures.proofs.bound.square_of.Reads as square-of-reads
 
 abbrev Inv-loop : tie.InvT-loop
-Inv-loop rows n row base sum₀ k₀ sum k = ?
+Inv-loop rows n row base sum₀ k₀ sum k = Partial 16000000 k (λ j. square (coordinate rows n row j)) n k sum
 
 abbrev μ-loop : tie.MeasureT-loop
-μ-loop rows n row base sum₀ k₀ sum k = ?
+μ-loop rows n row base sum₀ k₀ sum k = n - k
 
--- src/bound.rt:28:16
 mul-base : tie.Need-mul-base Inv-loop μ-loop
-mul-base c = ?
+mul-base c = omega arith
 
--- src/bound.rt:31:5
 loop-holds : tie.Need-loop-holds Inv-loop μ-loop
-loop-holds c = ?
+loop-holds c = partial-none
 
--- src/bound.rt:32:31
 add-square-of : tie.Need-add-square-of Inv-loop μ-loop
-add-square-of c = ?
+add-square-of c = omega arith
 
--- src/bound.rt:32:26
 mul-square-of : tie.Need-mul-square-of Inv-loop μ-loop
-mul-square-of c = ?
+mul-square-of c = omega arith
 
--- src/bound.rt:32:26
 shared-slice-copy-out-square-of : tie.Need-shared-slice-copy-out-square-of Inv-loop μ-loop
-shared-slice-copy-out-square-of c = ?
+shared-slice-copy-out-square-of c = omega arith
 
--- src/bound.rt:32:16
 square-of-requires : tie.Need-square-of-requires Inv-loop μ-loop
-square-of-requires c κs = ?
+square-of-requires c κs = passed (row-held (c .before .before .before .pre) (c .before .before .loop .k) (omega arith))
 
--- src/bound.rt:32:9
 add-sum : tie.Need-add-sum Inv-loop μ-loop
-add-sum c = ?
+add-sum c = omega arith
 
--- src/bound.rt:33:9
 add-k : tie.Need-add-k Inv-loop μ-loop
-add-k c = ?
+add-k c = omega arith
 
--- src/bound.rt:31:5
 loop-less : tie.Need-loop-less Inv-loop μ-loop
-loop-less c = ?
+loop-less c = omega arith
 
--- src/bound.rt:31:5
 loop-again : tie.Need-loop-again Inv-loop μ-loop
-loop-again c = ?
+loop-again c =
+    let l = c .before .before .before .loop in
+    partial-more 1 (l .inv) (omega arith)
+    (given (row-held (c .before .before .before .before .pre) (l .k) (omega arith)) square (c .square-of .ensures))
 
--- src/bound.rt:24:1
 returns : tie.Need-returns Inv-loop μ-loop
-returns c = ?
+unfolding squaredLength
+returns c = partial-all 8 (c .before .loop .inv) (c .loop-test .left) (omega arith)
 
 pub squared-length-spec : {M : Type 1} → statement M
 squared-length-spec =

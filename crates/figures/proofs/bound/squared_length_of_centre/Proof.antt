@@ -1,50 +1,50 @@
+-- `figures::bound::squared_length_of_centre` meets its contract. The loop's invariant: the sum is that of the squares of the
+-- coordinates passed, each at most 68,719,476,736,000,000. The measure is what is left of the channels.
+use Prim.Native.Nat.{_-_}
+use native.Mathlib.Omega.{arith}
+use Rattle.integers.specs.Sum.{square}
+use Rattle.geometry.specs.Figures.{squaredLength}
+use Rattle.geometry.specs.Places.{centreOf}
+use Rattle.figures.proofs.Laws.{Partial, partial-none, partial-more, partial-all, centre-held, passed, given}
 use Rattle.figures.proofs.bound.squared_length_of_centre.Statement.{statement}
 use Rattle.figures.proofs.bound.squared_length_of_centre.Tie as tie
-use Rattle.figures.proofs.bound.squared_length_of_centre.Reads as reads
-use Rattle.figures.proofs.bound.squared_length_of_centre.Lts as lts
-use Rattle.figures.proofs.bound.square_of_centre.Reads as square-of-centre-reads
 
 abbrev Inv-loop : tie.InvT-loop
-Inv-loop x n sum₀ k₀ sum k = ?
+Inv-loop x n sum₀ k₀ sum k = Partial 68719476736000000 k (λ j. square (centreOf x j)) n k sum
 
 abbrev μ-loop : tie.MeasureT-loop
-μ-loop x n sum₀ k₀ sum k = ?
+μ-loop x n sum₀ k₀ sum k = n - k
 
--- src/bound.rt:53:5
 loop-holds : tie.Need-loop-holds Inv-loop μ-loop
-loop-holds c = ?
+loop-holds c = partial-none
 
--- src/bound.rt:54:33
 mul-square-of-centre : tie.Need-mul-square-of-centre Inv-loop μ-loop
-mul-square-of-centre c = ?
+mul-square-of-centre c = omega arith
 
--- src/bound.rt:54:33
 element-copy-out-square-of-centre : tie.Need-element-copy-out-square-of-centre Inv-loop μ-loop
-element-copy-out-square-of-centre c = ?
+element-copy-out-square-of-centre c = omega arith
 
--- src/bound.rt:54:16
 square-of-centre-requires : tie.Need-square-of-centre-requires Inv-loop μ-loop
-square-of-centre-requires c κs = ?
+square-of-centre-requires c κs = passed (centre-held (c .before .before .before .pre .0) (c .before .before .loop .k))
 
--- src/bound.rt:54:9
 add-sum : tie.Need-add-sum Inv-loop μ-loop
-add-sum c = ?
+add-sum c = omega arith
 
--- src/bound.rt:55:9
 add-k : tie.Need-add-k Inv-loop μ-loop
-add-k c = ?
+add-k c = omega arith
 
--- src/bound.rt:53:5
 loop-less : tie.Need-loop-less Inv-loop μ-loop
-loop-less c = ?
+loop-less c = omega arith
 
--- src/bound.rt:53:5
 loop-again : tie.Need-loop-again Inv-loop μ-loop
-loop-again c = ?
+loop-again c =
+    let l = c .before .before .before .loop in
+    partial-more 1 (l .inv) (omega arith)
+    (given (centre-held (c .before .before .before .before .pre .0) (l .k)) square (c .square-of-centre .ensures))
 
--- src/bound.rt:47:1
 returns : tie.Need-returns Inv-loop μ-loop
-returns c = ?
+unfolding squaredLength
+returns c = partial-all 8 (c .before .loop .inv) (c .loop-test .left) (omega arith)
 
 pub squared-length-of-centre-spec : {M : Type 1} → statement M
 squared-length-of-centre-spec =

@@ -12,7 +12,7 @@ use Rattle.figures.proofs.distance.scaled_squared_distance.Statement.{s
 use Rattle.figures.proofs.distance.scaled_squared_distance.Tie as tie
 
 abbrev Inv-loop : tie.InvT-loop
-Inv-loop rows n row x base sum₀ k₀ sum k = Partial 274877906944000000 (λ j. square (pos total *ℤ coordinate rows n row j -ℤ centreOf x j)) n k sum
+Inv-loop rows n row x base sum₀ k₀ sum k = Partial 274877906944000000 k (λ j. square (pos total *ℤ coordinate rows n row j -ℤ centreOf x j)) n k sum
 
 abbrev μ-loop : tie.MeasureT-loop
 μ-loop rows n row x base sum₀ k₀ sum k = n - k
@@ -57,12 +57,12 @@ loop-again : tie.Need-loop-again Inv-loop μ-loop
 loop-again c =
     let s = c .before .before .before .before .before in
     let k = c .before .before .before .before .loop .k in
-    partial-more (c .before .before .before .before .loop .inv) (omega arith)
+    partial-more 1 (c .before .before .before .before .loop .inv) (omega arith)
     (given₂ (row-held (s .pre .0) k (omega arith)) (λ a x. square (pos total *ℤ a -ℤ x)) (centre-held (s .pre .1) k) (c .scaled-square .ensures))
 
 returns : tie.Need-returns Inv-loop μ-loop
 unfolding squaredLength scaledSquaredDistance
-returns c = partial-all (c .before .loop .inv) (c .loop-test .left) (c .before .before .pre .0 .channels)
+returns c = partial-all 8 (c .before .loop .inv) (c .loop-test .left) (omega arith)
 
 pub scaled-squared-distance-spec : {M : Type 1} → statement M
 scaled-squared-distance-spec =

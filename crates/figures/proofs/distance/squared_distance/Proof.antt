@@ -11,7 +11,7 @@ use Rattle.figures.proofs.distance.squared_distance.Statement.{statemen
 use Rattle.figures.proofs.distance.squared_distance.Tie as tie
 
 abbrev Inv-loop : tie.InvT-loop
-Inv-loop rows n i j base other sum₀ k₀ sum k = Partial 64000000 (λ t. square (coordinate rows n i t -ℤ coordinate rows n j t)) n k sum
+Inv-loop rows n i j base other sum₀ k₀ sum k = Partial 64000000 k (λ t. square (coordinate rows n i t -ℤ coordinate rows n j t)) n k sum
 
 abbrev μ-loop : tie.MeasureT-loop
 μ-loop rows n i j base other sum₀ k₀ sum k = n - k
@@ -62,12 +62,12 @@ loop-again : tie.Need-loop-again Inv-loop μ-loop
 loop-again c =
     let s = c .before .before .before .before .before in
     let k = c .before .before .before .before .loop .k in
-    partial-more (c .before .before .before .before .loop .inv) (omega arith)
+    partial-more 1 (c .before .before .before .before .loop .inv) (omega arith)
     (given₂ (row-held (s .pre .0) k (omega arith)) (λ a b. square (a -ℤ b)) (row-held (s .pre .1) k (omega arith)) (c .square-of-difference .ensures))
 
 returns : tie.Need-returns Inv-loop μ-loop
 unfolding squaredLength squaredDistance
-returns c = partial-all (c .before .loop .inv) (c .loop-test .left) (c .before .before .pre .0 .channels)
+returns c = partial-all 8 (c .before .loop .inv) (c .loop-test .left) (omega arith)
 
 pub squared-distance-spec : {M : Type 1} → statement M
 squared-distance-spec =
