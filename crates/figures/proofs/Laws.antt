@@ -7,7 +7,7 @@
 --     fits                          what an operation or a cast to i64 asks
 --     square-cast, square-is        the square of a reading, cast to u64
 --     sumℤ-next, sumℕ-next          a sum with one more term
---     sumℕ-part                     a sum over fewer places
+--     weights-passed, -next         the weights of the first rows are within the total
 --     Partial B c f n k sum         sum is the sum of f over the first k of n places, and at most B * c
 --     partial-none, -more, -all     it at the start, after a turn and at the end
 --     row-held, centre-held         an element of a row and of X, as a callee is passed it
@@ -28,9 +28,10 @@ use mir.Val.{Fits, SFits, toZ, ofZ}
 use mir.Facts.{toZ-ofZ}
 use Rattle.integers.specs.Sum.{sumℤ, sumℕ, square}
 use Rattle.integers.specs.Absolute.{abs-add, abs-sub, abs-mul, fits32, fits64, square-pos, square-le}
-use Rattle.geometry.specs.Asked.{Bounded, CentreWithin, RowAt}
+use Rattle.geometry.specs.Asked.{Bounded, CentreWithin, RowAt, WeightsOf}
 use Rattle.geometry.specs.Limits.{total, coordinate, coordinateLimit, centreLimit}
-use Rattle.geometry.specs.Places.{centreOf}
+use Rattle.geometry.specs.Move.{weightOf}
+use Rattle.geometry.specs.Places.{centreOf, weightsTotal}
 
 -- ---- signed readings
 
@@ -85,7 +86,7 @@ pub sumℕ-next : (f : ℕ → ℕ) (k : ℕ) → sumℕ (k + 1) f ≡ sumℕ k 
 unfolding sumℕ
 sumℕ-next f k = ap (λ i. sumℕ i f) (add-one k)
 
-pub sumℕ-part : (f : ℕ → ℕ) (n k : ℕ) → k ≤ n → sumℕ k f ≤ sumℕ n f
+sumℕ-part : (f : ℕ → ℕ) (n k : ℕ) → k ≤ n → sumℕ k f ≤ sumℕ n f
 unfolding sumℕ
 sumℕ-part f zero k l = let e : k ≡ zero = omega arith in rw e (omega arith)
 sumℕ-part f (suc n) k l = go (decLe k n) (sumℕ-part f n k)
@@ -93,6 +94,14 @@ sumℕ-part f (suc n) k l = go (decLe k n) (sumℕ-part f n k)
     go : Dec (k ≤ n) → (k ≤ n → sumℕ k f ≤ sumℕ n f) → sumℕ k f ≤ sumℕ n f + f n
     go (yes h) r = omega (arith, r h)
     go (no h) r = let e : k ≡ suc n = omega arith in rw e (omega arith)
+
+-- the weights of the rows passed and of the next row are within the total
+pub weights-passed : {m : ℕ} {ws : List ℕ} → WeightsOf m ws → (i : ℕ) → i ≤ m → sumℕ i (weightOf ws) ≤ total
+unfolding weightsTotal
+weights-passed {m} {ws} g i l = omega (arith, sumℕ-part (weightOf ws) m i l, g .sum)
+
+pub weights-next : {m : ℕ} {ws : List ℕ} → WeightsOf m ws → (i : ℕ) → i < m → sumℕ i (weightOf ws) + weightOf ws i ≤ total
+weights-next {m} {ws} g i l = omega (arith, sumℕ-next (weightOf ws) i, weights-passed g (i + 1) (omega arith))
 
 pub record Partial (B count : ℕ) (f : ℕ → ℕ) (n k sum : ℕ) : Type 0 where
   pub place : k ≤ n

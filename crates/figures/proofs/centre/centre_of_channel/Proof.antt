@@ -4,7 +4,7 @@
 use mathlib.Core.Path.{_≡_, refl, sym, ap, subst, _∙_}
 use mathlib.Core.List.{List}
 use Prim.Native.Nat.{ℕ, _+_, _*_, _-_, _^_, _≤_, _<_}
-use native.Mathlib.Nat.{add-mul, mul-add, mul-le-mul-left}
+use native.Mathlib.Nat.{add-mul}
 use native.Mathlib.Omega.{arith}
 use lib.Dec.{T, ltb, lt→ltb}
 use lib.IntN.{ℤ, pos, natAbs, _+ℤ_, _*ℤ_}
@@ -14,12 +14,11 @@ use mir.Val.{SFits, toZ}
 use Rattle.integers.specs.Sum.{sumℤ, sumℕ}
 use Rattle.geometry.specs.Figures.{scaledCentre}
 use Rattle.geometry.specs.Move.{weightOf}
-use Rattle.geometry.specs.Limits.{total, coordinate, coordinateLimit}
-use Rattle.geometry.specs.Places.{weightsTotal}
+use Rattle.geometry.specs.Limits.{coordinate, coordinateLimit}
 use Rattle.geometry.specs.Asked.{Table, WeightsOf}
 use Rattle.geometry.specs.TableLaws.{table-row, weight-most}
 use Rattle.figures.specs.Given.{Weighted}
-use Rattle.figures.proofs.Laws.{back, Reads, kept, fits, addition, row-held, passed, sumℤ-next, sumℕ-next, sumℕ-part}
+use Rattle.figures.proofs.Laws.{back, Reads, kept, fits, addition, row-held, passed, sumℤ-next, sumℕ-next, weights-next}
 use Rattle.figures.proofs.centre.centre_of_channel.Statement.{statement}
 use Rattle.figures.proofs.centre.centre_of_channel.Tie as tie
 
@@ -41,10 +40,6 @@ module _ {rows : List ℤ} {m n : ℕ} {w : List ℕ} {k : ℕ} (t : Table rows 
     element : Reads (back w32 (getD rows at (pos 0))) (coordinate rows n i k) coordinateLimit
     element = subst (λ j. Reads (back w32 (getD rows j (pos 0))) (coordinate rows n i k) coordinateLimit) (sym (p .place)) (row-held (table-row t i h) k l)
 
-    most : coordinateLimit * sumℕ i (weightOf w) + coordinateLimit * weightOf w i ≤ coordinateLimit * total
-    unfolding weightsTotal
-    most = omega (arith, sumℕ-next (weightOf w) i, sumℕ-part (weightOf w) m (i + 1) (omega arith), g .sum)
-
     module _ {r : ℤ} (q : Weighted (weightOf w i) (back w32 (getD rows at (pos 0))) r) where
       one : Reads r (term rows n w k i) (coordinateLimit * weightOf w i)
       one =
@@ -52,10 +47,10 @@ module _ {rows : List ℤ} {m n : ℕ} {w : List ℕ} {k : ℕ} (t : Table rows 
           record { is = e; most = subst (λ y. natAbs y ≤ coordinateLimit * weightOf w i) e (q .most) }
 
       next : Reads (z +ℤ back w64 r) (sumℤ i (term rows n w k) +ℤ term rows n w k i) (coordinateLimit * sumℕ i (weightOf w) + coordinateLimit * weightOf w i)
-      next = addition (p .read) (kept one (lt→ltb (coordinateLimit * weightOf w i) (2 ^ 63) (omega (arith, most))))
+      next = addition (p .read) (kept one (lt→ltb (coordinateLimit * weightOf w i) (2 ^ 63) (omega (arith, weights-next g i h))))
 
       small : T (ltb (coordinateLimit * sumℕ i (weightOf w) + coordinateLimit * weightOf w i) (2 ^ 63))
-      small = lt→ltb (coordinateLimit * sumℕ i (weightOf w) + coordinateLimit * weightOf w i) (2 ^ 63) (omega (arith, most))
+      small = lt→ltb (coordinateLimit * sumℕ i (weightOf w) + coordinateLimit * weightOf w i) (2 ^ 63) (omega (arith, weights-next g i h))
 
       passed-more : Passed rows m n w k (back w64 (z +ℤ back w64 r)) (at + n) (i + 1)
       passed-more = record {
