@@ -63,7 +63,8 @@ module _ {z d : ℤ} {B : ℕ} (r : Reads z d B) where
   addition {y} {e} s = record { is = ap₂ _+ℤ_ (r .is) (s .is); most = omega (arith, abs-add d e, r .most, s .most) }
 
   pub product : {y e : ℤ} {C : ℕ} → Reads y e C → Reads (z *ℤ y) (d *ℤ e) (B * C)
-  product {y} {e} {C} s = record { is = ap₂ _*ℤ_ (r .is) (s .is); most = subst (λ x. x ≤ B * C) (sym (abs-mul d e)) (mul-le-mul (r .most) (s .most)) }
+  product {y} {e} {C} s =
+      record { is = ap₂ _*ℤ_ (r .is) (s .is); most = subst (λ x. x ≤ B * C) (sym (abs-mul d e)) (mul-le-mul (r .most) (s .most)) }
 
 -- the square of a reading is the number `square d`
 squared : {z d : ℤ} {B : ℕ} → Reads z d B → T (ltb (B * B) (2 ^ 63)) → back w64 (z *ℤ z) ≡ pos (square d)
@@ -71,10 +72,12 @@ squared {d = d} r l = kept (product r r) l .is ∙ sym (square-pos d)
 
 module _ {z d : ℤ} {B : ℕ} (r : Reads z d B) (l : T (ltb (B * B) (2 ^ 63))) where
   pub square-cast : T (nonNeg (back w64 (z *ℤ z))) × Fits w64 (natAbs (back w64 (z *ℤ z)))
-  square-cast = subst (λ x. T (nonNeg x) × Fits w64 (natAbs x)) (sym (squared r l)) (tt, record { fits = omega (arith, square-le d (r .most), ltb→lt (B * B) (2 ^ 63) l) })
+  square-cast = subst (λ x. T (nonNeg x) × Fits w64 (natAbs x)) (sym (squared r l))
+      (tt, record { fits = omega (arith, square-le d (r .most), ltb→lt (B * B) (2 ^ 63) l) })
 
   pub square-is : Bounded (B * B) (natAbs (back w64 (z *ℤ z))) (square d)
-  square-is = subst (λ x. Bounded (B * B) (natAbs x) (square d)) (sym (squared r l)) (record { is = refl; most = square-le d (r .most) })
+  square-is = subst (λ x. Bounded (B * B) (natAbs x) (square d)) (sym (squared r l))
+      (record { is = refl; most = square-le d (r .most) })
 
 -- ---- a sum of terms, one a turn
 
@@ -113,7 +116,8 @@ module _ {B : ℕ} {f : ℕ → ℕ} {n : ℕ} where
   unfolding sumℕ
   partial-none = record { place = omega arith; is = refl; most = omega arith }
 
-  pub partial-more : {count k sum r : ℕ} (c : ℕ) → Partial B count f n k sum → k < n → Bounded (B * c) r (f k) → Partial B (count + c) f n (k + 1) (sum + r)
+  pub partial-more : {count k sum r : ℕ} (c : ℕ) → Partial B count f n k sum → k < n → Bounded (B * c) r (f k)
+      → Partial B (count + c) f n (k + 1) (sum + r)
   partial-more {count} {k} {sum} {r} c p l b = record {
     place = omega arith;
     is = ap₂ _+_ (p .is) (b .is) ∙ sym (sumℕ-next f k);
@@ -127,7 +131,8 @@ module _ {B : ℕ} {f : ℕ → ℕ} {n : ℕ} where
 
 -- ---- what a callee is passed and gives
 
-pub row-held : {rows : List ℤ} {n i : ℕ} → RowAt rows n i → (k : ℕ) → k < n → Reads (back w32 (getD rows (i * n + k) (pos 0))) (coordinate rows n i k) coordinateLimit
+pub row-held : {rows : List ℤ} {n i : ℕ} → RowAt rows n i → (k : ℕ) → k < n
+    → Reads (back w32 (getD rows (i * n + k) (pos 0))) (coordinate rows n i k) coordinateLimit
 unfolding coordinate
 row-held {rows} {n} {i} r k l = held (fits32 (getD rows (i * n + k) (pos 0)) (omega (arith, r .bound k l))) (r .bound k l)
 

@@ -1,7 +1,7 @@
 -- `figures::bound::lower_bound` meets its contract: X is within its limit, and its squared length is at most D times the weighted
 -- squared length, so that the difference does not wrap.
 use borrow.Author.Needs.{needs}
-use mathlib.Core.Path.{_≡_, ap, ap₂, _∙_}
+use mathlib.Core.Path.{_≡_, ap₂, _∙_}
 use mathlib.Core.List.{List}
 use Prim.Native.Nat.{ℕ, _*_, _-_, _≤_}
 use native.Mathlib.Omega.{arith}
@@ -30,28 +30,31 @@ squared-length-of-centre-requires c κs =
     let p = c .before .before .pre in
     (rw (p .1 .1) (centre-within (p .0) (p .1 .0)), omega arith)
 
--- the squared length of the list is that of X, and at most what it is subtracted from
-module _ {rows : List ℤ} {m n : ℕ} {w : List ℕ} {x : List ℤ} (t : Table rows m n) (g : WeightsOf m w) (e : x ≡ centreList n (scaledCentre (coordinate rows n) (weightOf w) m)) where
+-- the squared length of the list is that of X, and at most what it is subtracted from; y and z stand for the two results
+module _ {rows : List ℤ} {m n : ℕ} {w : List ℕ} {x : List ℤ} (t : Table rows m n) (g : WeightsOf m w)
+    (e : x ≡ centreList n (scaledCentre (coordinate rows n) (weightOf w) m)) where
   length-is : squaredLength n (centreOf x) ≡ squaredLength n (scaledCentre (coordinate rows n) (weightOf w) m)
   length-is = rw e (squaredLength-cong n (λ k l. centreList-at n (scaledCentre (coordinate rows n) (weightOf w) m) k (t .channels) l))
 
-  length-most : squaredLength n (centreOf x) ≤ total * weightedSquaredLength n m (coordinate rows n) (weightOf w)
-  unfolding weightsTotal
-  length-most = omega (arith, length-is, centre-length-most total n m (coordinate rows n) (weightOf w) (g .sum) (omega arith))
+  module _ {y z : ℕ} (first : y ≡ weightedSquaredLength n m (coordinate rows n) (weightOf w))
+      (second : z ≡ squaredLength n (centreOf x)) where
+    second-most : z ≤ total * y
+    unfolding weightsTotal
+    second-most = omega (arith, length-is, centre-length-most total n m (coordinate rows n) (weightOf w) (g .sum) (omega arith))
 
-  bound-is : total * weightedSquaredLength n m (coordinate rows n) (weightOf w) - squaredLength n (centreOf x) ≡ scaledLowerBound total n m (coordinate rows n) (weightOf w)
-  unfolding scaledLowerBound
-  bound-is = ap (λ y. total * weightedSquaredLength n m (coordinate rows n) (weightOf w) - y) length-is
+    bound-is : total * y - z ≡ scaledLowerBound total n m (coordinate rows n) (weightOf w)
+    unfolding scaledLowerBound
+    bound-is = ap₂ (λ a b. total * a - b) first (second ∙ length-is)
 
 sub-result : tie.Need-sub-result
 sub-result c =
     let p = c .before .before .before .pre in
-    omega (arith, length-most (p .0) (p .1 .0) (p .1 .1), c .before .weighted-squared-length .ensures .is, c .squared-length-of-centre .ensures .is)
+    second-most (p .0) (p .1 .0) (p .1 .1) (c .before .weighted-squared-length .ensures .is) (c .squared-length-of-centre .ensures .is)
 
 returns : tie.Need-returns
 returns c =
     let p = c .before .before .before .pre in
-    ap₂ (λ y z. 65536 * y - z) (c .before .weighted-squared-length .ensures .is) (c .squared-length-of-centre .ensures .is) ∙ bound-is (p .0) (p .1 .0) (p .1 .1)
+    bound-is (p .0) (p .1 .0) (p .1 .1) (c .before .weighted-squared-length .ensures .is) (c .squared-length-of-centre .ensures .is)
 
 pub lower-bound-spec : {M : Type 1} → statement M
 lower-bound-spec =

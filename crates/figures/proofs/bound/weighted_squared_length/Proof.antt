@@ -1,30 +1,33 @@
 -- `figures::bound::weighted_squared_length` meets its contract. The loop's invariant: the sum is that of weight times squared length
 -- over the rows passed, at most 128,000,000 times their weights, which sum to at most D. The measure is what is left of the rows.
-use mathlib.Core.Path.{_≡_, sym, ap, subst, _∙_}
+use mathlib.Core.Path.{ap}
 use mathlib.Core.List.{List}
 use Prim.Native.Nat.{ℕ, _+_, _*_, _-_, _≤_, _<_}
-use native.Mathlib.Nat.{mul-comm, mul-le-mul-left}
+use native.Mathlib.Nat.{mul-le-mul-left}
 use native.Mathlib.Omega.{arith}
-use lib.IntN.{ℤ}
 use Rattle.integers.specs.Sum.{sumℕ}
 use Rattle.geometry.specs.Figures.{squaredLength, weightedSquaredLength}
 use Rattle.geometry.specs.Move.{weightOf}
 use Rattle.geometry.specs.Limits.{total, coordinate}
 use Rattle.geometry.specs.Asked.{Bounded, WeightsOf}
-use Rattle.geometry.specs.TableLaws.{table-row, weight-most}
+use Rattle.geometry.specs.TableLaws.{table-row}
 use Rattle.figures.proofs.Laws.{Partial, partial-none, partial-more, partial-all, sumℕ-next, weights-passed, weights-next}
 use Rattle.figures.proofs.bound.weighted_squared_length.Statement.{statement}
 use Rattle.figures.proofs.bound.weighted_squared_length.Tie as tie
+
+-- weight times a bounded number, and the bound of the sum with it
+module _ {m : ℕ} {w : List ℕ} (g : WeightsOf m w) (i : ℕ) (l : i < m) {r d : ℕ} (b : Bounded 128000000 r d) where
+  term : Bounded (128000000 * weightOf w i) (weightOf w i * r) (weightOf w i * d)
+  term = record { is = ap (λ x. weightOf w i * x) (b .is); most = omega (arith, mul-le-mul-left (weightOf w i) (b .most)) }
+
+  sum-most : 128000000 * sumℕ i (weightOf w) + weightOf w i * r ≤ 8388608000000
+  sum-most = omega (arith, term .most, weights-next g i l)
 
 abbrev Inv-loop : tie.InvT-loop
 Inv-loop rows m n w sum₀ i₀ sum i = Partial 128000000 (sumℕ i (weightOf w)) (λ j. weightOf w j * squaredLength n (coordinate rows n j)) m i sum
 
 abbrev μ-loop : tie.MeasureT-loop
 μ-loop rows m n w sum₀ i₀ sum i = m - i
-
--- weight times a bounded number
-weighed : (w : ℕ) {B r d : ℕ} → Bounded B r d → Bounded (B * w) (w * r) (w * d)
-weighed w {B} {r} b = record { is = ap (λ x. w * x) (b .is); most = omega (arith, mul-comm B w, mul-le-mul-left w (b .most)) }
 
 loop-holds : tie.Need-loop-holds Inv-loop μ-loop
 unfolding sumℕ
@@ -42,19 +45,15 @@ cast-sum c = omega (arith, c .shared-slice-known2 .given (c .before .before .loo
 squared-length-requires : tie.Need-squared-length-requires Inv-loop μ-loop
 squared-length-requires c κs = table-row (c .before .before .before .before .pre .0) (c .before .before .loop .i) (omega arith)
 
--- the term of this turn, and the weights passed with it
-module _ (c : tie.After-squared-length Inv-loop μ-loop) where
-  term : Bounded (128000000 * weightOf (c .before .before .before .before .before .args .w .now) (c .before .before .before .loop .i)) (weightOf (c .before .before .before .before .before .args .w .now) (c .before .before .before .loop .i) * c .squared-length .result) (weightOf (c .before .before .before .before .before .args .w .now) (c .before .before .before .loop .i) * squaredLength (c .before .before .before .before .before .args .n) (coordinate (c .before .before .before .before .before .args .rows .now) (c .before .before .before .before .before .args .n) (c .before .before .before .loop .i)))
-  term = weighed (weightOf (c .before .before .before .before .before .args .w .now) (c .before .before .before .loop .i)) (c .squared-length .ensures)
-
-  next : sumℕ (c .before .before .before .loop .i) (weightOf (c .before .before .before .before .before .args .w .now)) + weightOf (c .before .before .before .before .before .args .w .now) (c .before .before .before .loop .i) ≤ total
-  next = weights-next (c .before .before .before .before .before .pre .1) (c .before .before .before .loop .i) (omega arith)
-
 mul-sum-2 : tie.Need-mul-sum-2 Inv-loop μ-loop
-mul-sum-2 c = omega (arith, term c .most, next c)
+mul-sum-2 c =
+    let l = c .before .before .before .loop in
+    omega (arith, sum-most (c .before .before .before .before .before .pre .1) (l .i) (omega arith) (c .squared-length .ensures))
 
 add-sum : tie.Need-add-sum Inv-loop μ-loop
-add-sum c = omega (arith, term c .most, next c)
+add-sum c =
+    let l = c .before .before .before .loop in
+    omega (arith, sum-most (c .before .before .before .before .before .pre .1) (l .i) (omega arith) (c .squared-length .ensures))
 
 add-i : tie.Need-add-i Inv-loop μ-loop
 add-i c = omega arith
@@ -64,9 +63,11 @@ loop-less c = omega arith
 
 loop-again : tie.Need-loop-again Inv-loop μ-loop
 loop-again c =
-    let w = weightOf (c .before .before .before .before .before .args .w .now) in
+    let s = c .before .before .before .before .before in
     let l = c .before .before .before .loop in
-    rw (sumℕ-next w (l .i)) (partial-more (w (l .i)) (l .inv) (omega arith) (term c))
+    rw (sumℕ-next (weightOf (s .args .w .now)) (l .i))
+    (partial-more (weightOf (s .args .w .now) (l .i)) (l .inv) (omega arith)
+    (term (s .pre .1) (l .i) (omega arith) (c .squared-length .ensures)))
 
 returns : tie.Need-returns Inv-loop μ-loop
 unfolding weightedSquaredLength

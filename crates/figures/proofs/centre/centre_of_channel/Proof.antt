@@ -10,7 +10,7 @@ use lib.Dec.{T, ltb, lt→ltb}
 use lib.IntN.{ℤ, pos, natAbs, _+ℤ_, _*ℤ_}
 use lib.ListN.{getD}
 use mir.Syntax.{w32, w64}
-use mir.Val.{SFits, toZ}
+use mir.Val.{toZ}
 use Rattle.integers.specs.Sum.{sumℤ, sumℕ}
 use Rattle.geometry.specs.Figures.{scaledCentre}
 use Rattle.geometry.specs.Move.{weightOf}
@@ -38,7 +38,9 @@ module _ {rows : List ℤ} {m n : ℕ} {w : List ℕ} {k : ℕ} (t : Table rows 
 
   module _ {z : ℤ} {at i : ℕ} (p : Passed rows m n w k z at i) (h : i < m) where
     element : Reads (back w32 (getD rows at (pos 0))) (coordinate rows n i k) coordinateLimit
-    element = subst (λ j. Reads (back w32 (getD rows j (pos 0))) (coordinate rows n i k) coordinateLimit) (sym (p .place)) (row-held (table-row t i h) k l)
+    element =
+        subst (λ j. Reads (back w32 (getD rows j (pos 0))) (coordinate rows n i k) coordinateLimit) (sym (p .place))
+        (row-held (table-row t i h) k l)
 
     module _ {r : ℤ} (q : Weighted (weightOf w i) (back w32 (getD rows at (pos 0))) r) where
       one : Reads r (term rows n w k i) (coordinateLimit * weightOf w i)
@@ -46,7 +48,8 @@ module _ {rows : List ℤ} {m n : ℕ} {w : List ℕ} {k : ℕ} (t : Table rows 
           let e = q .is ∙ ap (λ a. pos (weightOf w i) *ℤ a) (element .is) in
           record { is = e; most = subst (λ y. natAbs y ≤ coordinateLimit * weightOf w i) e (q .most) }
 
-      next : Reads (z +ℤ back w64 r) (sumℤ i (term rows n w k) +ℤ term rows n w k i) (coordinateLimit * sumℕ i (weightOf w) + coordinateLimit * weightOf w i)
+      next : Reads (z +ℤ back w64 r) (sumℤ i (term rows n w k) +ℤ term rows n w k i)
+          (coordinateLimit * sumℕ i (weightOf w) + coordinateLimit * weightOf w i)
       next = addition (p .read) (kept one (lt→ltb (coordinateLimit * weightOf w i) (2 ^ 63) (omega (arith, weights-next g i h))))
 
       small : T (ltb (coordinateLimit * sumℕ i (weightOf w) + coordinateLimit * weightOf w i) (2 ^ 63))
@@ -93,10 +96,13 @@ add-sum : tie.Need-add-sum Inv-loop μ-loop
 add-sum c =
     let s = c .before .before .before .before .before .before .pre in
     let l = c .before .before .before .before .loop in
-    fits (next (s .0) (s .1 .0) (s .1 .1) (l .inv) (omega arith) (c .weighted .ensures)) (small (s .0) (s .1 .0) (s .1 .1) (l .inv) (omega arith) (c .weighted .ensures))
+    fits (next (s .0) (s .1 .0) (s .1 .1) (l .inv) (omega arith) (c .weighted .ensures))
+    (small (s .0) (s .1 .0) (s .1 .1) (l .inv) (omega arith) (c .weighted .ensures))
 
 add-at : tie.Need-add-at Inv-loop μ-loop
-add-at c = omega (arith, table-row (c .before .before .before .before .before .before .pre .0) (c .before .before .before .before .loop .i) (omega arith) .places)
+add-at c =
+    let s = c .before .before .before .before .before .before .pre in
+    omega (arith, table-row (s .0) (c .before .before .before .before .loop .i) (omega arith) .places)
 
 add-i : tie.Need-add-i Inv-loop μ-loop
 add-i c = omega arith

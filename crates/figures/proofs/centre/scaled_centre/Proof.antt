@@ -1,7 +1,7 @@
 -- `figures::centre::scaled_centre` meets its contract. The loop's invariant: the places passed hold X, the others 0. The measure is
 -- what is left of the channels.
 use borrow.Author.Needs.{needs}
-use mathlib.Core.Path.{_≡_, refl, sym, ap, ap₂, _∙_}
+use mathlib.Core.Path.{_≡_, refl, ap, ap₂, _∙_}
 use mathlib.Core.List.{List}
 use Prim.Native.Nat.{ℕ, _+_, _-_, _≤_, _<_}
 use native.Mathlib.Decide.{ℕ-discrete}
@@ -24,7 +24,8 @@ use Rattle.figures.proofs.centre.scaled_centre.Tie as tie
 -- one more channel
 grown : (k : ℕ) (X : ℕ → ℤ) → k < 8 → set (centreList k X) k (X k) ≡ centreList (k + 1) X
 grown k X l =
-    centreList-by (k + 1) X (set (centreList k X) k (X k)) (length-set (centreList k X) k (X k) ∙ length-centreList k X) (λ j h. at j h (ℕ-discrete j k))
+    centreList-by (k + 1) X (set (centreList k X) k (X k))
+    (length-set (centreList k X) k (X k) ∙ length-centreList k X) (λ j h. at j h (ℕ-discrete j k))
     (λ j h. getD-set-other (centreList k X) k j (X k) (pos 0) (omega arith) ∙ centreList-past k X j (omega arith))
   where
     at : (j : ℕ) → j < k + 1 → Dec (j ≡ k) → getD (set (centreList k X) k (X k)) j (pos 0) ≡ X j
@@ -32,7 +33,8 @@ grown k X l =
     at j h (no e) = getD-set-other (centreList k X) k j (X k) (pos 0) e ∙ centreList-at k X j (omega arith) (omega arith)
 
 -- the same as the loop has it: the result as the machine reads it, stored in x
-turned : (k : ℕ) (X : ℕ → ℤ) (x : List ℤ) (r : ℤ) → k < 8 → natAbs (X k) ≤ centreLimit total → x ≡ centreList k X → r ≡ X k → set x k (back w64 r) ≡ centreList (k + 1) X
+turned : (k : ℕ) (X : ℕ → ℤ) (x : List ℤ) (r : ℤ) → k < 8 → natAbs (X k) ≤ centreLimit total → x ≡ centreList k X → r ≡ X k
+    → set x k (back w64 r) ≡ centreList (k + 1) X
 turned k X x r l h e f = ap₂ (λ y z. set y k (back w64 z)) e f ∙ ap (set (centreList k X) k) (back64 (X k) (omega arith)) ∙ grown k X l
 
 abbrev Inv-loop : tie.InvT-loop
@@ -64,8 +66,11 @@ loop-again : tie.Need-loop-again Inv-loop μ-loop
 loop-again c =
     let s = c .before .before .before .before in
     let l = c .before .before .loop in
-    let X = scaledCentre (coordinate (s .args .rows .now) (s .args .n)) (weightOf (s .args .w .now)) (s .args .m) in
-    (omega arith, turned (l .k) X (l .x) (c .centre-of-channel .result) (omega arith) (centre-at-most (s .pre .0) (s .pre .1) (l .k) (omega arith)) (l .inv .1) (c .centre-of-channel .ensures))
+    let X = scaledCentre (coordinate (s .args .rows .now) (s .args .n)) (weightOf (s .args .w .now)) (s .args .m) in (
+      omega arith,
+      turned (l .k) X (l .x) (c .centre-of-channel .result) (omega arith)
+          (centre-at-most (s .pre .0) (s .pre .1) (l .k) (omega arith)) (l .inv .1) (c .centre-of-channel .ensures),
+    )
 
 returns : tie.Need-returns Inv-loop μ-loop
 returns c =

@@ -3,11 +3,10 @@
 use borrow.Author.Needs.{needs}
 use mathlib.Core.Path.{sym, subst}
 use Prim.Native.Nat.{_≤_, _*_}
-use native.Mathlib.Nat.{le-refl, mul-comm}
+use native.Mathlib.Nat.{le-refl}
 use native.Mathlib.Omega.{arith}
 use lib.IntN.{pos, natAbs, _*ℤ_}
 use mir.Syntax.{w32, w64}
-use Rattle.geometry.specs.Limits.{total}
 use Rattle.figures.proofs.Laws.{back, Reads, held, number, kept, fits, product}
 use Rattle.figures.proofs.centre.weighted.Statement.{statement}
 use Rattle.figures.proofs.centre.weighted.Tie as tie
@@ -30,7 +29,8 @@ returns c =
     let e = kept (scaled c) tt .is in
     record {
       is = e;
-      most = subst (λ z. natAbs z ≤ 4000 * c .args .w) (sym e) (omega (arith, product (number (c .args .w) (le-refl (c .args .w))) (held (c .fits .a) (c .pre .1)) .most));
+      most = subst (λ z. natAbs z ≤ 4000 * c .args .w) (sym e)
+          (omega (arith, product (number (c .args .w) (le-refl (c .args .w))) (held (c .fits .a) (c .pre .1)) .most));
     }
 
 pub weighted-spec : {M : Type 1} → statement M

@@ -1,6 +1,6 @@
 -- `figures::distance::scaled_squared_distance` meets its contract. The loop's invariant: the sum is that of the squares of the
 -- channels passed, each at most 274,877,906,944,000,000. The measure is what is left of the channels.
-use Prim.Native.Nat.{ℕ, _-_}
+use Prim.Native.Nat.{_-_}
 use native.Mathlib.Omega.{arith}
 use lib.IntN.{pos, _-ℤ_, _*ℤ_}
 use Rattle.integers.specs.Sum.{square}

@@ -21,7 +21,9 @@ other : (z : ℤ) → ltZ z (negℤ (pos coordinateLimit)) ≡ false → leZ z (
 other z t = go (leZ z (pos coordinateLimit)) refl
   where
     go : (b : Bool) → leZ z (pos coordinateLimit) ≡ b → b ≡ leb (natAbs z) coordinateLimit
-    go true e = sym (le-leb (natAbs z) coordinateLimit (abs-le z coordinateLimit .1 (ltZ-false z (negℤ (pos coordinateLimit)) t, leZ-true z (pos coordinateLimit) e)))
+    go true e =
+        sym (le-leb (natAbs z) coordinateLimit (abs-le z coordinateLimit .1
+        (ltZ-false z (negℤ (pos coordinateLimit)) t, leZ-true z (pos coordinateLimit) e)))
     go false e = sym (lt-leb (natAbs z) coordinateLimit (above-not z coordinateLimit e))
 
 sub-if1 : tie.Need-sub-if1
@@ -34,7 +36,8 @@ returns-2 : tie.Need-returns-2
 returns-2 c =
     let z = c .before .args .z in
     let e = toZ-ofZ (c .before .fits .z) in
-    subst (λ x. leZ x (pos coordinateLimit) ≡ leb (natAbs z) coordinateLimit) (sym e) (other z (subst (λ x. ltZ x (negℤ (pos coordinateLimit)) ≡ false) e (c .if1 .left)))
+    subst (λ x. leZ x (pos coordinateLimit) ≡ leb (natAbs z) coordinateLimit) (sym e)
+    (other z (subst (λ x. ltZ x (negℤ (pos coordinateLimit)) ≡ false) e (c .if1 .left)))
 
 pub coordinate-within-spec : {M : Type 1} → statement M
 coordinate-within-spec = tie.close (tie.spec sub-if1 returns returns-2)

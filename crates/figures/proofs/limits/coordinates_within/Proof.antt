@@ -57,7 +57,8 @@ coordinate-within-requires : tie.Need-coordinate-within-requires Inv-loop μ-loo
 coordinate-within-requires c κs = tt
 
 -- what the test says of the element itself
-test : (c : tie.After-coordinate-within Inv-loop μ-loop) → fine (c .before .before .before .before .args .rows .now) (c .before .before .before .loop .i) ≡ c .coordinate-within .result
+test : (c : tie.After-coordinate-within Inv-loop μ-loop)
+    → fine (c .before .before .before .before .args .rows .now) (c .before .before .before .loop .i) ≡ c .coordinate-within .result
 test c =
     let z = getD (c .before .before .before .before .args .rows .now) (c .before .before .before .loop .i) (pos 0) in
     ap (λ x. leb (natAbs x) coordinateLimit) (sym (toZ-ofZ (sfits-of {w = w32} {z = z} (c .before .z .given)))) ∙ sym (c .coordinate-within .ensures)
@@ -76,7 +77,8 @@ loop-less c = omega arith
 loop-again : tie.Need-loop-again Inv-loop μ-loop
 loop-again c =
     let l = c .before .before .before .before .loop in
-    (omega arith, one-more (c .before .before .before .before .before .args .rows .now) (l .i) (l .inv .1) (test (c .before) ∙ not-false _ (c .if1 .left)))
+    let s = c .before .before .before .before .before .args in
+    (omega arith, one-more (s .rows .now) (l .i) (l .inv .1) (test (c .before) ∙ not-false _ (c .if1 .left)))
 
 returns-2 : tie.Need-returns-2 Inv-loop μ-loop
 returns-2 c =
