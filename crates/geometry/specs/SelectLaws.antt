@@ -31,7 +31,11 @@ pub record Strict {A : Type 0} (less : A → A → Bool) : Type 0 where
   pub through : (x y z : A) → less x y ≡ false → less y z ≡ false → less x z ≡ false
 
 pub ltb-strict : Strict ltb
-ltb-strict = record { one-way = λ x y h. le-ltb y x (omega (arith, ltb-true x y h)); through = λ x y z h k. le-ltb x z (omega (arith, ltb-false x y h, ltb-false y z k)) }
+ltb-strict =
+    record {
+      one-way = λ x y h. le-ltb y x (omega (arith, ltb-true x y h));
+      through = λ x y z h k. le-ltb x z (omega (arith, ltb-false x y h, ltb-false y z k));
+    }
 
 -- ---- tests
 
@@ -74,7 +78,8 @@ module _ {A : Type 0} (less : A → A → Bool) (score : ℕ → A) where
   far-under : (i : ℕ) → farthest less score i < suc i
   unfolding farthest
   far-under zero = le-refl 1
-  far-under (suc i) = choice (λ x. x < suc (suc i)) (less (score (farthest less score i)) (score i)) (λ t. omega arith) (λ t. omega (arith, far-under i))
+  far-under (suc i) =
+      choice (λ x. x < suc (suc i)) (less (score (farthest less score i)) (score i)) (λ t. omega arith) (λ t. omega (arith, far-under i))
 
   pub farthest-within : (m : ℕ) → 0 < m → farthest less score m < m
   unfolding farthest
@@ -83,14 +88,17 @@ module _ {A : Type 0} (less : A → A → Bool) (score : ℕ → A) where
 
 -- two orders and scores that agree on the m rows
 module _ {A B : Type 0} (less : A → A → Bool) (score : ℕ → A) (less' : B → B → Bool) (score' : ℕ → B) where
-  farthest-agree : (m : ℕ) → ((j i : ℕ) → j < m → i < m → less (score j) (score i) ≡ less' (score' j) (score' i)) → farthest less score m ≡ farthest less' score' m
+  farthest-agree : (m : ℕ) → ((j i : ℕ) → j < m → i < m → less (score j) (score i) ≡ less' (score' j) (score' i))
+      → farthest less score m ≡ farthest less' score' m
   unfolding farthest
   farthest-agree zero h = refl
   farthest-agree (suc i) h =
       let same = farthest-agree i (λ j k l r. h j k (omega arith) (omega arith)) in
-      ap₂ (λ b x. cond b i x) (h (farthest less score i) i (far-under less score i) (le-refl (suc i)) ∙ ap (λ x. less' (score' x) (score' i)) same) same
+      ap₂ (λ b x. cond b i x)
+      (h (farthest less score i) i (far-under less score i) (le-refl (suc i)) ∙ ap (λ x. less' (score' x) (score' i)) same) same
 
-pub farthest-cong : {A : Type 0} (less : A → A → Bool) (score score' : ℕ → A) (m : ℕ) → ((i : ℕ) → i < m → score i ≡ score' i) → farthest less score m ≡ farthest less score' m
+pub farthest-cong : {A : Type 0} (less : A → A → Bool) (score score' : ℕ → A) (m : ℕ) → ((i : ℕ) → i < m → score i ≡ score' i)
+    → farthest less score m ≡ farthest less score' m
 farthest-cong less score score' m h = farthest-agree less score less score' m (λ j i l r. ap₂ less (h j l) (h i r))
 
 module _ {A : Type 0} {less : A → A → Bool} (strict : Strict less) (score : ℕ → A) where
@@ -103,7 +111,10 @@ module _ {A : Type 0} {less : A → A → Bool} (strict : Strict less) (score : 
   farthest-most (suc m) i h =
       let j = farthest less score m in
       choice (λ x. less (score x) (score i) ≡ false) (less (score j) (score m))
-      (λ t. below-more (λ i. less (score m) (score i) ≡ false) m (λ k l. strict .through (score m) (score j) (score k) (strict .one-way (score j) (score m) t) (farthest-most m k l)) (self (score m)) i (omega arith))
+      (λ t.
+      below-more (λ i. less (score m) (score i) ≡ false) m
+      (λ k l. strict .through (score m) (score j) (score k) (strict .one-way (score j) (score m) t) (farthest-most m k l))
+      (self (score m)) i (omega arith))
       (λ t. below-more (λ i. less (score j) (score i) ≡ false) m (farthest-most m) t i (omega arith))
 
   pub farthest-lowest : (m i : ℕ) → i < farthest less score m → less (score i) (score (farthest less score m)) ≡ true
@@ -147,15 +158,18 @@ module _ {A : Type 0} (less : A → A → Bool) (w : ℕ → ℕ) (score : ℕ �
   replaces-false : (j i : ℕ) → replaces less w score j i ≡ false → 0 < w i → (0 < w j) × (less (score i) (score j) ≡ false)
   unfolding replaces
   replaces-false j i h k =
-      let p = ||-false (eqb (w j) 0) (less (score i) (score j)) (ap (λ b. b && (eqb (w j) 0 || less (score i) (score j))) (sym (lt-ltb 0 (w i) k)) ∙ h) in
+      let p = ||-false (eqb (w j) 0) (less (score i) (score j))
+      (ap (λ b. b && (eqb (w j) 0 || less (score i) (score j))) (sym (lt-ltb 0 (w i) k)) ∙ h) in
       (omega (arith, eqb-false (w j) 0 (p .0)), p .1)
 
 module _ {A : Type 0} (less : A → A → Bool) (w w' : ℕ → ℕ) (score score' : ℕ → A) where
-  replaces-cong : (m : ℕ) → ((i : ℕ) → i < m → w i ≡ w' i) → ((i : ℕ) → i < m → score i ≡ score' i) → (j i : ℕ) → j < m → i < m → replaces less w score j i ≡ replaces less w' score' j i
+  replaces-cong : (m : ℕ) → ((i : ℕ) → i < m → w i ≡ w' i) → ((i : ℕ) → i < m → score i ≡ score' i)
+      → (j i : ℕ) → j < m → i < m → replaces less w score j i ≡ replaces less w' score' j i
   unfolding replaces
   replaces-cong m h k j i l r = ap₂ _&&_ (ap (ltb 0) (h i r)) (ap₂ _||_ (ap (λ x. eqb x 0) (h j l)) (ap₂ less (k i r) (k j l)))
 
-  pub nearest-cong : (m : ℕ) → ((i : ℕ) → i < m → w i ≡ w' i) → ((i : ℕ) → i < m → score i ≡ score' i) → nearest less w score m ≡ nearest less w' score' m
+  pub nearest-cong : (m : ℕ) → ((i : ℕ) → i < m → w i ≡ w' i) → ((i : ℕ) → i < m → score i ≡ score' i)
+      → nearest less w score m ≡ nearest less w' score' m
   nearest-cong m h k =
       nearest-farthest less w score m ∙
       farthest-agree (replaces less w score) (λ i. i) (replaces less w' score') (λ i. i) m (replaces-cong m h k) ∙
@@ -217,7 +231,8 @@ module _ (f : ℕ → ℕ) where
   pub largest-most : (m i : ℕ) → i < m → f i ≤ largest m f
   unfolding largest
   largest-most zero i h = absurd (omega arith)
-  largest-most (suc m) i h = below-more (λ i. f i ≤ largest (suc m) f) m (λ k l. omega (arith, largest-most m k l)) (omega arith) i (omega arith)
+  largest-most (suc m) i h =
+      below-more (λ i. f i ≤ largest (suc m) f) m (λ k l. omega (arith, largest-most m k l)) (omega arith) i (omega arith)
 
   pub largest-below : (m B : ℕ) → ((i : ℕ) → i < m → f i ≤ B) → largest m f ≤ B
   unfolding largest
@@ -225,7 +240,8 @@ module _ (f : ℕ → ℕ) where
   largest-below (suc m) B h = omega (arith, largest-below m B (λ i l. h i (omega arith)), h m (le-refl (suc m)))
 
   pub largest-farthest : (m : ℕ) → 0 < m → largest m f ≡ f (farthest ltb f m)
-  largest-farthest m h = omega (arith, largest-below m (f (farthest ltb f m)) (farthest-mostℕ f m), largest-most m (farthest ltb f m) (farthest-within ltb f m h))
+  largest-farthest m h =
+      omega (arith, largest-below m (f (farthest ltb f m)) (farthest-mostℕ f m), largest-most m (farthest ltb f m) (farthest-within ltb f m h))
 
   pub largest-reached : (m : ℕ) → 0 < m → (i : ℕ) × (i < m) × (f i ≡ largest m f)
   largest-reached m h = (farthest ltb f m, farthest-within ltb f m h, sym (largest-farthest m h))

@@ -41,7 +41,8 @@ loop-again c =
     let l = c .before .before .loop-test .taken in
     let f = c .before .before .before .loop .inv in
     let b = c .before .scaled-squared-distance2 .ensures in
-    ⊎-elim (λ w. pass-new l b (far-new f b (w .0 .taken)) (w .1) (w .2)) (λ w. pass-old l f (far-old f b (w .0 .left)) (w .1) (w .2)) (c .if1 .came)
+    ⊎-elim (λ w. pass-new l b (far-new f b (w .0 .taken)) (w .1) (w .2))
+    (λ w. pass-old l f (far-old f b (w .0 .left)) (w .1) (w .2)) (c .if1 .came)
 
 returns : tie.Need-returns Inv-loop μ-loop
 returns c = pass-end (c .loop-test .left) (c .before .loop .inv)

@@ -21,7 +21,8 @@ use Rattle.moves.specs.declared.Selected.{Selected}
 use Rattle.moves.proofs.step.pair_of.Statement.{statement}
 use Rattle.moves.proofs.step.pair_of.Tie as tie
 
-module _ {rows x : List ℤ} {m n : ℕ} {ws : List ℕ} (t : Table rows m n) (g : WeightsOf m ws) (e : x ≡ centreList n (scaledCentre (coordinate rows n) (weightOf ws) m)) where
+module _ {rows x : List ℤ} {m n : ℕ} {ws : List ℕ} (t : Table rows m n) (g : WeightsOf m ws)
+    (e : x ≡ centreList n (scaledCentre (coordinate rows n) (weightOf ws) m)) where
   centre : CentreWithin x
   centre = subst CentreWithin (sym e) (centre-within t g)
 
@@ -31,9 +32,11 @@ module _ {rows x : List ℤ} {m n : ℕ} {ws : List ℕ} (t : Table rows m n) (g
       ap (λ y. scaledSquaredDistance total n (centreOf y) (coordinate rows n i)) e ∙
       distance-centreList total n (scaledCentre (coordinate rows n) (weightOf ws) m) (coordinate rows n i) (t .channels)
 
-  module _ {far near : Selected} (f : Found rows n m x (farthest ltb (score rows n x) m) far) (k : Found rows n m x (nearest ltb (weightOf ws) (score rows n x) m) near) where
+  module _ {far near : Selected} (f : Found rows n m x (farthest ltb (score rows n x) m) far)
+      (k : Found rows n m x (nearest ltb (weightOf ws) (score rows n x) m) near) where
     near-most : near .distance ≤ far .distance
-    near-most = omega (arith, f .distance-is ∙ ap (score rows n x) (f .is), k .distance-is, farthest-mostℕ (score rows n x) m (near .row) (k .within))
+    near-most =
+        omega (arith, f .distance-is ∙ ap (score rows n x) (f .is), k .distance-is, farthest-mostℕ (score rows n x) m (near .row) (k .within))
 
     found-far : far .row ≡ farRow total n m (coordinate rows n) (weightOf ws)
     unfolding farRow
@@ -41,15 +44,20 @@ module _ {rows x : List ℤ} {m n : ℕ} {ws : List ℕ} (t : Table rows m n) (g
 
     found-near : near .row ≡ nearRow total n m (coordinate rows n) (weightOf ws)
     unfolding nearRow
-    found-near = k .is ∙ nearest-cong ltb (weightOf ws) (weightOf ws) (score rows n x) (distanceOf total n m (coordinate rows n) (weightOf ws)) m (λ i l. refl) (λ i l. score-is i)
+    found-near =
+        k .is ∙
+        nearest-cong ltb (weightOf ws) (weightOf ws) (score rows n x) (distanceOf total n m (coordinate rows n) (weightOf ws)) m (λ i l. refl) (λ i l. score-is i)
 
     paired : {s : ℕ} → Bounded 512000000 s (squaredDistance n (coordinate rows n (far .row)) (coordinate rows n (near .row)))
-        → Paired rows m n ws (record { far = far .row; near = near .row; distance = far .distance; difference = (far .distance - near .distance) / 65536; separation = s })
+        → Paired rows m n ws
+        (record { far = far .row; near = near .row; distance = far .distance; difference = (far .distance - near .distance) / 65536; separation = s })
     unfolding difference separation
     paired b =
         let s = distanceOf total n m (coordinate rows n) (weightOf ws) in
-        let far-distance : far .distance ≡ s (farRow total n m (coordinate rows n) (weightOf ws)) = f .distance-is ∙ score-is (far .row) ∙ ap s found-far in
-        let near-distance : near .distance ≡ s (nearRow total n m (coordinate rows n) (weightOf ws)) = k .distance-is ∙ score-is (near .row) ∙ ap s found-near in
+        let far-distance : far .distance ≡ s (farRow total n m (coordinate rows n) (weightOf ws)) =
+        f .distance-is ∙ score-is (far .row) ∙ ap s found-far in
+        let near-distance : near .distance ≡ s (nearRow total n m (coordinate rows n) (weightOf ws)) =
+        k .distance-is ∙ score-is (near .row) ∙ ap s found-near in
         record {
           far-is = found-far;
           near-is = found-near;
@@ -94,7 +102,8 @@ squared-distance-requires c κs =
 returns : tie.Need-returns
 returns c =
     let p = c .before .before .before .before .before .before .pre in
-    paired (p .0) (p .1 .0) (p .1 .1) (c .before .before .before .before .farthest-row .ensures) (c .before .before .before .nearest-row .ensures) (c .squared-distance .ensures)
+    paired (p .0) (p .1 .0) (p .1 .1) (c .before .before .before .before .farthest-row .ensures)
+    (c .before .before .before .nearest-row .ensures) (c .squared-distance .ensures)
 
 pub pair-of-spec : {M : Type 1} → statement M
 pair-of-spec =

@@ -1,7 +1,7 @@
 -- `moves::step::shift_centre` meets its contract. The loop's invariant: the first k places are shifted and the others are 0. The
 -- measure is the number of channels left. Assumes nothing.
 use Prim.Native.Nat.{ℕ, _-_, _≤_}
-use mathlib.Core.Path.{_≡_, _∙_, ap, ap₂}
+use mathlib.Core.Path.{_≡_, refl, _∙_, ap, ap₂}
 use mathlib.Core.List.{List}
 use native.Mathlib.Omega.{arith}
 use lib.ListN.{set}
@@ -9,10 +9,10 @@ use mir.Syntax.{w64}
 use mir.Facts.{toZ-ofZ}
 use lib.IntN.{ℤ, pos, _+ℤ_, _-ℤ_, _*ℤ_}
 use Rattle.geometry.specs.Limits.{coordinate}
-use Rattle.geometry.specs.Places.{centreList, centreOf}
+use Rattle.geometry.specs.Places.{tabulate, centreList, centreOf}
 use Rattle.moves.specs.Given.{shiftCentre}
 use Rattle.figures.proofs.Laws.{passed, row-held, centre-held}
-use Rattle.moves.proofs.Laws.{centreList-none, centreList-more}
+use Rattle.moves.proofs.Laws.{centreList-more}
 use Rattle.moves.proofs.step.shift_centre.Statement.{statement}
 use Rattle.moves.proofs.step.shift_centre.Tie as tie
 
@@ -33,7 +33,8 @@ mul-higher : tie.Need-mul-higher Inv-loop μ-loop
 mul-higher c = omega arith
 
 loop-holds : tie.Need-loop-holds Inv-loop μ-loop
-loop-holds c = (omega arith, centreList-none _)
+unfolding centreList tabulate
+loop-holds c = (omega arith, refl)
 
 mul-shifted : tie.Need-mul-shifted Inv-loop μ-loop
 mul-shifted c = omega arith
@@ -86,8 +87,10 @@ loop-again c =
     let a = c .before .before .before .before .before .before .args in
     let X = place (a .rows .now) (a .n) (a .from) (a .to) (a .t) (a .t1) in
     let e : c .shifted .result ≡ X (f .k) =
-    c .shifted .ensures ∙ ap₂ (λ y d. y +ℤ pos (a .t) *ℤ d) (centre-held (p .1 .1 .0) (f .k) .is) (ap₂ _-ℤ_ (row-held (p .1 .0) (f .k) l .is) (row-held (p .0) (f .k) l .is)) in
-    (omega arith, ap₂ (λ y z. set y (f .k) z) (f .inv .1) (toZ-ofZ {w = w64} (record { sfits = c .shifted .ok }) ∙ e) ∙ centreList-more X (f .k) (omega arith))
+    c .shifted .ensures ∙ ap₂ (λ y d. y +ℤ pos (a .t) *ℤ d) (centre-held (p .1 .1 .0) (f .k) .is)
+    (ap₂ _-ℤ_ (row-held (p .1 .0) (f .k) l .is) (row-held (p .0) (f .k) l .is)) in
+    let stored = toZ-ofZ {w = w64} (record { sfits = c .shifted .ok }) ∙ e in
+    (omega arith, ap₂ (λ y z. set y (f .k) z) (f .inv .1) stored ∙ centreList-more X (f .k) (omega arith))
 
 returns : tie.Need-returns Inv-loop μ-loop
 unfolding shiftCentre

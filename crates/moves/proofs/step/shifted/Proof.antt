@@ -11,7 +11,9 @@ module _ (c : tie.Start) where
   gap : Reads (back w64 (back w32 (c .args .gains)) -ℤ back w64 (back w32 (c .args .loses))) (c .args .gains -ℤ c .args .loses) 8000
   gap = difference (kept (held (c .fits .gains) (c .pre .1 .1 .0)) tt) (kept (held (c .fits .loses) (c .pre .1 .1 .1)) tt)
 
-  part : Reads (toZ w64 (c .args .t) *ℤ back w64 (back w64 (back w32 (c .args .gains)) -ℤ back w64 (back w32 (c .args .loses)))) (pos (c .args .t) *ℤ (c .args .gains -ℤ c .args .loses)) 524288000
+  part : Reads
+      (toZ w64 (c .args .t) *ℤ back w64 (back w64 (back w32 (c .args .gains)) -ℤ back w64 (back w32 (c .args .loses))))
+      (pos (c .args .t) *ℤ (c .args .gains -ℤ c .args .loses)) 524288000
   part = product (kept (number (c .args .t) (c .pre .1 .0)) tt) (kept gap tt)
 
 cast-result : tie.Need-cast-result
