@@ -1,0 +1,21 @@
+-- `figures::bound::square_of_centre` meets its contract: the coordinate of X is within 262,144,000 of 0, so that its square fits an
+-- i64 and is read back as it is.
+use mir.Syntax.{w64}
+use Rattle.figures.proofs.Laws.{back, Reads, held, fits, product, square-cast, square-is}
+use Rattle.figures.proofs.bound.square_of_centre.Statement.{statement}
+use Rattle.figures.proofs.bound.square_of_centre.Tie as tie
+
+coordinate : (c : tie.Start) → Reads (back w64 (c .args .x)) (c .args .x) 262144000
+coordinate c = held (c .fits .x) (c .pre)
+
+mul-result : tie.Need-mul-result
+mul-result c = fits (product (coordinate c) (coordinate c)) tt
+
+cast-result : tie.Need-cast-result
+cast-result c = square-cast (coordinate c) tt
+
+returns : tie.Need-returns
+returns c = square-is (coordinate c) tt
+
+pub square-of-centre-spec : {M : Type 1} → statement M
+square-of-centre-spec = tie.close (tie.spec mul-result cast-result returns)

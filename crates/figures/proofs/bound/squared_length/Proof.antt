@@ -1,0 +1,71 @@
+-- `figures::bound::squared_length` meets its contract. The loop's invariant: the sum is that of the squares of the channels passed,
+-- each at most 16,000,000. The measure is what is left of the channels.
+use Prim.Native.Nat.{_-_}
+use native.Mathlib.Omega.{arith}
+use Rattle.integers.specs.Sum.{square}
+use Rattle.geometry.specs.Figures.{squaredLength}
+use Rattle.geometry.specs.Limits.{coordinate}
+use Rattle.figures.proofs.Laws.{Partial, partial-none, partial-more, partial-all, row-held, passed, given}
+use Rattle.figures.proofs.bound.squared_length.Statement.{statement}
+use Rattle.figures.proofs.bound.squared_length.Tie as tie
+
+abbrev Inv-loop : tie.InvT-loop
+Inv-loop rows n row base sum₀ k₀ sum k = Partial 16000000 k (λ j. square (coordinate rows n row j)) n k sum
+
+abbrev μ-loop : tie.MeasureT-loop
+μ-loop rows n row base sum₀ k₀ sum k = n - k
+
+mul-base : tie.Need-mul-base Inv-loop μ-loop
+mul-base c = omega arith
+
+loop-holds : tie.Need-loop-holds Inv-loop μ-loop
+loop-holds c = partial-none
+
+add-square-of : tie.Need-add-square-of Inv-loop μ-loop
+add-square-of c = omega arith
+
+mul-square-of : tie.Need-mul-square-of Inv-loop μ-loop
+mul-square-of c = omega arith
+
+shared-slice-copy-out-square-of : tie.Need-shared-slice-copy-out-square-of Inv-loop μ-loop
+shared-slice-copy-out-square-of c = omega arith
+
+square-of-requires : tie.Need-square-of-requires Inv-loop μ-loop
+square-of-requires c κs = passed (row-held (c .before .before .before .pre) (c .before .before .loop .k) (omega arith))
+
+add-sum : tie.Need-add-sum Inv-loop μ-loop
+add-sum c = omega arith
+
+add-k : tie.Need-add-k Inv-loop μ-loop
+add-k c = omega arith
+
+loop-less : tie.Need-loop-less Inv-loop μ-loop
+loop-less c = omega arith
+
+loop-again : tie.Need-loop-again Inv-loop μ-loop
+loop-again c =
+    let l = c .before .before .before .loop in
+    partial-more 1 (l .inv) (omega arith)
+    (given (row-held (c .before .before .before .before .pre) (l .k) (omega arith)) square (c .square-of .ensures))
+
+returns : tie.Need-returns Inv-loop μ-loop
+unfolding squaredLength
+returns c = partial-all 8 (c .before .loop .inv) (c .loop-test .left) (omega arith)
+
+pub squared-length-spec : {M : Type 1} → statement M
+squared-length-spec =
+    tie.close
+    (tie.spec
+    Inv-loop
+    μ-loop
+    mul-base
+    loop-holds
+    add-square-of
+    mul-square-of
+    shared-slice-copy-out-square-of
+    square-of-requires
+    add-sum
+    add-k
+    loop-less
+    loop-again
+    returns)

@@ -1,0 +1,63 @@
+-- `figures::bound::squared_length_of_centre` meets its contract. The loop's invariant: the sum is that of the squares of the
+-- coordinates passed, each at most 68,719,476,736,000,000. The measure is what is left of the channels.
+use Prim.Native.Nat.{_-_}
+use native.Mathlib.Omega.{arith}
+use Rattle.integers.specs.Sum.{square}
+use Rattle.geometry.specs.Figures.{squaredLength}
+use Rattle.geometry.specs.Places.{centreOf}
+use Rattle.figures.proofs.Laws.{Partial, partial-none, partial-more, partial-all, centre-held, passed, given}
+use Rattle.figures.proofs.bound.squared_length_of_centre.Statement.{statement}
+use Rattle.figures.proofs.bound.squared_length_of_centre.Tie as tie
+
+abbrev Inv-loop : tie.InvT-loop
+Inv-loop x n sum₀ k₀ sum k = Partial 68719476736000000 k (λ j. square (centreOf x j)) n k sum
+
+abbrev μ-loop : tie.MeasureT-loop
+μ-loop x n sum₀ k₀ sum k = n - k
+
+loop-holds : tie.Need-loop-holds Inv-loop μ-loop
+loop-holds c = partial-none
+
+mul-square-of-centre : tie.Need-mul-square-of-centre Inv-loop μ-loop
+mul-square-of-centre c = omega arith
+
+element-copy-out-square-of-centre : tie.Need-element-copy-out-square-of-centre Inv-loop μ-loop
+element-copy-out-square-of-centre c = omega arith
+
+square-of-centre-requires : tie.Need-square-of-centre-requires Inv-loop μ-loop
+square-of-centre-requires c κs = passed (centre-held (c .before .before .before .pre .0) (c .before .before .loop .k))
+
+add-sum : tie.Need-add-sum Inv-loop μ-loop
+add-sum c = omega arith
+
+add-k : tie.Need-add-k Inv-loop μ-loop
+add-k c = omega arith
+
+loop-less : tie.Need-loop-less Inv-loop μ-loop
+loop-less c = omega arith
+
+loop-again : tie.Need-loop-again Inv-loop μ-loop
+loop-again c =
+    let l = c .before .before .before .loop in
+    partial-more 1 (l .inv) (omega arith)
+    (given (centre-held (c .before .before .before .before .pre .0) (l .k)) square (c .square-of-centre .ensures))
+
+returns : tie.Need-returns Inv-loop μ-loop
+unfolding squaredLength
+returns c = partial-all 8 (c .before .loop .inv) (c .loop-test .left) (omega arith)
+
+pub squared-length-of-centre-spec : {M : Type 1} → statement M
+squared-length-of-centre-spec =
+    tie.close
+    (tie.spec
+    Inv-loop
+    μ-loop
+    loop-holds
+    mul-square-of-centre
+    element-copy-out-square-of-centre
+    square-of-centre-requires
+    add-sum
+    add-k
+    loop-less
+    loop-again
+    returns)

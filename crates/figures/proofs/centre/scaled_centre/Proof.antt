@@ -1,0 +1,94 @@
+-- `figures::centre::scaled_centre` meets its contract. The loop's invariant: the places passed hold X, the others 0. The measure is
+-- what is left of the channels.
+use borrow.Author.Needs.{needs}
+use mathlib.Core.Path.{_≡_, refl, ap, ap₂, _∙_}
+use mathlib.Core.List.{List}
+use Prim.Native.Nat.{ℕ, _+_, _-_, _≤_, _<_}
+use native.Mathlib.Decide.{ℕ-discrete}
+use native.Mathlib.Omega.{arith}
+use lib.IntN.{ℤ, pos, natAbs}
+use lib.ListN.{getD, set, length-set}
+use lib.Seq.{getD-set-same, getD-set-other}
+use mir.Syntax.{w64}
+use Rattle.integers.specs.Absolute.{back64}
+use Rattle.geometry.specs.Figures.{scaledCentre}
+use Rattle.geometry.specs.FigureLaws.{centre-at-most}
+use Rattle.geometry.specs.Move.{weightOf}
+use Rattle.geometry.specs.Limits.{total, coordinate, centreLimit}
+use Rattle.geometry.specs.Places.{tabulate, centreList}
+use Rattle.geometry.specs.PlacesLaws.{length-centreList, centreList-at, centreList-past, centreList-by}
+use Rattle.figures.proofs.Laws.{back}
+use Rattle.figures.proofs.centre.scaled_centre.Statement.{statement}
+use Rattle.figures.proofs.centre.scaled_centre.Tie as tie
+
+-- one more channel
+grown : (k : ℕ) (X : ℕ → ℤ) → k < 8 → set (centreList k X) k (X k) ≡ centreList (k + 1) X
+grown k X l =
+    centreList-by (k + 1) X (set (centreList k X) k (X k))
+    (length-set (centreList k X) k (X k) ∙ length-centreList k X) (λ j h. at j h (ℕ-discrete j k))
+    (λ j h. getD-set-other (centreList k X) k j (X k) (pos 0) (omega arith) ∙ centreList-past k X j (omega arith))
+  where
+    at : (j : ℕ) → j < k + 1 → Dec (j ≡ k) → getD (set (centreList k X) k (X k)) j (pos 0) ≡ X j
+    at j h (yes e) = rw e (getD-set-same (centreList k X) k (X k) (pos 0) (omega (arith, length-centreList k X)))
+    at j h (no e) = getD-set-other (centreList k X) k j (X k) (pos 0) e ∙ centreList-at k X j (omega arith) (omega arith)
+
+-- the same as the loop has it: the result as the machine reads it, stored in x
+turned : (k : ℕ) (X : ℕ → ℤ) (x : List ℤ) (r : ℤ) → k < 8 → natAbs (X k) ≤ centreLimit total → x ≡ centreList k X → r ≡ X k
+    → set x k (back w64 r) ≡ centreList (k + 1) X
+turned k X x r l h e f = ap₂ (λ y z. set y k (back w64 z)) e f ∙ ap (set (centreList k X) k) (back64 (X k) (omega arith)) ∙ grown k X l
+
+abbrev Inv-loop : tie.InvT-loop
+Inv-loop rows m n w x₀ k₀ x k = (k ≤ n) × (x ≡ centreList k (scaledCentre (coordinate rows n) (weightOf w) m))
+
+abbrev μ-loop : tie.MeasureT-loop
+μ-loop rows m n w x₀ k₀ x k = n - k
+
+loop-holds : tie.Need-loop-holds Inv-loop μ-loop
+unfolding centreList tabulate
+loop-holds c = (omega arith, refl)
+
+centre-of-channel-requires : tie.Need-centre-of-channel-requires Inv-loop μ-loop
+centre-of-channel-requires c κs = search needs
+
+mul-x : tie.Need-mul-x Inv-loop μ-loop
+mul-x c = omega arith
+
+array-set-from-x : tie.Need-array-set-from-x Inv-loop μ-loop
+array-set-from-x c = omega arith
+
+add-k : tie.Need-add-k Inv-loop μ-loop
+add-k c = omega arith
+
+loop-less : tie.Need-loop-less Inv-loop μ-loop
+loop-less c = omega arith
+
+loop-again : tie.Need-loop-again Inv-loop μ-loop
+loop-again c =
+    let s = c .before .before .before .before in
+    let l = c .before .before .loop in
+    let X = scaledCentre (coordinate (s .args .rows .now) (s .args .n)) (weightOf (s .args .w .now)) (s .args .m) in (
+      omega arith,
+      turned (l .k) X (l .x) (c .centre-of-channel .result) (omega arith)
+          (centre-at-most (s .pre .0) (s .pre .1) (l .k) (omega arith)) (l .inv .1) (c .centre-of-channel .ensures),
+    )
+
+returns : tie.Need-returns Inv-loop μ-loop
+returns c =
+    let a = c .before .before .before .args in
+    let e : c .before .loop .k ≡ a .n = omega arith in
+    c .before .loop .inv .1 ∙ ap (λ k. centreList k (scaledCentre (coordinate (a .rows .now) (a .n)) (weightOf (a .w .now)) (a .m))) e
+
+pub scaled-centre-spec : {M : Type 1} → statement M
+scaled-centre-spec =
+    tie.close
+    (tie.spec
+    Inv-loop
+    μ-loop
+    loop-holds
+    centre-of-channel-requires
+    mul-x
+    array-set-from-x
+    add-k
+    loop-less
+    loop-again
+    returns)

@@ -1,0 +1,92 @@
+-- `figures::distance::squared_distance` meets its contract. The loop's invariant: the sum is that of the squares of the channels
+-- passed, each at most 64,000,000. The measure is what is left of the channels.
+use Prim.Native.Nat.{_-_}
+use native.Mathlib.Omega.{arith}
+use lib.IntN.{_-ℤ_}
+use Rattle.integers.specs.Sum.{square}
+use Rattle.geometry.specs.Figures.{squaredLength, squaredDistance}
+use Rattle.geometry.specs.Limits.{coordinate}
+use Rattle.figures.proofs.Laws.{Partial, partial-none, partial-more, partial-all, row-held, passed, given₂}
+use Rattle.figures.proofs.distance.squared_distance.Statement.{statement}
+use Rattle.figures.proofs.distance.squared_distance.Tie as tie
+
+abbrev Inv-loop : tie.InvT-loop
+Inv-loop rows n i j base other sum₀ k₀ sum k = Partial 64000000 k (λ t. square (coordinate rows n i t -ℤ coordinate rows n j t)) n k sum
+
+abbrev μ-loop : tie.MeasureT-loop
+μ-loop rows n i j base other sum₀ k₀ sum k = n - k
+
+mul-base : tie.Need-mul-base Inv-loop μ-loop
+mul-base c = omega arith
+
+mul-other : tie.Need-mul-other Inv-loop μ-loop
+mul-other c = omega arith
+
+loop-holds : tie.Need-loop-holds Inv-loop μ-loop
+loop-holds c = partial-none
+
+add-square-of-difference : tie.Need-add-square-of-difference Inv-loop μ-loop
+add-square-of-difference c = omega arith
+
+mul-square-of-difference : tie.Need-mul-square-of-difference Inv-loop μ-loop
+mul-square-of-difference c = omega arith
+
+shared-slice-copy-out-square-of-difference : tie.Need-shared-slice-copy-out-square-of-difference Inv-loop μ-loop
+shared-slice-copy-out-square-of-difference c = omega arith
+
+add-square-of-difference-2 : tie.Need-add-square-of-difference-2 Inv-loop μ-loop
+add-square-of-difference-2 c = omega arith
+
+mul-square-of-difference-2 : tie.Need-mul-square-of-difference-2 Inv-loop μ-loop
+mul-square-of-difference-2 c = omega arith
+
+shared-slice-copy-out-square-of-difference-2 : tie.Need-shared-slice-copy-out-square-of-difference-2 Inv-loop μ-loop
+shared-slice-copy-out-square-of-difference-2 c = omega arith
+
+square-of-difference-requires : tie.Need-square-of-difference-requires Inv-loop μ-loop
+square-of-difference-requires c κs =
+    let s = c .before .before .before .before in
+    let k = c .before .before .before .loop .k in
+    (passed (row-held (s .pre .0) k (omega arith)), passed (row-held (s .pre .1) k (omega arith)))
+
+add-sum : tie.Need-add-sum Inv-loop μ-loop
+add-sum c = omega arith
+
+add-k : tie.Need-add-k Inv-loop μ-loop
+add-k c = omega arith
+
+loop-less : tie.Need-loop-less Inv-loop μ-loop
+loop-less c = omega arith
+
+loop-again : tie.Need-loop-again Inv-loop μ-loop
+loop-again c =
+    let s = c .before .before .before .before .before in
+    let k = c .before .before .before .before .loop .k in
+    partial-more 1 (c .before .before .before .before .loop .inv) (omega arith)
+    (given₂ (row-held (s .pre .0) k (omega arith)) (λ a b. square (a -ℤ b)) (row-held (s .pre .1) k (omega arith)) (c .square-of-difference .ensures))
+
+returns : tie.Need-returns Inv-loop μ-loop
+unfolding squaredLength squaredDistance
+returns c = partial-all 8 (c .before .loop .inv) (c .loop-test .left) (omega arith)
+
+pub squared-distance-spec : {M : Type 1} → statement M
+squared-distance-spec =
+    tie.close
+    (tie.spec
+    Inv-loop
+    μ-loop
+    mul-base
+    mul-other
+    loop-holds
+    add-square-of-difference
+    mul-square-of-difference
+    shared-slice-copy-out-square-of-difference
+    add-square-of-difference-2
+    mul-square-of-difference-2
+    shared-slice-copy-out-square-of-difference-2
+    square-of-difference-requires
+    add-sum
+    add-k
+    loop-less
+    loop-again
+    returns)
