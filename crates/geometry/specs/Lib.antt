@@ -9,3 +9,6 @@ pub mod Asked
 pub mod PlacesLaws
 pub mod TableLaws
 pub mod FigureLaws
+pub mod SelectLaws
+pub mod MoveLaws
+pub mod Demand
