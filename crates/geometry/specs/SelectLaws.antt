@@ -1,4 +1,6 @@
 -- Laws of `farthest`, `nearest` and `largest`. `Strict less` says that `less` is a strict order, in which elements may tie.
+--     farthest-one, nearest-one             of one row, row 0
+--     farthest-taken, farthest-kept         one row more is the far row, or is not; nearest alike
 --     farthest-within, nearest-within       the row found is one of the m rows
 --     farthest-most                         no row's score is above the far row's
 --     farthest-lowest                       every row below the far row has a smaller score
@@ -11,10 +13,11 @@
 --     largest-most, largest-below           the largest is at least each value, and at most what each value is at most
 --     largest-farthest, largest-reached     the largest score is the far row's
 -- The near row is the far row where `replaces` is the order of the rows themselves (`nearest-farthest`); its laws follow so.
-use Prim.Native.Nat.{ℕ, zero, suc, _≤_, _<_}
+use Prim.Native.Nat.{ℕ, zero, suc, _+_, _≤_, _<_}
 use mathlib.Core.Path.{_≡_, refl, sym, _∙_, ap, ap₂}
 use mathlib.Core.Bool.{Bool, true, false, cond, _&&_, _||_}
 use native.Mathlib.Nat.{le-refl}
+use native.Mathlib.Numerals.{add-one}
 use native.Mathlib.Omega.{arith}
 use borrow.Author.Count.{below-more}
 use borrow.Author.Tests.{ltb-true, ltb-false, lt-ltb, le-ltb, ne-eqb, eqb-false}
@@ -56,6 +59,18 @@ choice P false h k = k refl
 -- ---- the far row
 
 module _ {A : Type 0} (less : A → A → Bool) (score : ℕ → A) where
+  pub farthest-one : farthest less score 1 ≡ 0
+  unfolding farthest
+  farthest-one = choice (λ x. x ≡ 0) (less (score 0) (score 0)) (λ t. refl) (λ t. refl)
+
+  pub farthest-taken : (i : ℕ) → less (score (farthest less score i)) (score i) ≡ true → farthest less score (i + 1) ≡ i
+  unfolding farthest
+  farthest-taken i h = rw (add-one, h)
+
+  pub farthest-kept : (i : ℕ) → less (score (farthest less score i)) (score i) ≡ false → farthest less score (i + 1) ≡ farthest less score i
+  unfolding farthest
+  farthest-kept i h = rw (add-one, h)
+
   far-under : (i : ℕ) → farthest less score i < suc i
   unfolding farthest
   far-under zero = le-refl 1
@@ -108,6 +123,17 @@ module _ {A : Type 0} (less : A → A → Bool) (w : ℕ → ℕ) (score : ℕ �
   unfolding nearest farthest
   nearest-farthest zero = refl
   nearest-farthest (suc i) = ap (λ j. cond (replaces less w score j i) i j) (nearest-farthest i)
+
+  pub nearest-one : nearest less w score 1 ≡ 0
+  nearest-one = nearest-farthest 1 ∙ farthest-one (replaces less w score) (λ i. i)
+
+  pub nearest-taken : (i : ℕ) → replaces less w score (nearest less w score i) i ≡ true → nearest less w score (i + 1) ≡ i
+  unfolding nearest
+  nearest-taken i h = rw (add-one, h)
+
+  pub nearest-kept : (i : ℕ) → replaces less w score (nearest less w score i) i ≡ false → nearest less w score (i + 1) ≡ nearest less w score i
+  unfolding nearest
+  nearest-kept i h = rw (add-one, h)
 
   pub nearest-within : (m : ℕ) → 0 < m → nearest less w score m < m
   nearest-within m h = rw nearest-farthest (farthest-within (replaces less w score) (λ i. i) m h)

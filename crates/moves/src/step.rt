@@ -89,12 +89,12 @@ pub fn shift_centre(
     requires { ⌜ RowAt (now rows) n from × (RowAt (now rows) n to × (CentreWithin x × (t ≤ total))) ⌝ }
     ensures { λ r. ⌜ r ≡ shiftCentre (now (rows .entry)) n from to t x ⌝ }
 {
-    let mut changed = x;
+    let mut changed = [0i64; CHANNELS];
     let lower = from * n;
     let higher = to * n;
     let mut k = 0;
     while k < n {
-        changed[k] = shifted(changed[k], t, rows[higher + k], rows[lower + k]);
+        changed[k] = shifted(x[k], t, rows[higher + k], rows[lower + k]);
         k += 1;
     }
     changed

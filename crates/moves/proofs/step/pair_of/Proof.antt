@@ -1,0 +1,109 @@
+-- `moves::step::pair_of` meets its contract: x is X of the weights, so that s of a row by x is the definition's s, and the rows that
+-- the two passes find are the definition's. s of the near row is at most s of the far row. Assumes nothing.
+use Prim.Native.Nat.{ℕ, _-_, _/_, _≤_}
+use mathlib.Core.Path.{_≡_, refl, sym, _∙_, ap, ap₂, subst}
+use mathlib.Core.List.{List}
+use native.Mathlib.Omega.{arith}
+use borrow.Author.Needs.{needs}
+use lib.Dec.{ltb}
+use lib.IntN.{ℤ}
+use Rattle.geometry.specs.Figures.{scaledCentre, squaredDistance, scaledSquaredDistance}
+use Rattle.geometry.specs.Select.{farthest, nearest}
+use Rattle.geometry.specs.Move.{distanceOf, farRow, nearRow, difference, separation, weightOf}
+use Rattle.geometry.specs.Limits.{total, coordinate}
+use Rattle.geometry.specs.Places.{centreList, centreOf}
+use Rattle.geometry.specs.Asked.{Bounded, CentreWithin, Table, WeightsOf}
+use Rattle.geometry.specs.FigureLaws.{centre-within, distance-centreList}
+use Rattle.geometry.specs.SelectLaws.{farthest-cong, farthest-mostℕ, nearest-cong}
+use Rattle.geometry.specs.TableLaws.{table-row}
+use Rattle.moves.specs.Given.{Found, Paired, score}
+use Rattle.moves.specs.declared.Selected.{Selected}
+use Rattle.moves.proofs.step.pair_of.Statement.{statement}
+use Rattle.moves.proofs.step.pair_of.Tie as tie
+
+module _ {rows x : List ℤ} {m n : ℕ} {ws : List ℕ} (t : Table rows m n) (g : WeightsOf m ws) (e : x ≡ centreList n (scaledCentre (coordinate rows n) (weightOf ws) m)) where
+  centre : CentreWithin x
+  centre = subst CentreWithin (sym e) (centre-within t g)
+
+  score-is : (i : ℕ) → score rows n x i ≡ distanceOf total n m (coordinate rows n) (weightOf ws) i
+  unfolding distanceOf
+  score-is i =
+      ap (λ y. scaledSquaredDistance total n (centreOf y) (coordinate rows n i)) e ∙
+      distance-centreList total n (scaledCentre (coordinate rows n) (weightOf ws) m) (coordinate rows n i) (t .channels)
+
+  module _ {far near : Selected} (f : Found rows n m x (farthest ltb (score rows n x) m) far) (k : Found rows n m x (nearest ltb (weightOf ws) (score rows n x) m) near) where
+    near-most : near .distance ≤ far .distance
+    near-most = omega (arith, f .distance-is ∙ ap (score rows n x) (f .is), k .distance-is, farthest-mostℕ (score rows n x) m (near .row) (k .within))
+
+    found-far : far .row ≡ farRow total n m (coordinate rows n) (weightOf ws)
+    unfolding farRow
+    found-far = f .is ∙ farthest-cong ltb (score rows n x) (distanceOf total n m (coordinate rows n) (weightOf ws)) m (λ i l. score-is i)
+
+    found-near : near .row ≡ nearRow total n m (coordinate rows n) (weightOf ws)
+    unfolding nearRow
+    found-near = k .is ∙ nearest-cong ltb (weightOf ws) (weightOf ws) (score rows n x) (distanceOf total n m (coordinate rows n) (weightOf ws)) m (λ i l. refl) (λ i l. score-is i)
+
+    paired : {s : ℕ} → Bounded 512000000 s (squaredDistance n (coordinate rows n (far .row)) (coordinate rows n (near .row)))
+        → Paired rows m n ws (record { far = far .row; near = near .row; distance = far .distance; difference = (far .distance - near .distance) / 65536; separation = s })
+    unfolding difference separation
+    paired b =
+        let s = distanceOf total n m (coordinate rows n) (weightOf ws) in
+        let far-distance : far .distance ≡ s (farRow total n m (coordinate rows n) (weightOf ws)) = f .distance-is ∙ score-is (far .row) ∙ ap s found-far in
+        let near-distance : near .distance ≡ s (nearRow total n m (coordinate rows n) (weightOf ws)) = k .distance-is ∙ score-is (near .row) ∙ ap s found-near in
+        record {
+          far-is = found-far;
+          near-is = found-near;
+          distance-is = far-distance;
+          difference-is = ap₂ (λ d e. (d - e) / total) far-distance near-distance;
+          separation-is = b .is ∙ ap₂ (λ i j. squaredDistance n (coordinate rows n i) (coordinate rows n j)) found-far found-near;
+          far-within = f .within;
+          near-within = k .within;
+          distance-most = f .distance-most;
+          difference-most = omega (arith, f .distance-most);
+          separation-most = b .most;
+        }
+
+farthest-row-requires : tie.Need-farthest-row-requires
+farthest-row-requires c κs =
+    let p = c .before .pre in
+    (p .0, centre (p .0) (p .1 .0) (p .1 .1))
+
+nearest-row-requires : tie.Need-nearest-row-requires
+nearest-row-requires c κs =
+    let p = c .before .before .pre in
+    (p .0, (centre (p .0) (p .1 .0) (p .1 .1), p .1 .0 .places))
+
+sub-difference : tie.Need-sub-difference
+sub-difference c =
+    let p = c .before .before .before .before .before .pre in
+    near-most (p .0) (p .1 .0) (p .1 .1) (c .before .before .before .farthest-row .ensures) (c .before .before .nearest-row .ensures)
+
+cast-difference : tie.Need-cast-difference
+cast-difference c = search needs
+
+div-difference : tie.Need-div-difference
+div-difference c = search needs
+
+squared-distance-requires : tie.Need-squared-distance-requires
+squared-distance-requires c κs =
+    let t = c .before .before .before .before .before .pre .0 in
+    let far = c .before .before .before .farthest-row in
+    let near = c .before .before .nearest-row in
+    (table-row t (far .result .row) (far .ensures .within), table-row t (near .result .row) (near .ensures .within))
+
+returns : tie.Need-returns
+returns c =
+    let p = c .before .before .before .before .before .before .pre in
+    paired (p .0) (p .1 .0) (p .1 .1) (c .before .before .before .before .farthest-row .ensures) (c .before .before .before .nearest-row .ensures) (c .squared-distance .ensures)
+
+pub pair-of-spec : {M : Type 1} → statement M
+pair-of-spec =
+    tie.close
+    (tie.spec
+    farthest-row-requires
+    nearest-row-requires
+    sub-difference
+    cast-difference
+    div-difference
+    squared-distance-requires
+    returns)

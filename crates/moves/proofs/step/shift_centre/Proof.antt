@@ -1,0 +1,122 @@
+-- `moves::step::shift_centre` meets its contract. The loop's invariant: the first k places are shifted and the others are 0. The
+-- measure is the number of channels left. Assumes nothing.
+use Prim.Native.Nat.{ℕ, _-_, _≤_}
+use mathlib.Core.Path.{_≡_, _∙_, ap, ap₂}
+use mathlib.Core.List.{List}
+use native.Mathlib.Omega.{arith}
+use lib.ListN.{set}
+use mir.Syntax.{w64}
+use mir.Facts.{toZ-ofZ}
+use lib.IntN.{ℤ, pos, _+ℤ_, _-ℤ_, _*ℤ_}
+use Rattle.geometry.specs.Limits.{coordinate}
+use Rattle.geometry.specs.Places.{centreList, centreOf}
+use Rattle.moves.specs.Given.{shiftCentre}
+use Rattle.figures.proofs.Laws.{passed, row-held, centre-held}
+use Rattle.moves.proofs.Laws.{centreList-none, centreList-more}
+use Rattle.moves.proofs.step.shift_centre.Statement.{statement}
+use Rattle.moves.proofs.step.shift_centre.Tie as tie
+
+-- X of channel k, shifted
+abbrev place : List ℤ → ℕ → ℕ → ℕ → ℕ → List ℤ → ℕ → ℤ
+place rows n from to t x k = centreOf x k +ℤ pos t *ℤ (coordinate rows n to k -ℤ coordinate rows n from k)
+
+abbrev Inv-loop : tie.InvT-loop
+Inv-loop rows n from to t x changed₀ lower higher k₀ changed k = (k ≤ n) × (changed ≡ centreList k (place rows n from to t x))
+
+abbrev μ-loop : tie.MeasureT-loop
+μ-loop rows n from to t x changed₀ lower higher k₀ changed k = n - k
+
+mul-lower : tie.Need-mul-lower Inv-loop μ-loop
+mul-lower c = omega arith
+
+mul-higher : tie.Need-mul-higher Inv-loop μ-loop
+mul-higher c = omega arith
+
+loop-holds : tie.Need-loop-holds Inv-loop μ-loop
+loop-holds c = (omega arith, centreList-none _)
+
+mul-shifted : tie.Need-mul-shifted Inv-loop μ-loop
+mul-shifted c = omega arith
+
+array-copy-out-shifted : tie.Need-array-copy-out-shifted Inv-loop μ-loop
+array-copy-out-shifted c = omega arith
+
+add-shifted : tie.Need-add-shifted Inv-loop μ-loop
+add-shifted c = omega arith
+
+mul-shifted-2 : tie.Need-mul-shifted-2 Inv-loop μ-loop
+mul-shifted-2 c = omega arith
+
+shared-slice-copy-out-shifted : tie.Need-shared-slice-copy-out-shifted Inv-loop μ-loop
+shared-slice-copy-out-shifted c = omega arith
+
+add-shifted-2 : tie.Need-add-shifted-2 Inv-loop μ-loop
+add-shifted-2 c = omega arith
+
+mul-shifted-3 : tie.Need-mul-shifted-3 Inv-loop μ-loop
+mul-shifted-3 c = omega arith
+
+shared-slice-copy-out-shifted-2 : tie.Need-shared-slice-copy-out-shifted-2 Inv-loop μ-loop
+shared-slice-copy-out-shifted-2 c = omega arith
+
+shifted-requires : tie.Need-shifted-requires Inv-loop μ-loop
+shifted-requires c κs =
+    let p = c .before .before .before .before .before .pre in
+    let k = c .before .before .before .before .loop .k in
+    let l = c .before .before .before .loop-test .taken in
+    (passed (centre-held (p .1 .1 .0) k), (p .1 .1 .1, (passed (row-held (p .1 .0) k l), passed (row-held (p .0) k l))))
+
+mul-changed : tie.Need-mul-changed Inv-loop μ-loop
+mul-changed c = omega arith
+
+array-set-from-changed : tie.Need-array-set-from-changed Inv-loop μ-loop
+array-set-from-changed c = omega arith
+
+add-k : tie.Need-add-k Inv-loop μ-loop
+add-k c = omega arith
+
+loop-less : tie.Need-loop-less Inv-loop μ-loop
+loop-less c = omega arith
+
+loop-again : tie.Need-loop-again Inv-loop μ-loop
+loop-again c =
+    let p = c .before .before .before .before .before .before .pre in
+    let f = c .before .before .before .before .before .loop in
+    let l = c .before .before .before .before .loop-test .taken in
+    let a = c .before .before .before .before .before .before .args in
+    let X = place (a .rows .now) (a .n) (a .from) (a .to) (a .t) (a .t1) in
+    let e : c .shifted .result ≡ X (f .k) =
+    c .shifted .ensures ∙ ap₂ (λ y d. y +ℤ pos (a .t) *ℤ d) (centre-held (p .1 .1 .0) (f .k) .is) (ap₂ _-ℤ_ (row-held (p .1 .0) (f .k) l .is) (row-held (p .0) (f .k) l .is)) in
+    (omega arith, ap₂ (λ y z. set y (f .k) z) (f .inv .1) (toZ-ofZ {w = w64} (record { sfits = c .shifted .ok }) ∙ e) ∙ centreList-more X (f .k) (omega arith))
+
+returns : tie.Need-returns Inv-loop μ-loop
+unfolding shiftCentre
+returns c =
+    let a = c .before .before .args in
+    let e : c .before .loop .k ≡ a .n = omega arith in
+    c .before .loop .inv .1 ∙ ap (λ k. centreList k (place (a .rows .now) (a .n) (a .from) (a .to) (a .t) (a .t1))) e
+
+pub shift-centre-spec : {M : Type 1} → statement M
+shift-centre-spec =
+    tie.close
+    (tie.spec
+    Inv-loop
+    μ-loop
+    mul-lower
+    mul-higher
+    loop-holds
+    mul-shifted
+    array-copy-out-shifted
+    add-shifted
+    mul-shifted-2
+    shared-slice-copy-out-shifted
+    add-shifted-2
+    mul-shifted-3
+    shared-slice-copy-out-shifted-2
+    shifted-requires
+    mul-changed
+    array-set-from-changed
+    add-k
+    loop-less
+    loop-again
+    returns)
