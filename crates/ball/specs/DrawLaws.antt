@@ -1,0 +1,166 @@
+-- Laws of the drawing and the check.
+--     run-zero, run-stop, run-step                   a run with no move left, from weights that stop it, and from others
+--     goes-on, stops                                 the test for another move
+--     is-settled, not-settled                        whether the weights of a list are Settled
+--     runFrom-end, runFrom-move                      the moves of document 01 where no other move is made, and where one is
+--     start-length, start-total                      the places of the first weights and their sum
+--     weightsTotal-zero, weightsTotal-next           the sum of the first weights, one more at a time
+--     radius-far                                     M is s of the far row
+--     drawing-limits, -budget, -drawn                the three answers of a drawing
+--     checking-limits, -places, -sum, -checked       the four answers of a check
+use Prim.Native.Nat.{ℕ, zero, suc, _+_, _-_, _≤_, _<_}
+use mathlib.Core.Path.{_≡_, refl, _∙_, ap}
+use mathlib.Core.Bool.{Bool, true, false, _&&_}
+use mathlib.Core.List.{List}
+use mathlib.Core.Logic.{_⊎_, inl, inr}
+use native.Mathlib.Numerals.{add-one}
+use native.Mathlib.Omega.{arith}
+use borrow.Author.Tests.{ltb-true, ltb-false, le-leb, lt-leb, eq-eqb, ne-eqb}
+use lib.Dec.{ltb}
+use lib.IntN.{ℤ}
+use lib.ListN.{length, replicate, length-set, length-replicate, getD-replicate}
+use Rattle.integers.specs.Sum.{sumℕ}
+use Rattle.integers.specs.SumLaws.{sumℕ-set, sumℕ-zero, sumℕ-cong}
+use Rattle.refusal.specs.Number.{limits, budget, disagreement}
+use Rattle.refusal.specs.Outcome.{refused}
+use Rattle.refusal.specs.declared.Outcome.the-variants.{Accepted}
+use Rattle.geometry.specs.Figures.{scaledCentre, scaledSquaredRadius}
+use Rattle.geometry.specs.Move.{distanceOf, farRow, difference, separation, settled, moved, weightOf}
+use Rattle.geometry.specs.Limits.{budgetLimit, coordinate, rowsWithin}
+use Rattle.geometry.specs.Places.{weightsTotal}
+use Rattle.geometry.specs.TableLaws.{both}
+use Rattle.geometry.specs.SelectLaws.{largest-farthest}
+use Rattle.ball.specs.Ball.{ballOf}
+use Rattle.ball.specs.Draw.{Run, run, start, runFrom, drawn, notDrawn, drawing}
+use Rattle.ball.specs.Check.{notChecked, checking}
+
+-- ---- runs
+
+-- a run that ends with these weights and this number of moves made
+abbrev pub ended : List ℕ → ℕ → Run
+ended ws made = record { weights = ws; moves = made }
+
+module _ (stop : List ℕ → Bool) (next : List ℕ → List ℕ) (made : ℕ) (ws : List ℕ) where
+  pub run-zero : run stop next 0 made ws ≡ ended ws made
+  unfolding run
+  run-zero = refl
+
+  pub run-stop : (b : ℕ) → stop ws ≡ true → run stop next b made ws ≡ ended ws made
+  unfolding run
+  run-stop zero h = refl
+  run-stop (suc b) h = rw (h, run)
+
+  pub run-step : (b : ℕ) → stop ws ≡ false → run stop next (suc b) made ws ≡ run stop next b (suc made) (next ws)
+  unfolding run
+  run-step b h = rw (h, run)
+
+-- ---- the moves of document 01; another move is made where g is above d² and the budget is not used
+
+-- the test for another move
+module _ (d g made most : ℕ) where
+  pub goes-on : (ltb d g && ltb made most) ≡ true → (d < g) × (made < most)
+  goes-on h = let t = both (ltb d g) (ltb made most) h in (ltb-true d g (t .0), ltb-true made most (t .1))
+
+  pub stops : (ltb d g && ltb made most) ≡ false → (g ≤ d) ⊎ (most ≤ made)
+  stops h = either (ltb d g) (ltb made most) (ltb-false d g) (ltb-false made most) h
+    where
+      either : (p q : Bool) → (p ≡ false → g ≤ d) → (q ≡ false → most ≤ made) → (p && q) ≡ false → (g ≤ d) ⊎ (most ≤ made)
+      either true q f k h = inr (k h)
+      either false q f k h = inl (f refl)
+
+module _ (D n m : ℕ) (a : ℕ → ℕ → ℤ) (ws : List ℕ) where
+  abbrev g : ℕ
+  g = difference D n m a (weightOf ws)
+
+  abbrev d : ℕ
+  d = separation D n m a (weightOf ws)
+
+  pub is-settled : g ≤ d → settled D n m a (weightOf ws) ≡ true
+  unfolding settled
+  is-settled h = le-leb g d h
+
+  pub not-settled : d < g → settled D n m a (weightOf ws) ≡ false
+  unfolding settled
+  not-settled h = lt-leb g d h
+
+  module _ (budget made : ℕ) where
+    pub runFrom-end : (g ≤ d) ⊎ (budget ≤ made) → runFrom D n m a (budget - made) made ws ≡ ended ws made
+    unfolding runFrom
+    runFrom-end (inl h) = run-stop _ _ made ws (budget - made) (is-settled h)
+    runFrom-end (inr h) = let none : budget - made ≡ 0 = omega arith in ap (λ b. runFrom D n m a b made ws) none ∙ run-zero _ _ made ws
+
+    pub runFrom-move : d < g → made < budget → runFrom D n m a (budget - made) made ws ≡ runFrom D n m a (budget - (made + 1)) (made + 1) (moved D n m a ws)
+    unfolding runFrom
+    runFrom-move h l =
+        let one-less : budget - made ≡ suc (budget - (made + 1)) = omega arith in
+        let one-more : suc made ≡ made + 1 = omega arith in
+        ap (λ b. runFrom D n m a b made ws) one-less ∙
+        run-step _ _ made ws (budget - (made + 1)) (not-settled h) ∙
+        ap (λ k. runFrom D n m a (budget - (made + 1)) k (moved D n m a ws)) one-more
+
+-- ---- the start
+
+-- the weights before the first row is given its own
+zeros : ℕ → List ℕ
+zeros limit = replicate limit 0
+
+zero-at : (limit i : ℕ) → i < limit → weightOf (zeros limit) i ≡ 0
+unfolding zeros
+zero-at limit i l = getD-replicate limit i 0 0 l
+
+pub start-length : (limit D : ℕ) → length (start limit D) ≡ limit
+unfolding start
+start-length limit D = length-set (replicate limit 0) 0 D ∙ length-replicate limit 0
+
+pub start-total : (limit D m : ℕ) → 0 < m → m ≤ limit → weightsTotal m (start limit D) ≡ D
+unfolding start weightsTotal zeros
+start-total limit D m some most =
+    let kept = sumℕ-set (zeros limit) m 0 D some (omega (arith, length-replicate {A = ℕ} limit 0)) in
+    let none = sumℕ-cong m (λ i l. zero-at limit i (omega arith)) ∙ sumℕ-zero m in
+    omega (arith, zero-at limit 0 (omega arith))
+
+-- ---- the figures of weights
+
+pub weightsTotal-zero : (ws : List ℕ) → weightsTotal 0 ws ≡ 0
+unfolding weightsTotal sumℕ
+weightsTotal-zero ws = refl
+
+pub weightsTotal-next : (i : ℕ) (ws : List ℕ) → weightsTotal (i + 1) ws ≡ weightsTotal i ws + weightOf ws i
+unfolding weightsTotal sumℕ
+weightsTotal-next i ws = ap (λ k. weightsTotal k ws) (add-one i)
+
+pub radius-far : (D n m : ℕ) (a : ℕ → ℕ → ℤ) (w : ℕ → ℕ) → 0 < m → scaledSquaredRadius D n m a (scaledCentre a w m) ≡ distanceOf D n m a w (farRow D n m a w)
+unfolding scaledSquaredRadius distanceOf farRow
+radius-far D n m a w some = largest-farthest (distanceOf D n m a w) m some
+
+-- ---- the answers
+
+module _ (D limit : ℕ) (rows : List ℤ) (m n b : ℕ) where
+  pub drawing-limits : rowsWithin limit rows m n ≡ false → drawing D limit rows m n b ≡ notDrawn limit (refused limits)
+  unfolding drawing
+  drawing-limits h = rw (h, drawing)
+
+  pub drawing-budget : rowsWithin limit rows m n ≡ true → budgetLimit < b → drawing D limit rows m n b ≡ notDrawn limit (refused budget)
+  unfolding drawing
+  drawing-budget h k = rw (h, lt-leb b budgetLimit k, drawing)
+
+  pub drawing-drawn : rowsWithin limit rows m n ≡ true → b ≤ budgetLimit → drawing D limit rows m n b ≡ drawn D n m (coordinate rows n) (runFrom D n m (coordinate rows n) b 0 (start limit D))
+  unfolding drawing
+  drawing-drawn h k = rw (h, le-leb b budgetLimit k, drawing)
+
+module _ (D limit : ℕ) (rows : List ℤ) (m n : ℕ) (ws : List ℕ) where
+  pub checking-limits : rowsWithin limit rows m n ≡ false → checking D limit rows m n ws ≡ notChecked (refused limits)
+  unfolding checking
+  checking-limits h = rw (h, checking)
+
+  pub checking-places : rowsWithin limit rows m n ≡ true → (length ws ≡ m → ⊥) → checking D limit rows m n ws ≡ notChecked (refused limits)
+  unfolding checking
+  checking-places h k = rw (h, ne-eqb (length ws) m k, checking)
+
+  pub checking-sum : rowsWithin limit rows m n ≡ true → length ws ≡ m → (weightsTotal m ws ≡ D → ⊥) → checking D limit rows m n ws ≡ notChecked (refused disagreement)
+  unfolding checking
+  checking-sum h k l = rw (h, eq-eqb (length ws) m k, ne-eqb (weightsTotal m ws) D l, checking)
+
+  pub checking-checked : rowsWithin limit rows m n ≡ true → length ws ≡ m → weightsTotal m ws ≡ D → checking D limit rows m n ws ≡ record { outcome = Accepted; ball = ballOf D n m (coordinate rows n) (weightOf ws) }
+  unfolding checking
+  checking-checked h k l = rw (h, eq-eqb (length ws) m k, eq-eqb (weightsTotal m ws) D l, checking)
