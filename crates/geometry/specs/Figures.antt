@@ -3,13 +3,14 @@
 --     squaredDistance n p q                   the squared distance between two points
 --     scaledCentre a w m k                    X of channel k
 --     scaledSquaredDistance D n X p           s of a row p
---     largest m f                             the largest of f 0, …, f (m - 1)
+--     largest m f                             the largest of f 0, …, f (m - 1); 0 of none
 --     scaledSquaredRadius D n m a X           M, the ball
 --     weightedSquaredLength n m a w           the sum of weight times the row's squared length
 --     scaledLowerBound D n m a w              L, the floor
 --     largestSquaredDistance n m a            the largest squared distance between two rows
 -- Rows and channels count from 0. `a i k` is the coordinate of row i in channel k, `w i` the weight of row i, a point is
--- the function from channel to coordinate, n is the number of channels and m the number of rows.
+-- the function from channel to coordinate, n is the number of channels and m the number of rows. Rows may be equal; the
+-- source's are distinct.
 use Prim.Native.Nat.{ℕ, zero, suc, _*_, _-_, max}
 use lib.IntN.{ℤ, pos, _-ℤ_, _*ℤ_}
 use Rattle.integers.specs.Sum.{sumℤ, sumℕ, square}
@@ -20,7 +21,7 @@ squaredLength n v = sumℕ n (λ k. square (v k))
 unfoldable pub squaredDistance : ℕ → (ℕ → ℤ) → (ℕ → ℤ) → ℕ
 squaredDistance n p q = squaredLength n (λ k. p k -ℤ q k)
 
--- X is the sum of weight times row, channel by channel. The source's x is X/D (x = Au, before formula 4)
+-- X is the sum of weight times row, channel by channel. The source's x is X/D (x = Au, stated with formula 4)
 unfoldable pub scaledCentre : (ℕ → ℕ → ℤ) → (ℕ → ℕ) → ℕ → ℕ → ℤ
 scaledCentre a w m k = sumℤ m (λ i. pos (w i) *ℤ a i k)
 

@@ -4,12 +4,15 @@
 --     nearRow D n m a w             the near row
 --     difference D n m a w          g
 --     separation D n m a w          d²
+--     isSettled g d                 whether g and d² say Settled
 --     settled D n m a w             whether the weights are Settled
+--     cappedStep g d cap            t from g, d² and the most that may move
 --     transfer D n m a w            t
 --     moveWeight t from to ws       the list of weights with t moved from one row to another
---     next D n m a ws               the list of weights after one move, or as it is where Settled
+--     weightOf ws i                 the weight of row i in a list of weights, 0 past its end
+--     moved D n m a ws              the list of weights after one move; a run asks for it only where they are not Settled
 use Prim.Native.Nat.{ℕ, _+_, _*_, _-_, _/_, min}
-use mathlib.Core.Bool.{Bool, cond}
+use mathlib.Core.Bool.{Bool}
 use mathlib.Core.List.{List}
 use lib.Dec.{leb, ltb}
 use lib.IntN.{ℤ}
@@ -17,15 +20,25 @@ use lib.ListN.{getD, set}
 use Rattle.geometry.specs.Figures.{squaredDistance, scaledCentre, scaledSquaredDistance}
 use Rattle.geometry.specs.Select.{farthest, nearest}
 
+-- Settled where g is at most d² (both 0 included); the source goes on until Δ is 0
+abbrev pub isSettled : ℕ → ℕ → Bool
+isSettled g d = leb g d
+
+-- t is the whole part of (g + d² - 1)/(2d²), never more than the near row's weight. The source's step is Δ/d² (formula 26)
+-- under the same cap (formula 27). D times it is g/(2d²), here rounded to the nearest whole number, a half down: above 0
+-- exactly where g is above d², that is where moving 1 raises L. Where d² is 0 so is g, and the weights are Settled
+abbrev pub cappedStep : ℕ → ℕ → ℕ → ℕ
+cappedStep g d cap = min ((g + d - 1) / (2 * d)) cap
+
 module _ (D n m : ℕ) (a : ℕ → ℕ → ℤ) (w : ℕ → ℕ) where
   unfoldable pub distanceOf : ℕ → ℕ
   distanceOf i = scaledSquaredDistance D n (scaledCentre a w m) (a i)
 
-  -- The far row has the largest s of all rows
+  -- The far row has the largest s of all rows: the source's i′ (formula 24), since ⟨a_i, x⟩ - b[i] falls as s rises
   unfoldable pub farRow : ℕ
   farRow = farthest ltb distanceOf m
 
-  -- The near row has the smallest s among rows of weight above 0
+  -- The near row has the smallest s among rows of weight above 0: the source's i″
   unfoldable pub nearRow : ℕ
   nearRow = nearest ltb w distanceOf m
 
@@ -37,22 +50,19 @@ module _ (D n m : ℕ) (a : ℕ → ℕ → ℤ) (w : ℕ → ℕ) where
   unfoldable pub separation : ℕ
   separation = squaredDistance n (a farRow) (a nearRow)
 
-  -- Settled where g is at most d² (both 0 included); the source goes on until Δ is 0
   unfoldable pub settled : Bool
-  settled = leb difference separation
+  settled = isSettled difference separation
 
-  -- t is the whole part of (g + d² - 1)/(2d²), never more than the near row's weight. The source's step is Δ/d² (formula 26)
-  -- under the same cap (formula 27); D times it is g/(2d²), here rounded to a whole number above 0 while a move still gains
   unfoldable pub transfer : ℕ
-  transfer = min ((difference + separation - 1) / (2 * separation)) (w nearRow)
-
--- One row loses t, the other gains t, and no other weight changes (formula 31)
-unfoldable pub moveWeight : ℕ → ℕ → ℕ → List ℕ → List ℕ
-moveWeight t from to ws = let lowered = set ws from (getD ws from 0 - t) in set lowered to (getD lowered to 0 + t)
+  transfer = cappedStep difference separation (w nearRow)
 
 -- The weight of row i in a list of weights: places past its end are 0
 abbrev pub weightOf : List ℕ → ℕ → ℕ
 weightOf ws i = getD ws i 0
+
+-- One row loses t, the other gains t, and no other weight changes (formula 31)
+unfoldable pub moveWeight : ℕ → ℕ → ℕ → List ℕ → List ℕ
+moveWeight t from to ws = let lowered = set ws from (getD ws from 0 - t) in set lowered to (getD lowered to 0 + t)
 
 -- The weights after one move
 unfoldable pub moved : ℕ → ℕ → ℕ → (ℕ → ℕ → ℤ) → List ℕ → List ℕ

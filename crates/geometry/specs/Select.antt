@@ -2,7 +2,9 @@
 --     farthest less score m        the lowest of the m rows with the largest score
 --     replaces less w score j i    row i takes row j's place as the near row of the rows so far
 --     nearest less w score m       the lowest of the rows of weight above 0 with the smallest score
--- Both go through the rows in order and keep the row found so far, row 0 before the first.
+-- `less x y` says that x is strictly below y. Both go through the rows in order and keep the row found so far, row 0 before
+-- the first: after each row they hold the far row, and the near row if there is one yet, of the rows so far. While no row of
+-- weight above 0 has been met, the near row kept is row 0 with weight 0.
 use Prim.Native.Nat.{ℕ, zero, suc}
 use mathlib.Core.Bool.{Bool, cond, _&&_, _||_}
 use lib.Dec.{ltb, eqb}

@@ -1,4 +1,5 @@
 -- Laws of `sumℤ n f` and `sumℕ n f`. What is said of f and g is said below n only.
+--     below, last, last-or-below      what holds below n + 1 holds below n and at n; a number below n + 1 is n or below n
 --     sumℤ-cong, sumℕ-cong            equal terms, equal sums
 --     sumℤ-zero, sumℕ-zero            a sum of zeros
 --     sumℤ-const, sumℕ-const          n times one number
@@ -34,13 +35,13 @@ use Rattle.integers.specs.Order.{_⊑_, ⊑-refl, ⊑-add}
 use Rattle.integers.specs.Sum.{sumℤ, sumℕ}
 
 -- a hypothesis below n + 1 is one below n
-below : {P : ℕ → Type 0} (n : ℕ) → ((i : ℕ) → i < suc n → P i) → (i : ℕ) → i < n → P i
+pub below : {P : ℕ → Type 0} (n : ℕ) → ((i : ℕ) → i < suc n → P i) → (i : ℕ) → i < n → P i
 below n h i l = h i (omega arith)
 
-last : {P : ℕ → Type 0} (n : ℕ) → ((i : ℕ) → i < suc n → P i) → P n
+pub last : {P : ℕ → Type 0} (n : ℕ) → ((i : ℕ) → i < suc n → P i) → P n
 last n h = h n (le-refl (suc n))
 
-last-or-below : (n j : ℕ) → j < suc n → (j ≡ n) ⊎ (j < n)
+pub last-or-below : (n j : ℕ) → j < suc n → (j ≡ n) ⊎ (j < n)
 last-or-below n j h = go (ℕ-discrete j n)
   where
     go : Dec (j ≡ n) → (j ≡ n) ⊎ (j < n)

@@ -29,7 +29,8 @@ row-count = 6
 abbrev pub table-short : ℕ
 table-short = 7
 
--- n, m, coordinate, type code, envelope figure or chart channel outside limits; rows lent in below m times n places; weight list not of m places
+-- n, m, coordinate, type code, envelope figure or chart channel outside limits; rows lent in below m times n places;
+-- weight list not of m places
 abbrev pub limits : ℕ
 limits = 8
 

@@ -2,7 +2,7 @@
 --     refusedAt k l     refused with number k at line l
 --     refused k         refused with number k, no line at fault
 --     numberOf o        the number of an outcome, 0 where accepted
---     lineOf o          the line of an outcome, 0 where accepted
+--     lineOf o          the line of an outcome, 0 where accepted or no line is at fault
 use Prim.Native.Nat.{ℕ}
 use Rattle.refusal.specs.declared.Refusal.{Refusal}
 use Rattle.refusal.specs.declared.Outcome.{Outcome}

@@ -17,7 +17,8 @@ pub const LABEL_REPEATED: u32 = 5;
 pub const ROW_COUNT: u32 = 6;
 // 7: lent table below m times n
 pub const TABLE_SHORT: u32 = 7;
-// 8: n, m, coordinate, type code, envelope figure or chart channel outside limits; rows or weights not of their places
+// 8: n, m, coordinate, type code, envelope figure or chart channel outside limits; rows lent in below m times n places;
+// weight list not of m places
 pub const LIMITS: u32 = 8;
 // 9: budget above 1,000,000
 pub const BUDGET: u32 = 9;

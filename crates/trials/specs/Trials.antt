@@ -1,5 +1,6 @@
--- Document 01, "Trial figures": the cases marked with a star as one table, and one law that computes them all.
---     Trial             the figures that the definitions give and those that document 01 states
+-- Document 01, "Trial figures": the cases marked with a star that concern the ball as one table, and one law that computes
+-- them all. The panel's cases and the record's bytes join the table with the chart and the record.
+--     Trial             the figures that the definitions give, and those that document 01 states or that follow from them
 --     trials            the table, in document 01's order
 --     trials-agree      every case gives document 01's figures
 use Prim.Native.Nat.{ℕ, _-_}
@@ -28,7 +29,7 @@ numbers = map pos
 flag : Bool → ℕ
 flag b = cond b 1 0
 
--- the drawing of a table of one channel's rows, or of n channels'
+-- the drawing of m rows of n channels
 draw : ℕ → List ℤ → ℕ → ℕ → Drawing
 draw n rows m budget = drawing total rowLimit rows m n budget
 

@@ -1,0 +1,13 @@
+//! Links the proved library, which `rt staticlib library` writes into the repository's target
+//! folder.
+
+use std::path::Path;
+
+fn main() {
+    let package = std::env::var("CARGO_MANIFEST_DIR").expect("cargo names the package's folder");
+    let folder = Path::new(&package).join("../../target/staticlib");
+    let archive = folder.join("liblibrary.a");
+    println!("cargo::rustc-link-search=native={}", folder.display());
+    println!("cargo::rustc-link-lib=static=library");
+    println!("cargo::rerun-if-changed={}", archive.display());
+}

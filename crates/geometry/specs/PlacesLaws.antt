@@ -1,0 +1,79 @@
+-- Laws of lists that stand for points.
+--     length-tabulate, getD-tabulate          the list f 0, …, f (c - 1)
+--     length-centreList                       X has eight places
+--     centreList-at, centreList-past          its places below n are X, those past n are 0
+--     centreList-by                           a list with these places is X's
+--     centreList-cong                         only the places below n count
+use Prim.Native.Nat.{ℕ, zero, suc, _≤_, _<_}
+use mathlib.Core.Path.{_≡_, refl, sym, _∙_, ap}
+use mathlib.Core.Logic.{_⊎_, inl, inr}
+use mathlib.Core.Bool.{Bool, true, false, cond}
+use mathlib.Core.List.{List, [], _∷_, _++_}
+use native.Mathlib.Omega.{arith}
+use native.Mathlib.Decide.{decLt}
+use borrow.Author.Tests.{lt-ltb, le-ltb}
+use lib.Dec.{ltb}
+use lib.IntN.{ℤ, pos}
+use lib.ListN.{length, getD, length-append, List·getD-append, List·getD-eq-default}
+use lib.Seq.{getD-at, ext-getD}
+use Rattle.integers.specs.SumLaws.{last-or-below}
+use Rattle.geometry.specs.Places.{tabulate, centreList, centreOf}
+
+module _ {A : Type 0} (f : ℕ → A) where
+  pub length-tabulate : (c : ℕ) → length (tabulate c f) ≡ c
+  unfolding tabulate
+  length-tabulate zero = refl
+  length-tabulate (suc c) = omega (arith, length-append (tabulate c f) (f c ∷ []), length-tabulate c)
+
+  pub getD-tabulate : (c i : ℕ) (d : A) → i < c → getD (tabulate c f) i d ≡ f i
+  unfolding tabulate
+  getD-tabulate zero i d h = absurd (omega arith)
+  getD-tabulate (suc c) i d h = go (getD-tabulate c i d) (last-or-below c i h)
+    where
+      go : (i < c → getD (tabulate c f) i d ≡ f i) → (i ≡ c) ⊎ (i < c) → getD (tabulate c f ++ (f c ∷ [])) i d ≡ f i
+      go r (inl e) = getD-at (tabulate c f) (f c) [] d i (length-tabulate c ∙ sym e) ∙ ap f (sym e)
+      go r (inr l) = List·getD-append (tabulate c f) (f c ∷ []) d i (omega (arith, length-tabulate c)) ∙ r l
+
+module _ (n : ℕ) (X : ℕ → ℤ) where
+  place : ℕ → ℤ
+  place k = cond (ltb k n) (X k) (pos 0)
+
+  place-at : (k : ℕ) → k < n → place k ≡ X k
+  unfolding place
+  place-at k h = ap (λ (b : Bool). cond b (X k) (pos 0)) (lt-ltb k n h)
+
+  place-past : (k : ℕ) → n ≤ k → place k ≡ pos 0
+  unfolding place
+  place-past k h = ap (λ (b : Bool). cond b (X k) (pos 0)) (le-ltb k n h)
+
+  pub length-centreList : length (centreList n X) ≡ 8
+  unfolding centreList place
+  length-centreList = length-tabulate place 8
+
+  getD-centreList : (k : ℕ) → k < 8 → getD (centreList n X) k (pos 0) ≡ place k
+  unfolding centreList place
+  getD-centreList k h = getD-tabulate place 8 k (pos 0) h
+
+  pub centreList-at : (k : ℕ) → n ≤ 8 → k < n → centreOf (centreList n X) k ≡ X k
+  centreList-at k most h = getD-centreList k (omega arith) ∙ place-at k h
+
+  pub centreList-past : (k : ℕ) → n ≤ k → centreOf (centreList n X) k ≡ pos 0
+  centreList-past k h = go (decLt k 8)
+    where
+      go : Dec (k < 8) → centreOf (centreList n X) k ≡ pos 0
+      go (yes l) = getD-centreList k l ∙ place-past k h
+      go (no l) = List·getD-eq-default (centreList n X) (pos 0) (omega (arith, length-centreList))
+
+  pub centreList-by : (l : List ℤ) → length l ≡ 8 → ((k : ℕ) → k < n → getD l k (pos 0) ≡ X k)
+      → ((k : ℕ) → n ≤ k → getD l k (pos 0) ≡ pos 0) → l ≡ centreList n X
+  centreList-by l len at past =
+      ext-getD (pos 0) l (centreList n X) (len ∙ sym length-centreList) (λ k h. same k (omega arith) (decLt k n))
+    where
+      same : (k : ℕ) → k < 8 → Dec (k < n) → getD l k (pos 0) ≡ getD (centreList n X) k (pos 0)
+      same k h (yes b) = at k b ∙ sym (getD-centreList k h ∙ place-at k b)
+      same k h (no b) = past k (omega arith) ∙ sym (getD-centreList k h ∙ place-past k (omega arith))
+
+pub centreList-cong : (n : ℕ) (X Y : ℕ → ℤ) → n ≤ 8 → ((k : ℕ) → k < n → X k ≡ Y k) → centreList n X ≡ centreList n Y
+centreList-cong n X Y most h =
+    centreList-by n Y (centreList n X) (length-centreList n X) (λ k l. centreList-at n X k most l ∙ h k l)
+    (λ k l. centreList-past n X k l)

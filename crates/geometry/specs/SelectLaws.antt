@@ -1,0 +1,205 @@
+-- Laws of `farthest`, `nearest` and `largest`. `Strict less` says that `less` is a strict order, in which elements may tie.
+--     farthest-within, nearest-within       the row found is one of the m rows
+--     farthest-most                         no row's score is above the far row's
+--     farthest-lowest                       every row below the far row has a smaller score
+--     nearest-weighted                      the near row has weight, if a row has
+--     nearest-least                         no weighted row's score is below the near row's
+--     nearest-lowest                        every weighted row below the near row has a larger score
+--     farthest-cong, nearest-cong, largest-cong     what is found depends on the m rows alone
+-- Over ℕ with `ltb`, as facts of numbers:
+--     farthest-mostℕ, farthest-lowestℕ, nearest-leastℕ, nearest-lowestℕ
+--     largest-most, largest-below           the largest is at least each value, and at most what each value is at most
+--     largest-farthest, largest-reached     the largest score is the far row's
+-- The near row is the far row where `replaces` is the order of the rows themselves (`nearest-farthest`); its laws follow so.
+use Prim.Native.Nat.{ℕ, zero, suc, _≤_, _<_}
+use mathlib.Core.Path.{_≡_, refl, sym, _∙_, ap, ap₂}
+use mathlib.Core.Bool.{Bool, true, false, cond, _&&_, _||_}
+use native.Mathlib.Nat.{le-refl}
+use native.Mathlib.Omega.{arith}
+use borrow.Author.Count.{below-more}
+use borrow.Author.Tests.{ltb-true, ltb-false, lt-ltb, le-ltb, ne-eqb, eqb-false}
+use lib.Dec.{ltb, eqb}
+use Rattle.geometry.specs.Select.{farthest, replaces, nearest}
+use Rattle.geometry.specs.Figures.{largest}
+use Rattle.geometry.specs.TableLaws.{both}
+
+pub record Strict {A : Type 0} (less : A → A → Bool) : Type 0 where
+  pub one-way : (x y : A) → less x y ≡ true → less y x ≡ false
+  pub through : (x y z : A) → less x y ≡ false → less y z ≡ false → less x z ≡ false
+
+pub ltb-strict : Strict ltb
+ltb-strict = record { one-way = λ x y h. le-ltb y x (omega (arith, ltb-true x y h)); through = λ x y z h k. le-ltb x z (omega (arith, ltb-false x y h, ltb-false y z k)) }
+
+-- ---- tests
+
+clash : {P : Type 0} {b : Bool} → b ≡ true → b ≡ false → P
+clash h k = let z : _≡_ {A = ℕ} 0 1 = cc in absurd (omega arith)
+
+-- a test is false if it cannot be true, and true if it cannot be false
+refuted : (b : Bool) → (b ≡ true → ⊥) → b ≡ false
+refuted true h = absurd (h refl)
+refuted false h = refl
+
+affirmed : (b : Bool) → (b ≡ false → ⊥) → b ≡ true
+affirmed true h = refl
+affirmed false h = absurd (h refl)
+
+-- what holds of the row that a test chooses
+choice : (P : ℕ → Type 0) (b : Bool) {x y : ℕ} → (b ≡ true → P x) → (b ≡ false → P y) → P (cond b x y)
+choice P true h k = h refl
+choice P false h k = k refl
+
+||-false : (a b : Bool) → (a || b) ≡ false → (a ≡ false) × (b ≡ false)
+||-false true b h = clash refl h
+||-false false b h = (refl, h)
+
+-- ---- the far row
+
+module _ {A : Type 0} (less : A → A → Bool) (score : ℕ → A) where
+  far-under : (i : ℕ) → farthest less score i < suc i
+  unfolding farthest
+  far-under zero = le-refl 1
+  far-under (suc i) = choice (λ x. x < suc (suc i)) (less (score (farthest less score i)) (score i)) (λ t. omega arith) (λ t. omega (arith, far-under i))
+
+  pub farthest-within : (m : ℕ) → 0 < m → farthest less score m < m
+  unfolding farthest
+  farthest-within zero h = absurd (omega arith)
+  farthest-within (suc i) h = choice (λ x. x < suc i) (less (score (farthest less score i)) (score i)) (λ t. le-refl (suc i)) (λ t. far-under i)
+
+-- two orders and scores that agree on the m rows
+module _ {A B : Type 0} (less : A → A → Bool) (score : ℕ → A) (less' : B → B → Bool) (score' : ℕ → B) where
+  farthest-agree : (m : ℕ) → ((j i : ℕ) → j < m → i < m → less (score j) (score i) ≡ less' (score' j) (score' i)) → farthest less score m ≡ farthest less' score' m
+  unfolding farthest
+  farthest-agree zero h = refl
+  farthest-agree (suc i) h =
+      let same = farthest-agree i (λ j k l r. h j k (omega arith) (omega arith)) in
+      ap₂ (λ b x. cond b i x) (h (farthest less score i) i (far-under less score i) (le-refl (suc i)) ∙ ap (λ x. less' (score' x) (score' i)) same) same
+
+pub farthest-cong : {A : Type 0} (less : A → A → Bool) (score score' : ℕ → A) (m : ℕ) → ((i : ℕ) → i < m → score i ≡ score' i) → farthest less score m ≡ farthest less score' m
+farthest-cong less score score' m h = farthest-agree less score less score' m (λ j i l r. ap₂ less (h j l) (h i r))
+
+module _ {A : Type 0} {less : A → A → Bool} (strict : Strict less) (score : ℕ → A) where
+  self : (x : A) → less x x ≡ false
+  self x = refuted (less x x) (λ t. clash t (strict .one-way x x t))
+
+  pub farthest-most : (m i : ℕ) → i < m → less (score (farthest less score m)) (score i) ≡ false
+  unfolding farthest
+  farthest-most zero i h = absurd (omega arith)
+  farthest-most (suc m) i h =
+      let j = farthest less score m in
+      choice (λ x. less (score x) (score i) ≡ false) (less (score j) (score m))
+      (λ t. below-more (λ i. less (score m) (score i) ≡ false) m (λ k l. strict .through (score m) (score j) (score k) (strict .one-way (score j) (score m) t) (farthest-most m k l)) (self (score m)) i (omega arith))
+      (λ t. below-more (λ i. less (score j) (score i) ≡ false) m (farthest-most m) t i (omega arith))
+
+  pub farthest-lowest : (m i : ℕ) → i < farthest less score m → less (score i) (score (farthest less score m)) ≡ true
+  unfolding farthest
+  farthest-lowest zero i h = absurd (omega arith)
+  farthest-lowest (suc m) i h =
+      let j = farthest less score m in
+      choice (λ x. i < x → less (score i) (score x) ≡ true) (less (score j) (score m))
+      (λ t l. affirmed (less (score i) (score m)) (λ f. clash t (strict .through (score j) (score i) (score m) (farthest-most m i l) f)))
+      (λ t. farthest-lowest m i)
+      h
+
+-- ---- the near row
+
+module _ {A : Type 0} (less : A → A → Bool) (w : ℕ → ℕ) (score : ℕ → A) where
+  pub nearest-farthest : (m : ℕ) → nearest less w score m ≡ farthest (replaces less w score) (λ i. i) m
+  unfolding nearest farthest
+  nearest-farthest zero = refl
+  nearest-farthest (suc i) = ap (λ j. cond (replaces less w score j i) i j) (nearest-farthest i)
+
+  pub nearest-within : (m : ℕ) → 0 < m → nearest less w score m < m
+  nearest-within m h = rw nearest-farthest (farthest-within (replaces less w score) (λ i. i) m h)
+
+  replaces-true : (j i : ℕ) → replaces less w score j i ≡ true → (0 < w i) × (0 < w j → less (score i) (score j) ≡ true)
+  unfolding replaces
+  replaces-true j i h =
+      let p = both (ltb 0 (w i)) (eqb (w j) 0 || less (score i) (score j)) h in
+      (ltb-true 0 (w i) (p .0), λ k. ap (λ b. b || less (score i) (score j)) (sym (ne-eqb (w j) 0 (omega arith))) ∙ p .1)
+
+  replaces-false : (j i : ℕ) → replaces less w score j i ≡ false → 0 < w i → (0 < w j) × (less (score i) (score j) ≡ false)
+  unfolding replaces
+  replaces-false j i h k =
+      let p = ||-false (eqb (w j) 0) (less (score i) (score j)) (ap (λ b. b && (eqb (w j) 0 || less (score i) (score j))) (sym (lt-ltb 0 (w i) k)) ∙ h) in
+      (omega (arith, eqb-false (w j) 0 (p .0)), p .1)
+
+module _ {A : Type 0} (less : A → A → Bool) (w w' : ℕ → ℕ) (score score' : ℕ → A) where
+  replaces-cong : (m : ℕ) → ((i : ℕ) → i < m → w i ≡ w' i) → ((i : ℕ) → i < m → score i ≡ score' i) → (j i : ℕ) → j < m → i < m → replaces less w score j i ≡ replaces less w' score' j i
+  unfolding replaces
+  replaces-cong m h k j i l r = ap₂ _&&_ (ap (ltb 0) (h i r)) (ap₂ _||_ (ap (λ x. eqb x 0) (h j l)) (ap₂ less (k i r) (k j l)))
+
+  pub nearest-cong : (m : ℕ) → ((i : ℕ) → i < m → w i ≡ w' i) → ((i : ℕ) → i < m → score i ≡ score' i) → nearest less w score m ≡ nearest less w' score' m
+  nearest-cong m h k =
+      nearest-farthest less w score m ∙
+      farthest-agree (replaces less w score) (λ i. i) (replaces less w' score') (λ i. i) m (replaces-cong m h k) ∙
+      sym (nearest-farthest less w' score' m)
+
+module _ {A : Type 0} {less : A → A → Bool} (strict : Strict less) (w : ℕ → ℕ) (score : ℕ → A) where
+  replaces-strict : Strict (replaces less w score)
+  replaces-strict = record { one-way = one-way; through = through }
+    where
+      one-way : (x y : ℕ) → replaces less w score x y ≡ true → replaces less w score y x ≡ false
+      one-way x y h = refuted (replaces less w score y x) (λ t.
+          let p = replaces-true less w score x y h in
+          let q = replaces-true less w score y x t in
+          clash (p .1 (q .0)) (strict .one-way (score x) (score y) (q .1 (p .0))))
+
+      through : (x y z : ℕ) → replaces less w score x y ≡ false → replaces less w score y z ≡ false → replaces less w score x z ≡ false
+      through x y z h k = refuted (replaces less w score x z) (λ t.
+          let p = replaces-true less w score x z t in
+          let q = replaces-false less w score y z k (p .0) in
+          let r = replaces-false less w score x y h (q .0) in
+          clash (p .1 (r .0)) (strict .through (score z) (score y) (score x) (q .1) (r .1)))
+
+  near-most : (m i : ℕ) → i < m → 0 < w i → (0 < w (nearest less w score m)) × (less (score i) (score (nearest less w score m)) ≡ false)
+  near-most m i h k = rw nearest-farthest
+      (replaces-false less w score (farthest (replaces less w score) (λ i. i) m) i (farthest-most replaces-strict (λ i. i) m i h) k)
+
+  pub nearest-weighted : (m i : ℕ) → i < m → 0 < w i → 0 < w (nearest less w score m)
+  nearest-weighted m i h k = near-most m i h k .0
+
+  pub nearest-least : (m i : ℕ) → i < m → 0 < w i → less (score i) (score (nearest less w score m)) ≡ false
+  nearest-least m i h k = near-most m i h k .1
+
+  pub nearest-lowest : (m i : ℕ) → i < nearest less w score m → 0 < w i → less (score (nearest less w score m)) (score i) ≡ true
+  nearest-lowest m i = rw nearest-farthest
+      (λ h k. replaces-true less w score i (farthest (replaces less w score) (λ i. i) m) (farthest-lowest replaces-strict (λ i. i) m i h) .1 k)
+
+-- ---- over ℕ
+
+pub farthest-mostℕ : (s : ℕ → ℕ) (m i : ℕ) → i < m → s i ≤ s (farthest ltb s m)
+farthest-mostℕ s m i h = ltb-false (s (farthest ltb s m)) (s i) (farthest-most ltb-strict s m i h)
+
+pub farthest-lowestℕ : (s : ℕ → ℕ) (m i : ℕ) → i < farthest ltb s m → s i < s (farthest ltb s m)
+farthest-lowestℕ s m i h = ltb-true (s i) (s (farthest ltb s m)) (farthest-lowest ltb-strict s m i h)
+
+pub nearest-leastℕ : (w s : ℕ → ℕ) (m i : ℕ) → i < m → 0 < w i → s (nearest ltb w s m) ≤ s i
+nearest-leastℕ w s m i h k = ltb-false (s i) (s (nearest ltb w s m)) (nearest-least ltb-strict w s m i h k)
+
+pub nearest-lowestℕ : (w s : ℕ → ℕ) (m i : ℕ) → i < nearest ltb w s m → 0 < w i → s (nearest ltb w s m) < s i
+nearest-lowestℕ w s m i h k = ltb-true (s (nearest ltb w s m)) (s i) (nearest-lowest ltb-strict w s m i h k)
+
+-- ---- the largest
+
+pub largest-cong : (f g : ℕ → ℕ) (m : ℕ) → ((i : ℕ) → i < m → f i ≡ g i) → largest m f ≡ largest m g
+unfolding largest
+largest-cong f g zero h = refl
+largest-cong f g (suc m) h = omega (arith, largest-cong f g m (λ i l. h i (omega arith)), h m (le-refl (suc m)))
+
+module _ (f : ℕ → ℕ) where
+  pub largest-most : (m i : ℕ) → i < m → f i ≤ largest m f
+  unfolding largest
+  largest-most zero i h = absurd (omega arith)
+  largest-most (suc m) i h = below-more (λ i. f i ≤ largest (suc m) f) m (λ k l. omega (arith, largest-most m k l)) (omega arith) i (omega arith)
+
+  pub largest-below : (m B : ℕ) → ((i : ℕ) → i < m → f i ≤ B) → largest m f ≤ B
+  unfolding largest
+  largest-below zero B h = omega arith
+  largest-below (suc m) B h = omega (arith, largest-below m B (λ i l. h i (omega arith)), h m (le-refl (suc m)))
+
+  pub largest-farthest : (m : ℕ) → 0 < m → largest m f ≡ f (farthest ltb f m)
+  largest-farthest m h = omega (arith, largest-below m (f (farthest ltb f m)) (farthest-mostℕ f m), largest-most m (farthest ltb f m) (farthest-within ltb f m h))
+
+  pub largest-reached : (m : ℕ) → 0 < m → (i : ℕ) × (i < m) × (f i ≡ largest m f)
+  largest-reached m h = (farthest ltb f m, farthest-within ltb f m h, sym (largest-farthest m h))

@@ -1,0 +1,85 @@
+//! What a comparison has run through.
+
+use outside::cases::{Answer, Case};
+use std::collections::BTreeMap;
+use std::fmt::Debug;
+
+#[derive(Default)]
+pub struct Tally {
+    pub sets: u64,
+    /// Sets of as many rows and channels as the limits allow.
+    pub full_sets: u64,
+    pub draws: u64,
+    pub checks: u64,
+    pub moves: u64,
+    pub rivals: u64,
+    pub close_rivals: u64,
+    /// How often each outcome and each kind of input was met, by name.
+    pub reached: BTreeMap<String, u64>,
+}
+
+/// The outcomes that a comparison must have reached.
+const OUTCOMES: [&str; 10] = [
+    "draw: Settled",
+    "draw: Budget",
+    "draw: refusal 8",
+    "draw: refusal 9",
+    "draw: refusal 13",
+    "check: Settled",
+    "check: not Settled",
+    "check: refusal 8",
+    "check: refusal 12",
+    "check: refusal 13",
+];
+
+impl Tally {
+    pub fn count(&mut self, case: &Case, answer: &Answer) {
+        let (call, unsettled) = match case {
+            Case::Draw(..) => ("draw", "Budget"),
+            Case::Check(..) => ("check", "not Settled"),
+        };
+        match case {
+            Case::Draw(..) => self.draws += 1,
+            Case::Check(..) => self.checks += 1,
+        }
+        self.moves += u64::from(answer.moves);
+        let outcome = match (answer.number, answer.settled) {
+            (0, true) => "Settled".to_string(),
+            (0, false) => unsettled.to_string(),
+            (number, _) => format!("refusal {number}"),
+        };
+        self.reach(format!("{call}: {outcome}"));
+    }
+
+    pub fn count_kind(&mut self, group: &str, kind: impl Debug) {
+        self.reach(format!("{group}: {kind:?}"));
+    }
+
+    fn reach(&mut self, name: String) {
+        *self.reached.entry(name).or_default() += 1;
+    }
+
+    pub fn print(&self) {
+        println!(
+            "sets: {}, of 256 rows and 8 channels: {}",
+            self.sets, self.full_sets
+        );
+        println!("draws compared: {}", self.draws);
+        println!("checks compared: {}", self.checks);
+        println!("moves in all: {}", self.moves);
+        println!("rivals tried: {}", self.rivals);
+        println!("rivals within a thousandth: {}", self.close_rivals);
+        for (name, count) in &self.reached {
+            println!("{name}: {count}");
+        }
+    }
+
+    /// Stops the tests where an outcome, or one of the named kinds, was never met.
+    pub fn require(&self, kinds: impl Iterator<Item = String>) {
+        let outcomes = OUTCOMES.iter().map(|name| name.to_string());
+        for name in outcomes.chain(kinds) {
+            assert!(self.reached.contains_key(&name), "never met: {name}");
+        }
+        assert!(self.close_rivals > 0, "no rival was near-optimal");
+    }
+}
