@@ -12,7 +12,6 @@ use Prim.Native.Nat.{ℕ, _+_, _*_, _≤_, _<_, zero-le}
 use mathlib.Core.Path.{_≡_, refl, sym, _∙_, ap, ap₂}
 use mathlib.Core.List.{List}
 use native.Mathlib.Omega.{arith}
-use native.Mathlib.Decide.{decLt}
 use native.Mathlib.Nat.{mul-le-mul, mul-le-mul-left, mul-comm, mul-assoc, eq-of-mul-eq-mul-left}
 use lib.IntN.{ℤ, pos, natAbs, negℤ, _+ℤ_, _-ℤ_, _*ℤ_, +ℤ-idr, *ℤ-zero}
 use lib.ListN.{getD}
@@ -27,7 +26,7 @@ use Rattle.geometry.specs.Move.{weightOf}
 use Rattle.geometry.specs.Limits.{total, coordinateLimit, centreLimit, distanceLimit, channelLimit, coordinate}
 use Rattle.geometry.specs.Places.{centreList, centreOf, weightsTotal}
 use Rattle.geometry.specs.Asked.{CentreWithin, Table, WeightsOf}
-use Rattle.geometry.specs.PlacesLaws.{centreList-at, centreList-past}
+use Rattle.geometry.specs.PlacesLaws.{centreList-at, centreList-most}
 
 -- ---- squared lengths
 
@@ -79,14 +78,8 @@ module _ {rows : List ℤ} {m n : ℕ} {ws : List ℕ} (t : Table rows m n) (g :
       centre-most total m coordinateLimit k (coordinate rows n) (weightOf ws) (g .sum) (λ i h. t .bound i k h l)
 
   pub centre-within : CentreWithin (centreList n (scaledCentre (coordinate rows n) (weightOf ws) m))
-  centre-within = record { bound = λ k. go k (decLt k n) }
-    where
-      X : ℕ → ℤ
-      X = scaledCentre (coordinate rows n) (weightOf ws) m
-
-      go : (k : ℕ) → Dec (k < n) → natAbs (centreOf (centreList n X) k) ≤ centreLimit total
-      go k (yes l) = omega (arith, ap natAbs (centreList-at n X k (t .channels) l), centre-at-most k l)
-      go k (no l) = omega (arith, ap natAbs (centreList-past n X k (omega arith)))
+  centre-within =
+      record { bound = centreList-most n (centreLimit total) (scaledCentre (coordinate rows n) (weightOf ws) m) (t .channels) centre-at-most }
 
 -- ---- the moment of weighted rows about any point
 

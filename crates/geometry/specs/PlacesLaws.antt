@@ -3,6 +3,7 @@
 --     length-centreList                       X has eight places
 --     centreList-at, centreList-past          its places below n are X, those past n are 0
 --     centreList-by                           a list with these places is X's
+--     centreList-most                         a bound on X is one on all places
 --     centreList-cong                         only the places below n count
 use Prim.Native.Nat.{ℕ, zero, suc, _≤_, _<_}
 use mathlib.Core.Path.{_≡_, refl, sym, _∙_, ap}
@@ -13,7 +14,7 @@ use native.Mathlib.Omega.{arith}
 use native.Mathlib.Decide.{decLt}
 use borrow.Author.Tests.{lt-ltb, le-ltb}
 use lib.Dec.{ltb}
-use lib.IntN.{ℤ, pos}
+use lib.IntN.{ℤ, pos, natAbs}
 use lib.ListN.{length, getD, length-append, List·getD-append, List·getD-eq-default}
 use lib.Seq.{getD-at, ext-getD}
 use Rattle.integers.specs.SumLaws.{last-or-below}
@@ -72,6 +73,14 @@ module _ (n : ℕ) (X : ℕ → ℤ) where
       same : (k : ℕ) → k < 8 → Dec (k < n) → getD l k (pos 0) ≡ getD (centreList n X) k (pos 0)
       same k h (yes b) = at k b ∙ sym (getD-centreList k h ∙ place-at k b)
       same k h (no b) = past k (omega arith) ∙ sym (getD-centreList k h ∙ place-past k (omega arith))
+
+-- a bound on X is one on all places
+pub centreList-most : (n C : ℕ) (X : ℕ → ℤ) → n ≤ 8 → ((k : ℕ) → k < n → natAbs (X k) ≤ C) → (k : ℕ) → natAbs (centreOf (centreList n X) k) ≤ C
+centreList-most n C X most h k = go (decLt k n)
+  where
+    go : Dec (k < n) → natAbs (centreOf (centreList n X) k) ≤ C
+    go (yes l) = omega (arith, ap natAbs (centreList-at n X k most l), h k l)
+    go (no l) = omega (arith, ap natAbs (centreList-past n X k (omega arith)))
 
 pub centreList-cong : (n : ℕ) (X Y : ℕ → ℤ) → n ≤ 8 → ((k : ℕ) → k < n → X k ≡ Y k) → centreList n X ≡ centreList n Y
 centreList-cong n X Y most h =
