@@ -7,8 +7,9 @@ use borrow.Author.Needs.{needs}
 use borrow.Author.Tests.{not-true, not-false}
 use Rattle.refusal.specs.declared.Outcome.the-variants.{Accepted}
 use Rattle.geometry.specs.Asked.{WeightsOf}
-use Rattle.geometry.specs.Limits.{total, rowLimit, rowsWithin}
+use Rattle.geometry.specs.Limits.{rowLimit, rowsWithin}
 use Rattle.ball.specs.Check.{notChecked}
+use Rattle.ball.specs.Demand.{check-promise}
 use Rattle.ball.specs.DrawLaws.{checking-limits, checking-places, checking-sum, checking-checked}
 use Rattle.geometry.specs.TableLaws.{within-table}
 use Rattle.ball.proofs.check.check.Statement.{statement}
@@ -29,10 +30,10 @@ not-checked-requires c κs = search needs
 
 returns : tie.Need-returns
 returns c =
-    let a = c .before .before .before .before .before .args in
     let outside = sym (c .before .before .before .rows-within .ensures) ∙ not-true _ (c .before .before .if1 .taken) in
-    c .not-checked .ensures ∙ ap notChecked (c .before .refused-at .ensures) ∙
-    sym (checking-limits total rowLimit (a .rows .now) (a .m) (a .n) (a .weights .now) outside)
+    check-promise _ _ _ _ _
+    (c .not-checked .ensures ∙ ap notChecked (c .before .refused-at .ensures) ∙
+    sym (checking-limits _ _ _ _ _ _ outside))
 
 refused-at-requires-2 : tie.Need-refused-at-requires-2
 refused-at-requires-2 c κs = search needs
@@ -42,9 +43,9 @@ not-checked-requires-2 c κs = search needs
 
 returns-2 : tie.Need-returns-2
 returns-2 c =
-    let a = c .before .before .before .before .before .before .args in
-    c .not-checked2 .ensures ∙ ap notChecked (c .before .refused-at2 .ensures) ∙
-    sym (checking-places total rowLimit (a .rows .now) (a .m) (a .n) (a .weights .now) (within (c .before .before .before)) (c .before .before .if2 .taken))
+    check-promise _ _ _ _ _
+    (c .not-checked2 .ensures ∙ ap notChecked (c .before .refused-at2 .ensures) ∙
+    sym (checking-places _ _ _ _ _ _ (within (c .before .before .before)) (c .before .before .if2 .taken)))
 
 weights-total-requires : tie.Need-weights-total-requires
 weights-total-requires c κs = omega (arith, within-table _ _ _ (within (c .before)) .rows-most, c .if2 .left)
@@ -60,10 +61,11 @@ not-checked-requires-3 c κs = search needs
 
 returns-3 : tie.Need-returns-3
 returns-3 c =
-    let a = c .before .before .before .before .before .before .before .before .args in
-    c .not-checked3 .ensures ∙ ap notChecked (c .before .refused-at3 .ensures) ∙
-    sym (checking-sum total rowLimit (a .rows .now) (a .m) (a .n) (a .weights .now) (within (c .before .before .before .before .before)) (c .before .before .before .before .if2 .left)
-    (λ e. c .before .before .if3 .taken (c .before .before .before .weights-total .ensures ∙ e)))
+    let tested = c .before .before in
+    check-promise _ _ _ _ _
+    (c .not-checked3 .ensures ∙ ap notChecked (c .before .refused-at3 .ensures) ∙
+    sym (checking-sum _ _ _ _ _ _ (within (tested .before .before .before)) (tested .before .before .if2 .left)
+    (λ e. tested .if3 .taken (tested .before .weights-total .ensures ∙ e))))
 
 -- past the last test the weights sum to the total
 good : (c : tie.Else3) → let a = c .before .before .before .before .before .before .args in WeightsOf (a .m) (a .weights .now)
@@ -85,9 +87,9 @@ ball-of-requires c κs =
 returns-4 : tie.Need-returns-4
 returns-4 c =
     let e = c .before .before .before .before in
-    let a = e .before .before .before .before .before .before .args in
-    ap (λ b. record { outcome = Accepted; ball = b }) (c .ball-of .ensures) ∙
-    sym (checking-checked total rowLimit (a .rows .now) (a .m) (a .n) (a .weights .now) (within (e .before .before .before)) (e .before .before .if2 .left) (good e .sum))
+    check-promise _ _ _ _ _
+    (ap (λ b. record { outcome = Accepted; ball = b }) (c .ball-of .ensures) ∙
+    sym (checking-checked _ _ _ _ _ _ (within (e .before .before .before)) (e .before .before .if2 .left) (good e .sum)))
 
 pub check-spec : {M : Type 1} → statement M
 check-spec =

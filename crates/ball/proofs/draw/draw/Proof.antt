@@ -3,8 +3,9 @@ use mathlib.Core.Path.{_≡_, sym, _∙_, ap}
 use mathlib.Core.Bool.{true}
 use borrow.Author.Needs.{needs}
 use borrow.Author.Tests.{not-true, not-false}
-use Rattle.geometry.specs.Limits.{total, rowLimit, rowsWithin}
+use Rattle.geometry.specs.Limits.{rowLimit, rowsWithin}
 use Rattle.ball.specs.Draw.{notDrawn}
+use Rattle.ball.specs.Demand.{draw-promise}
 use Rattle.ball.specs.DrawLaws.{drawing-limits, drawing-budget, drawing-drawn}
 use Rattle.geometry.specs.TableLaws.{within-table}
 use Rattle.ball.proofs.draw.draw.Statement.{statement}
@@ -25,10 +26,10 @@ not-drawn-requires c κs = search needs
 
 returns : tie.Need-returns
 returns c =
-    let a = c .before .before .before .before .args in
     let outside = sym (c .before .before .before .rows-within .ensures) ∙ not-true _ (c .before .before .if1 .taken) in
-    c .not-drawn .ensures ∙ ap (notDrawn rowLimit) (c .before .refused-at .ensures) ∙
-    sym (drawing-limits total rowLimit (a .rows .now) (a .m) (a .n) (a .budget) outside)
+    draw-promise _ _ _ _ _
+    (c .not-drawn .ensures ∙ ap (notDrawn rowLimit) (c .before .refused-at .ensures) ∙
+    sym (drawing-limits _ _ _ _ _ _ outside))
 
 refused-at-requires-2 : tie.Need-refused-at-requires-2
 refused-at-requires-2 c κs = search needs
@@ -38,18 +39,18 @@ not-drawn-requires-2 c κs = search needs
 
 returns-2 : tie.Need-returns-2
 returns-2 c =
-    let a = c .before .before .before .before .before .args in
-    c .not-drawn2 .ensures ∙ ap (notDrawn rowLimit) (c .before .refused-at2 .ensures) ∙
-    sym (drawing-budget total rowLimit (a .rows .now) (a .m) (a .n) (a .budget) (within (c .before .before .before)) (c .before .before .if2 .taken))
+    draw-promise _ _ _ _ _
+    (c .not-drawn2 .ensures ∙ ap (notDrawn rowLimit) (c .before .refused-at2 .ensures) ∙
+    sym (drawing-budget _ _ _ _ _ _ (within (c .before .before .before)) (c .before .before .if2 .taken)))
 
 drawn-within-requires : tie.Need-drawn-within-requires
 drawn-within-requires c κs = within-table _ _ _ (within (c .before))
 
 returns-3 : tie.Need-returns-3
 returns-3 c =
-    let a = c .before .before .before .before .args in
-    c .drawn-within .ensures ∙
-    sym (drawing-drawn total rowLimit (a .rows .now) (a .m) (a .n) (a .budget) (within (c .before .before)) (c .before .if2 .left))
+    draw-promise _ _ _ _ _
+    (c .drawn-within .ensures ∙
+    sym (drawing-drawn _ _ _ _ _ _ (within (c .before .before)) (c .before .if2 .left)))
 
 pub draw-spec : {M : Type 1} → statement M
 draw-spec =
