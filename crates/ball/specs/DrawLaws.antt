@@ -1,5 +1,6 @@
 -- Laws of the drawing and the check.
 --     run-zero, run-stop, run-step                   a run with no move left, from weights that stop it, and from others
+--     run-spent                                      the moves of a run are at most its budget, and all of it where nothing stopped it
 --     goes-on, stops                                 the test for another move
 --     is-settled, not-settled                        whether the weights of a list are Settled
 --     runFrom-end, runFrom-move                      the moves of document 01 where no other move is made, and where one is
@@ -9,16 +10,16 @@
 --     drawing-limits, -budget, -drawn                the three answers of a drawing
 --     checking-limits, -places, -sum, -checked       the four answers of a check
 use Prim.Native.Nat.{ℕ, zero, suc, _+_, _-_, _≤_, _<_}
-use mathlib.Core.Path.{_≡_, refl, sym, _∙_, ap, ap₂}
+use mathlib.Core.Path.{_≡_, refl, sym, _∙_, ap, subst}
 use mathlib.Core.Bool.{Bool, true, false, _&&_}
 use mathlib.Core.List.{List}
 use mathlib.Core.Logic.{_⊎_, inl, inr}
 use native.Mathlib.Numerals.{add-one}
 use native.Mathlib.Omega.{arith}
 use borrow.Author.Tests.{ltb-true, ltb-false, le-leb, lt-leb, eq-eqb, ne-eqb}
-use lib.Dec.{leb, ltb}
+use lib.Dec.{ltb}
 use lib.IntN.{ℤ}
-use lib.ListN.{length, getD, set, replicate, length-set, length-replicate, getD-replicate}
+use lib.ListN.{length, replicate, length-set, length-replicate, getD-replicate}
 use Rattle.integers.specs.Sum.{sumℕ}
 use Rattle.integers.specs.SumLaws.{sumℕ-set, sumℕ-zero, sumℕ-cong}
 use Rattle.refusal.specs.Number.{limits, budget, disagreement}
@@ -53,6 +54,24 @@ module _ (stop : List ℕ → Bool) (next : List ℕ → List ℕ) (made : ℕ) 
   pub run-step : (b : ℕ) → stop ws ≡ false → run stop next (suc b) made ws ≡ run stop next b (suc made) (next ws)
   unfolding run
   run-step b h = rw (h, run)
+
+-- the moves of a run are at most its budget, and exactly that where no weights stopped it
+pub record Spent (stop : List ℕ → Bool) (made b : ℕ) (r : Run) : Type 0 where
+  pub most : r .moves ≤ made + b
+  pub all : stop (r .weights) ≡ false → r .moves ≡ made + b
+
+module _ (stop : List ℕ → Bool) (next : List ℕ → List ℕ) where
+  pub run-spent : (b made : ℕ) (ws : List ℕ) → Spent stop made b (run stop next b made ws)
+  run-spent zero made ws = subst (Spent stop made 0) (sym (run-zero stop next made ws)) record { most = omega arith; all = λ _. omega arith }
+  run-spent (suc b) made ws = go (stop ws) refl (run-spent b (suc made) (next ws))
+    where
+      go : (s : Bool) → stop ws ≡ s → Spent stop (suc made) b (run stop next b (suc made) (next ws)) → Spent stop made (suc b) (run stop next (suc b) made ws)
+      go true e rest =
+          subst (Spent stop made (suc b)) (sym (run-stop stop next made ws (suc b) e))
+          record { most = omega arith; all = λ f. (let z : _≡_ {A = ℕ} 0 1 = cc in absurd (omega arith)) }
+      go false e rest =
+          subst (Spent stop made (suc b)) (sym (run-step stop next made ws b e))
+          record { most = omega arith; all = λ f. omega (arith, rest .all f) }
 
 -- ---- the moves of document 01; another move is made where g is above d² and the budget is not used
 

@@ -2,9 +2,9 @@
 ghost use mathlib.Core.Path.{_≡_};
 ghost use Prim.Native.Nat.{_≤_};
 ghost use lib.ListN.{length};
-ghost use Rattle.geometry.specs.Limits.{total, rowLimit};
 ghost use Rattle.geometry.specs.Places.{weightsTotal};
-ghost use Rattle.ball.specs.Check.{notChecked, checking};
+ghost use Rattle.ball.specs.Check.{notChecked};
+ghost use Rattle.ball.specs.Demand.{CheckPromise};
 use crate::Checked;
 use crate::draw::ball_of;
 use crate::draw::no_ball;
@@ -37,7 +37,7 @@ fn not_checked(outcome: Outcome) -> Checked
 
 // The figures of the weights that the caller lends, one for each of the first m rows of n channels. Refused: 8, then 12.
 pub fn check(rows: &[i32], m: usize, n: usize, weights: &[u32]) -> Checked
-    ensures { λ r. ⌜ r ≡ checking total rowLimit (now (rows .entry)) m n (now (weights .entry)) ⌝ }
+    ensures { λ r. ⌜ CheckPromise (now (rows .entry)) m n (now (weights .entry)) r ⌝ }
 {
     if !rows_within(rows, m, n) {
         return not_checked(refusal::refused_at(refusal::LIMITS, 0));

@@ -7,10 +7,11 @@ ghost use Rattle.geometry.specs.Move.{weightOf};
 ghost use Rattle.geometry.specs.Limits.{total, rowLimit, coordinate};
 ghost use Rattle.geometry.specs.Places.{centreList};
 ghost use Rattle.ball.specs.Ball.{ballOf, noBall};
-ghost use Rattle.ball.specs.Draw.{start, runFrom, drawn, drawing, notDrawn};
+ghost use Rattle.ball.specs.Draw.{start, runFrom, drawn, notDrawn};
 ghost use Rattle.geometry.specs.Asked.{Table, WeightsOf};
 ghost use Rattle.moves.specs.Given.{Paired};
 ghost use Rattle.ball.specs.Ran.{Ran};
+ghost use Rattle.ball.specs.Demand.{DrawPromise};
 ghost use Rattle.refusal.specs.Outcome.{refused};
 use crate::Ball;
 use crate::Drawing;
@@ -139,7 +140,7 @@ fn drawn_within(rows: &[i32], m: usize, n: usize, budget: u32) -> Drawing
 
 // The drawing of the first m rows of n channels with a budget of moves. Refused: 8, then 9.
 pub fn draw(rows: &[i32], m: usize, n: usize, budget: u32) -> Drawing
-    ensures { λ r. ⌜ r ≡ drawing total rowLimit (now (rows .entry)) m n budget ⌝ }
+    ensures { λ r. ⌜ DrawPromise (now (rows .entry)) m n budget r ⌝ }
 {
     if !rows_within(rows, m, n) {
         return not_drawn(refusal::refused_at(refusal::LIMITS, 0));

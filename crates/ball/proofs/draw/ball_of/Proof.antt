@@ -1,0 +1,16 @@
+-- `ball::draw::ball_of` meets its contract: M is s of the far row, and the weights are Settled by the test of the definition.
+use borrow.Author.Needs.{needs}
+use Rattle.ball.proofs.Laws.{gathered}
+use Rattle.ball.proofs.draw.ball_of.Statement.{statement}
+use Rattle.ball.proofs.draw.ball_of.Tie as tie
+
+lower-bound-requires : tie.Need-lower-bound-requires
+lower-bound-requires c κs = search needs
+
+returns : tie.Need-returns
+returns c =
+    let asked = c .before .before .before .before .pre in
+    gathered (asked .0) (asked .1 .1 .0) (asked .1 .1 .1) (c .before .lower-bound .ensures)
+
+pub ball-of-spec : {M : Type 1} → statement M
+ball-of-spec = tie.close (tie.spec lower-bound-requires returns)
