@@ -34,8 +34,8 @@ use Rattle.ball.specs.Ran.{Ran}
 use Rattle.ball.specs.DrawLaws.{goes-on, stops, not-settled, runFrom-end, runFrom-move, start-length, start-total, radius-far}
 
 pub record Carried (rows : List ℤ) (m n budget : ℕ) (weights : List ℕ) (centre : List ℤ) (pair : Pair) (moves : ℕ) : Type 0 where
-  pub runs-on : runFrom total n m (coordinate rows n) budget 0 (start rowLimit total)
-      ≡ runFrom total n m (coordinate rows n) (budget - moves) moves weights
+  pub runs-on : runFrom total m n (coordinate rows n) budget 0 (start rowLimit total)
+      ≡ runFrom total m n (coordinate rows n) (budget - moves) moves weights
   pub within : moves ≤ budget
   pub places : length weights ≡ rowLimit
   pub centre-is : centre ≡ centreList n (scaledCentre (coordinate rows n) (weightOf weights) m)
@@ -59,7 +59,7 @@ module _ {rows : List ℤ} {m n : ℕ} (table : Table rows m n) {ws : List ℕ} 
   begins {budget} centres pairs =
       let all-left : budget ≡ budget - 0 = omega arith in
       record {
-        runs-on = ap₂ (λ b ws. runFrom total n m (coordinate rows n) b 0 ws) all-left (sym first);
+        runs-on = ap₂ (λ b ws. runFrom total m n (coordinate rows n) b 0 ws) all-left (sym first);
         within = zero-le;
         places = ap length first ∙ start-length rowLimit total;
         centre-is = centres;
@@ -80,13 +80,13 @@ module _ {rows : List ℤ} {m n budget : ℕ} {weights : List ℕ} {centre : Lis
   abbrev test : Bool
   test = ltb (pair .separation) (pair .difference) && ltb moves budget
 
-  same : test ≡ (ltb (separation total n m a w) (difference total n m a w) && ltb moves budget)
+  same : test ≡ (ltb (separation total m n a w) (difference total m n a w) && ltb moves budget)
   same = ap₂ (λ d g. ltb d g && ltb moves budget) (here .paired .separation-is) (here .paired .difference-is)
 
   pub ends : test ≡ false → Ran rows m n budget record { weights = weights; centre = centre; pair = pair; moves = moves }
   ends h =
-      let done = stops (separation total n m a w) (difference total n m a w) moves budget (sym same ∙ h) in
-      let whole = here .runs-on ∙ runFrom-end total n m a weights budget moves done in
+      let done = stops (separation total m n a w) (difference total m n a w) moves budget (sym same ∙ h) in
+      let whole = here .runs-on ∙ runFrom-end total m n a weights budget moves done in
       record {
         weights-are = sym (ap (λ r. r .weights) whole);
         moves-are = sym (ap (λ r. r .moves) whole);
@@ -99,31 +99,31 @@ module _ {rows : List ℤ} {m n budget : ℕ} {weights : List ℕ} {centre : Lis
   centre-good = subst CentreWithin (sym (here .centre-is)) (centre-within table (here .weights-good))
 
   module _ (goes : test ≡ true) where
-    both : (separation total n m a w < difference total n m a w) × (moves < budget)
-    both = goes-on (separation total n m a w) (difference total n m a w) moves budget (sym same ∙ goes)
+    both : (separation total m n a w < difference total m n a w) × (moves < budget)
+    both = goes-on (separation total m n a w) (difference total m n a w) moves budget (sym same ∙ goes)
 
     pub more : moves < budget
     more = both .1
 
     pub apart : 0 < pair .separation
     apart =
-        let positive = separation-positive total n m a w (lit≤ tt) (table .some-row) (not-settled total n m a weights (both .0)) in
+        let positive = separation-positive total m n a w (lit≤ tt) (table .some-row) (not-settled total m n a weights (both .0)) in
         omega (arith, here .paired)
 
     module _ {t : ℕ} (stepped : Bounded (w (pair .near)) t (cappedStep (pair .difference) (pair .separation) (w (pair .near)))) where
-      pub transfer-is : t ≡ transfer total n m a w
+      pub transfer-is : t ≡ transfer total m n a w
       unfolding transfer
       transfer-is =
           stepped .is
           ∙ ap₂ (λ g d. cappedStep g d (w (pair .near))) (here .paired .difference-is) (here .paired .separation-is)
-          ∙ ap (λ j. cappedStep (difference total n m a w) (separation total n m a w) (w j)) (here .paired .near-is)
+          ∙ ap (λ j. cappedStep (difference total m n a w) (separation total m n a w) (w j)) (here .paired .near-is)
 
       pub transfer-most : t ≤ total
       transfer-most = omega (arith, stepped .most, weight-most (here .weights-good) (pair .near) (here .paired .near-within))
 
-      module _ {later : List ℕ} (move : later ≡ moved total n m a weights) where
+      module _ {later : List ℕ} (move : later ≡ moved total m n a weights) where
         kept : length later ≡ rowLimit
-        kept = ap length move ∙ moved-length total n m a weights ∙ here .places
+        kept = ap length move ∙ moved-length total m n a weights ∙ here .places
 
         pub moved-good : WeightsOf m later
         moved-good =
@@ -131,7 +131,7 @@ module _ {rows : List ℤ} {m n budget : ℕ} {weights : List ℕ} {centre : Lis
               places = omega (arith, kept, table .rows-most);
               sum =
                   ap (weightsTotal m) move
-                  ∙ moved-total total n m a weights (table .some-row) (here .weights-good .places)
+                  ∙ moved-total total m n a weights (table .some-row) (here .weights-good .places)
                   ∙ here .weights-good .sum;
             }
 
@@ -145,7 +145,7 @@ module _ {rows : List ℤ} {m n budget : ℕ} {weights : List ℕ} {centre : Lis
                   ap₂ _+ℤ_
                   (ap (λ y. centreOf y k) (here .centre-is) ∙ centreList-at n (scaledCentre a w m) k (table .channels) l)
                   (ap₂ _*ℤ_ (ap pos transfer-is) (ap₂ (λ i j. a i k -ℤ a j k) (here .paired .far-is) (here .paired .near-is)))
-                  ∙ sym (moved-centre total n m a weights (table .some-row) (here .weights-good .places) k)
+                  ∙ sym (moved-centre total m n a weights (table .some-row) (here .weights-good .places) k)
                   ∙ ap (λ ws. scaledCentre a (weightOf ws) m k) (sym move)
 
           pub again : {p : Pair} → Paired rows m n later p → Carried rows m n budget later x p (moves + 1)
@@ -153,8 +153,8 @@ module _ {rows : List ℤ} {m n budget : ℕ} {weights : List ℕ} {centre : Lis
               record {
                 runs-on =
                     here .runs-on
-                    ∙ runFrom-move total n m a weights budget moves (both .0) more
-                    ∙ ap (runFrom total n m a (budget - (moves + 1)) (moves + 1)) (sym move);
+                    ∙ runFrom-move total m n a weights budget moves (both .0) more
+                    ∙ ap (runFrom total m n a (budget - (moves + 1)) (moves + 1)) (sym move);
                 within = omega (arith, more);
                 places = kept;
                 centre-is = shifted-is;
@@ -168,18 +168,18 @@ module _ {rows : List ℤ} {m n : ℕ} where
   pub gathered : {ws : List ℕ} {centre : List ℤ} {pair : Pair} {bound : ℕ} → Table rows m n
       → centre ≡ centreList n (scaledCentre (coordinate rows n) (weightOf ws) m)
       → Paired rows m n ws pair
-      → bound ≡ scaledLowerBound total n m (coordinate rows n) (weightOf ws)
+      → bound ≡ scaledLowerBound total m n (coordinate rows n) (weightOf ws)
       → record {
         «scaled_centre» = centre;
         «scaled_squared_radius» = pair .distance;
         «scaled_lower_bound» = bound;
         settled = leb (pair .difference) (pair .separation);
-      } ≡ ballOf total n m (coordinate rows n) (weightOf ws)
+      } ≡ ballOf total m n (coordinate rows n) (weightOf ws)
   unfolding ballOf settled
-  gathered {ws} table centres pairs bounds = cc (radius-far total n m (coordinate rows n) (weightOf ws) (table .some-row))
+  gathered {ws} table centres pairs bounds = cc (radius-far total m n (coordinate rows n) (weightOf ws) (table .some-row))
 
   pub drew : {budget : ℕ} {e : Ended} {b : Ball} → Ran rows m n budget e
-      → b ≡ ballOf total n m (coordinate rows n) (weightOf (e .weights))
+      → b ≡ ballOf total m n (coordinate rows n) (weightOf (e .weights))
       → record { outcome = Accepted; ball = b; weights = e .weights; moves = e .moves }
-      ≡ drawn total n m (coordinate rows n) (runFrom total n m (coordinate rows n) budget 0 (start rowLimit total))
+      ≡ drawn total m n (coordinate rows n) (runFrom total m n (coordinate rows n) budget 0 (start rowLimit total))
   drew ran balls = cc

@@ -1,5 +1,5 @@
 -- The figures of a set of weights as a call hands them out.
---     ballOf D n m a w              X, M, L and whether the weights are Settled
+--     ballOf D m n a w              X, M, L and whether the weights are Settled
 --     noBall                        what a refusal hands out: every figure 0
 use Prim.Native.Nat.{ℕ}
 use mathlib.Core.Bool.{false}
@@ -12,12 +12,12 @@ use Rattle.geometry.specs.Places.{centreList}
 use Rattle.ball.specs.declared.Ball.{Ball}
 
 unfoldable pub ballOf : ℕ → ℕ → ℕ → (ℕ → ℕ → ℤ) → (ℕ → ℕ) → Ball
-ballOf D n m a w =
+ballOf D m n a w =
     record {
       «scaled_centre» = centreList n (scaledCentre a w m);
-      «scaled_squared_radius» = scaledSquaredRadius D n m a (scaledCentre a w m);
-      «scaled_lower_bound» = scaledLowerBound D n m a w;
-      settled = settled D n m a w;
+      «scaled_squared_radius» = scaledSquaredRadius D m n a (scaledCentre a w m);
+      «scaled_lower_bound» = scaledLowerBound D m n a w;
+      settled = settled D m n a w;
     }
 
 abbrev pub noBall : Ball

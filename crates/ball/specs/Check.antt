@@ -25,6 +25,6 @@ unfoldable pub checking : ℕ → ℕ → List ℤ → ℕ → ℕ → List ℕ 
 checking D limit rows m n ws =
     choose (rowsWithin limit rows m n && eqb (length ws) m)
     (λ _. choose (eqb (weightsTotal m ws) D)
-    (λ _. record { outcome = Accepted; ball = ballOf D n m (coordinate rows n) (weightOf ws) })
+    (λ _. record { outcome = Accepted; ball = ballOf D m n (coordinate rows n) (weightOf ws) })
     (λ _. notChecked (refused disagreement)))
     (λ _. notChecked (refused limits))

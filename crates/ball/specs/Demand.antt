@@ -1,5 +1,5 @@
 -- Demand 3 of document 01, of what the two calls answer.
---     Tight D n m a b           what demand 3 says of the figures b, with the limits that they keep
+--     Tight D m n a b           what demand 3 says of the figures b, with the limits that they keep
 --     ball-tight                it holds of the figures of any weights of sum D
 --     run-keeps                 what a move keeps, a run keeps
 --     run-total, run-rises      a run keeps the sum of the weights; L rises by at least 1 with each move
@@ -40,21 +40,21 @@ use Rattle.ball.specs.declared.Drawing.{Drawing}
 use Rattle.ball.specs.declared.Checked.{Checked}
 
 -- X, M, L and Settled are b's fields; a i k is row i's coordinate in channel k
-pub record Tight (D n m : ℕ) (a : ℕ → ℕ → ℤ) (b : Ball) : Type 0 where
+pub record Tight (D m n : ℕ) (a : ℕ → ℕ → ℤ) (b : Ball) : Type 0 where
   -- 3.1: every ball that holds all rows, from any centre Y/q, has D² P at least q² L + |q X - D Y|²
-  pub rival-bound : (Y : ℕ → ℤ) (q P : ℕ) → Rival n m a Y q P
+  pub rival-bound : (Y : ℕ → ℤ) (q P : ℕ) → Rival m n a Y q P
       → q * q * b .«scaled_lower_bound» + squaredLength n (λ k. pos q *ℤ centreOf (b .«scaled_centre») k -ℤ pos D *ℤ Y k) ≤ D * D * P
   -- 3.2: s of every row is at most M, s of some row equals M, and L is at most M
   pub every-row : (i : ℕ) → i < m → scaledSquaredDistance D n (centreOf (b .«scaled_centre»)) (a i) ≤ b .«scaled_squared_radius»
   pub some-row : (i : ℕ) × (i < m) × (scaledSquaredDistance D n (centreOf (b .«scaled_centre»)) (a i) ≡ b .«scaled_squared_radius»)
   pub floor : b .«scaled_lower_bound» ≤ b .«scaled_squared_radius»
   -- 3.3: where Settled, the gap is at most D times the largest squared distance between two rows
-  pub gap : b .settled ≡ true → b .«scaled_squared_radius» - b .«scaled_lower_bound» ≤ D * largestSquaredDistance n m a
+  pub gap : b .settled ≡ true → b .«scaled_squared_radius» - b .«scaled_lower_bound» ≤ D * largestSquaredDistance m n a
   -- 2.14: X, M and L are within the limits on envelope figures
   pub centre-limit : (k : ℕ) → natAbs (centreOf (b .«scaled_centre») k) ≤ centreLimit D
   pub radius-limit : b .«scaled_squared_radius» ≤ distanceLimit D
 
-module _ (D n m : ℕ) (a : ℕ → ℕ → ℤ) (w : ℕ → ℕ) (positive : 0 < D) (some : 0 < m) (sum : sumℕ m w ≡ D)
+module _ (D m n : ℕ) (a : ℕ → ℕ → ℤ) (w : ℕ → ℕ) (positive : 0 < D) (some : 0 < m) (sum : sumℕ m w ≡ D)
     (channels : n ≤ channelLimit) (within : (i k : ℕ) → i < m → k < n → natAbs (a i k) ≤ coordinateLimit) where
   centre-at : (k : ℕ) → k < n → centreOf (centreList n (scaledCentre a w m)) k ≡ scaledCentre a w m k
   centre-at k l = centreList-at n (scaledCentre a w m) k channels l
@@ -62,28 +62,28 @@ module _ (D n m : ℕ) (a : ℕ → ℕ → ℤ) (w : ℕ → ℕ) (positive : 0
   distance-at : (i : ℕ) → scaledSquaredDistance D n (centreOf (centreList n (scaledCentre a w m))) (a i) ≡ scaledSquaredDistance D n (scaledCentre a w m) (a i)
   distance-at i = distance-centreList D n (scaledCentre a w m) (a i) channels
 
-  pub ball-tight : Tight D n m a (ballOf D n m a w)
+  pub ball-tight : Tight D m n a (ballOf D m n a w)
   unfolding ballOf
   ball-tight =
       record {
         rival-bound = λ Y q P r.
             le-trans
             (le-of-eq
-            (ap (λ (x : ℕ). q * q * scaledLowerBound D n m a w + x)
+            (ap (λ (x : ℕ). q * q * scaledLowerBound D m n a w + x)
             (squaredLength-cong n (λ k l. ap (λ (x : ℤ). pos q *ℤ x -ℤ pos D *ℤ Y k) (centre-at k l)))))
-            (rival D n m a w positive some sum Y q P r);
-        every-row = λ i l. le-trans (le-of-eq (distance-at i)) (holds-every-row D n m a w positive some sum i l);
+            (rival D m n a w positive some sum Y q P r);
+        every-row = λ i l. le-trans (le-of-eq (distance-at i)) (holds-every-row D m n a w positive some sum i l);
         some-row =
-            let far = reaches-some-row D n m a w positive some sum in
+            let far = reaches-some-row D m n a w positive some sum in
             (far .0, far .1, distance-at (far .0) ∙ far .2);
-        floor = floor-below-ball D n m a w positive some sum;
-        gap = settled-gap D n m a w positive some sum;
+        floor = floor-below-ball D m n a w positive some sum;
+        gap = settled-gap D m n a w positive some sum;
         centre-limit =
             centreList-most n (centreLimit D) (scaledCentre a w m) channels
             (λ k l. centre-most D m coordinateLimit k a w sum (λ i h. within i k h l));
         radius-limit =
             let side = 2 * (coordinateLimit * D) in
-            omega (arith, ball-most D n m a w positive some sum coordinateLimit within, mul-le-mul-right (side * side) channels, mul-assoc channelLimit side side);
+            omega (arith, ball-most D m n a w positive some sum coordinateLimit within, mul-le-mul-right (side * side) channels, mul-assoc channelLimit side side);
       }
 
 -- ---- runs
@@ -100,25 +100,25 @@ module _ (stop : List ℕ → Bool) (next : List ℕ → List ℕ) (P : ℕ → 
       go false e rest = subst (λ (r : Run). P (r .moves) (r .weights)) (sym (run-step stop next made ws b e)) (rest (step made ws e p))
 
 -- what holds after k moves: the list's places, the sum of the weights, and k at most L
-pub record Kept (D n m : ℕ) (a : ℕ → ℕ → ℤ) (k : ℕ) (ws : List ℕ) : Type 0 where
+pub record Kept (D m n : ℕ) (a : ℕ → ℕ → ℤ) (k : ℕ) (ws : List ℕ) : Type 0 where
   pub places : m ≤ length ws
   pub sum : weightsTotal m ws ≡ D
-  pub risen : k ≤ scaledLowerBound D n m a (weightOf ws)
+  pub risen : k ≤ scaledLowerBound D m n a (weightOf ws)
 
-module _ (D n m : ℕ) (a : ℕ → ℕ → ℤ) (positive : 0 < D) (some : 0 < m) where
-  move-kept : (k : ℕ) (ws : List ℕ) → settled D n m a (weightOf ws) ≡ false → Kept D n m a k ws → Kept D n m a (suc k) (moved D n m a ws)
+module _ (D m n : ℕ) (a : ℕ → ℕ → ℤ) (positive : 0 < D) (some : 0 < m) where
+  move-kept : (k : ℕ) (ws : List ℕ) → settled D m n a (weightOf ws) ≡ false → Kept D m n a k ws → Kept D m n a (suc k) (moved D m n a ws)
   move-kept k ws unsettled h =
       record {
-        places = omega (arith, moved-length D n m a ws, h .places);
-        sum = moved-total D n m a ws some (h .places) ∙ h .sum;
+        places = omega (arith, moved-length D m n a ws, h .places);
+        sum = moved-total D m n a ws some (h .places) ∙ h .sum;
         risen =
-            omega (arith, h .risen, rise-some D n m a ws positive some (h .places) (h .sum) unsettled, lower-bound-rises D n m a ws positive some (h .places) (h .sum) unsettled);
+            omega (arith, h .risen, rise-some D m n a ws positive some (h .places) (h .sum) unsettled, lower-bound-rises D m n a ws positive some (h .places) (h .sum) unsettled);
       }
 
-  pub run-kept : (limit b : ℕ) → m ≤ limit → Kept D n m a (runFrom D n m a b 0 (start limit D) .moves) (runFrom D n m a b 0 (start limit D) .weights)
+  pub run-kept : (limit b : ℕ) → m ≤ limit → Kept D m n a (runFrom D m n a b 0 (start limit D) .moves) (runFrom D m n a b 0 (start limit D) .weights)
   unfolding runFrom
   run-kept limit b most =
-      run-keeps (λ ws. settled D n m a (weightOf ws)) (moved D n m a) (Kept D n m a) move-kept b 0 (start limit D)
+      run-keeps (λ ws. settled D m n a (weightOf ws)) (moved D m n a) (Kept D m n a) move-kept b 0 (start limit D)
       (record { places = omega (arith, start-length limit D); sum = start-total limit D m some most; risen = zero-le })
 
 -- ---- the two calls
@@ -135,20 +135,20 @@ module _ (D : ℕ) (rows : List ℤ) (m n b : ℕ) (positive : 0 < D) (accepted 
   unfolding drawing
   drawing-accepted = accepted-draw (rowsWithin rowLimit rows m n) (leb b budgetLimit) rowLimit _ accepted
 
-  drawing-is : drawing D rowLimit rows m n b ≡ drawn D n m (coordinate rows n) (runFrom D n m (coordinate rows n) b 0 (start rowLimit D))
+  drawing-is : drawing D rowLimit rows m n b ≡ drawn D m n (coordinate rows n) (runFrom D m n (coordinate rows n) b 0 (start rowLimit D))
   drawing-is = drawing-drawn D rowLimit rows m n b (drawing-accepted .0) (leb-true b budgetLimit (drawing-accepted .1))
 
   table : Table rows m n
   table = within-table rows m n (drawing-accepted .0)
 
-  kept : Kept D n m (coordinate rows n) (runFrom D n m (coordinate rows n) b 0 (start rowLimit D) .moves) (runFrom D n m (coordinate rows n) b 0 (start rowLimit D) .weights)
-  kept = run-kept D n m (coordinate rows n) positive (table .some-row) rowLimit b (table .rows-most)
+  kept : Kept D m n (coordinate rows n) (runFrom D m n (coordinate rows n) b 0 (start rowLimit D) .moves) (runFrom D m n (coordinate rows n) b 0 (start rowLimit D) .weights)
+  kept = run-kept D m n (coordinate rows n) positive (table .some-row) rowLimit b (table .rows-most)
 
-  pub drawing-tight : Tight D n m (coordinate rows n) (drawing D rowLimit rows m n b .ball)
+  pub drawing-tight : Tight D m n (coordinate rows n) (drawing D rowLimit rows m n b .ball)
   unfolding weightsTotal
   drawing-tight =
-      subst (λ (r : Drawing). Tight D n m (coordinate rows n) (r .ball)) (sym drawing-is)
-      (ball-tight D n m (coordinate rows n) (weightOf (runFrom D n m (coordinate rows n) b 0 (start rowLimit D) .weights)) positive
+      subst (λ (r : Drawing). Tight D m n (coordinate rows n) (r .ball)) (sym drawing-is)
+      (ball-tight D m n (coordinate rows n) (weightOf (runFrom D m n (coordinate rows n) b 0 (start rowLimit D) .weights)) positive
       (table .some-row) (kept .sum) (table .channels) (table .bound))
 
   pub drawing-moves : drawing D rowLimit rows m n b .moves ≤ drawing D rowLimit rows m n b .ball .«scaled_lower_bound»
@@ -172,31 +172,31 @@ module _ (D : ℕ) (rows : List ℤ) (m n : ℕ) (ws : List ℕ) (positive : 0 <
       let first = both (rowsWithin rowLimit rows m n) (eqb (length ws) m) (tests .0) in
       (first .0, eqb-true (length ws) m (first .1), eqb-true (weightsTotal m ws) D (tests .1))
 
-  pub checking-tight : Tight D n m (coordinate rows n) (checking D rowLimit rows m n ws .ball)
+  pub checking-tight : Tight D m n (coordinate rows n) (checking D rowLimit rows m n ws .ball)
   unfolding weightsTotal
   checking-tight =
       let table = within-table rows m n (checking-accepted .0) in
-      subst (λ (r : Checked). Tight D n m (coordinate rows n) (r .ball))
+      subst (λ (r : Checked). Tight D m n (coordinate rows n) (r .ball))
       (sym (checking-checked D rowLimit rows m n ws (checking-accepted .0) (checking-accepted .1) (checking-accepted .2)))
-      (ball-tight D n m (coordinate rows n) (weightOf ws) positive (table .some-row) (checking-accepted .2) (table .channels) (table .bound))
+      (ball-tight D m n (coordinate rows n) (weightOf ws) positive (table .some-row) (checking-accepted .2) (table .channels) (table .bound))
 
 -- ---- what the two calls give
 
 -- a drawing is the defined one, and where it is accepted demand 3 holds of its figures
 pub record DrawPromise (rows : List ℤ) (m n b : ℕ) (r : Drawing) : Type 0 where
   pub is : r ≡ drawing total rowLimit rows m n b
-  pub tight : r .outcome ≡ Accepted → Tight total n m (coordinate rows n) (r .ball)
+  pub tight : r .outcome ≡ Accepted → Tight total m n (coordinate rows n) (r .ball)
   pub moves-most : r .outcome ≡ Accepted → r .moves ≤ r .ball .«scaled_lower_bound»
 
 pub record CheckPromise (rows : List ℤ) (m n : ℕ) (ws : List ℕ) (r : Checked) : Type 0 where
   pub is : r ≡ checking total rowLimit rows m n ws
-  pub tight : r .outcome ≡ Accepted → Tight total n m (coordinate rows n) (r .ball)
+  pub tight : r .outcome ≡ Accepted → Tight total m n (coordinate rows n) (r .ball)
 
 pub draw-promise : (rows : List ℤ) (m n b : ℕ) (r : Drawing) → r ≡ drawing total rowLimit rows m n b → DrawPromise rows m n b r
 draw-promise rows m n b r e =
     record {
       is = e;
-      tight = λ h. subst (λ (x : Drawing). Tight total n m (coordinate rows n) (x .ball)) (sym e)
+      tight = λ h. subst (λ (x : Drawing). Tight total m n (coordinate rows n) (x .ball)) (sym e)
           (drawing-tight total rows m n b (lit< tt) (ap (λ (x : Drawing). x .outcome) (sym e) ∙ h));
       moves-most = λ h. subst (λ (x : Drawing). x .moves ≤ x .ball .«scaled_lower_bound») (sym e)
           (drawing-moves total rows m n b (lit< tt) (ap (λ (x : Drawing). x .outcome) (sym e) ∙ h));
@@ -206,6 +206,6 @@ pub check-promise : (rows : List ℤ) (m n : ℕ) (ws : List ℕ) (r : Checked) 
 check-promise rows m n ws r e =
     record {
       is = e;
-      tight = λ h. subst (λ (x : Checked). Tight total n m (coordinate rows n) (x .ball)) (sym e)
+      tight = λ h. subst (λ (x : Checked). Tight total m n (coordinate rows n) (x .ball)) (sym e)
           (checking-tight total rows m n ws (lit< tt) (ap (λ (x : Checked). x .outcome) (sym e) ∙ h));
     }

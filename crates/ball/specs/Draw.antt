@@ -2,7 +2,7 @@
 --     choose b f g                         f where b holds, else g; only the one chosen is computed
 --     Run, run settled next b made ws      the iteration of a move with a budget of b further moves
 --     start limit D                        all weight on the first row
---     runFrom D n m a b ws                 the moves of document 01 from the weights ws
+--     runFrom D m n a b ws                 the moves of document 01 from the weights ws
 --     drawing D limit rows m n budget      what the call answers
 use Prim.Native.Nat.{ℕ, zero, suc}
 use mathlib.Core.Bool.{Bool, true, false}
@@ -39,12 +39,12 @@ unfoldable pub start : ℕ → ℕ → List ℕ
 start limit D = set (replicate limit 0) 0 D
 
 unfoldable pub runFrom : ℕ → ℕ → ℕ → (ℕ → ℕ → ℤ) → ℕ → ℕ → List ℕ → Run
-runFrom D n m a = run (λ ws. settled D n m a (weightOf ws)) (moved D n m a)
+runFrom D m n a = run (λ ws. settled D m n a (weightOf ws)) (moved D m n a)
 
 -- X, M, L, the weights, the ending and the moves made
 abbrev pub drawn : ℕ → ℕ → ℕ → (ℕ → ℕ → ℤ) → Run → Drawing
-drawn D n m a r =
-    record { outcome = Accepted; ball = ballOf D n m a (weightOf (r .weights)); weights = r .weights; moves = r .moves }
+drawn D m n a r =
+    record { outcome = Accepted; ball = ballOf D m n a (weightOf (r .weights)); weights = r .weights; moves = r .moves }
 
 -- a refusal: every figure and weight 0
 abbrev pub notDrawn : ℕ → Outcome → Drawing
@@ -55,6 +55,6 @@ unfoldable pub drawing : ℕ → ℕ → List ℤ → ℕ → ℕ → ℕ → Dr
 drawing D limit rows m n b =
     choose (rowsWithin limit rows m n)
     (λ _. choose (leb b budgetLimit)
-    (λ _. drawn D n m (coordinate rows n) (runFrom D n m (coordinate rows n) b 0 (start limit D)))
+    (λ _. drawn D m n (coordinate rows n) (runFrom D m n (coordinate rows n) b 0 (start limit D)))
     (λ _. notDrawn limit (refused budget)))
     (λ _. notDrawn limit (refused limits))

@@ -87,35 +87,35 @@ module _ (d g made most : ℕ) where
       either true q f k h = inr (k h)
       either false q f k h = inl (f refl)
 
-module _ (D n m : ℕ) (a : ℕ → ℕ → ℤ) (ws : List ℕ) where
+module _ (D m n : ℕ) (a : ℕ → ℕ → ℤ) (ws : List ℕ) where
   abbrev g : ℕ
-  g = difference D n m a (weightOf ws)
+  g = difference D m n a (weightOf ws)
 
   abbrev d : ℕ
-  d = separation D n m a (weightOf ws)
+  d = separation D m n a (weightOf ws)
 
-  pub is-settled : g ≤ d → settled D n m a (weightOf ws) ≡ true
+  pub is-settled : g ≤ d → settled D m n a (weightOf ws) ≡ true
   unfolding settled
   is-settled h = le-leb g d h
 
-  pub not-settled : d < g → settled D n m a (weightOf ws) ≡ false
+  pub not-settled : d < g → settled D m n a (weightOf ws) ≡ false
   unfolding settled
   not-settled h = lt-leb g d h
 
   module _ (budget made : ℕ) where
-    pub runFrom-end : (g ≤ d) ⊎ (budget ≤ made) → runFrom D n m a (budget - made) made ws ≡ ended ws made
+    pub runFrom-end : (g ≤ d) ⊎ (budget ≤ made) → runFrom D m n a (budget - made) made ws ≡ ended ws made
     unfolding runFrom
     runFrom-end (inl h) = run-stop _ _ made ws (budget - made) (is-settled h)
-    runFrom-end (inr h) = let none : budget - made ≡ 0 = omega arith in ap (λ b. runFrom D n m a b made ws) none ∙ run-zero _ _ made ws
+    runFrom-end (inr h) = let none : budget - made ≡ 0 = omega arith in ap (λ b. runFrom D m n a b made ws) none ∙ run-zero _ _ made ws
 
-    pub runFrom-move : d < g → made < budget → runFrom D n m a (budget - made) made ws ≡ runFrom D n m a (budget - (made + 1)) (made + 1) (moved D n m a ws)
+    pub runFrom-move : d < g → made < budget → runFrom D m n a (budget - made) made ws ≡ runFrom D m n a (budget - (made + 1)) (made + 1) (moved D m n a ws)
     unfolding runFrom
     runFrom-move h l =
         let one-less : budget - made ≡ suc (budget - (made + 1)) = omega arith in
         let one-more : suc made ≡ made + 1 = omega arith in
-        ap (λ b. runFrom D n m a b made ws) one-less ∙
+        ap (λ b. runFrom D m n a b made ws) one-less ∙
         run-step _ _ made ws (budget - (made + 1)) (not-settled h) ∙
-        ap (λ k. runFrom D n m a (budget - (made + 1)) k (moved D n m a ws)) one-more
+        ap (λ k. runFrom D m n a (budget - (made + 1)) k (moved D m n a ws)) one-more
 
 -- ---- the start
 
@@ -148,9 +148,9 @@ pub weightsTotal-next : (i : ℕ) (ws : List ℕ) → weightsTotal (i + 1) ws �
 unfolding weightsTotal sumℕ
 weightsTotal-next i ws = ap (λ k. weightsTotal k ws) (add-one i)
 
-pub radius-far : (D n m : ℕ) (a : ℕ → ℕ → ℤ) (w : ℕ → ℕ) → 0 < m → scaledSquaredRadius D n m a (scaledCentre a w m) ≡ distanceOf D n m a w (farRow D n m a w)
+pub radius-far : (D m n : ℕ) (a : ℕ → ℕ → ℤ) (w : ℕ → ℕ) → 0 < m → scaledSquaredRadius D m n a (scaledCentre a w m) ≡ distanceOf D m n a w (farRow D m n a w)
 unfolding scaledSquaredRadius distanceOf farRow
-radius-far D n m a w some = largest-farthest (distanceOf D n m a w) m some
+radius-far D m n a w some = largest-farthest (distanceOf D m n a w) m some
 
 -- ---- the answers
 
@@ -163,7 +163,7 @@ module _ (D limit : ℕ) (rows : List ℤ) (m n b : ℕ) where
   unfolding drawing
   drawing-budget h k = rw (h, lt-leb b budgetLimit k, drawing)
 
-  pub drawing-drawn : rowsWithin limit rows m n ≡ true → b ≤ budgetLimit → drawing D limit rows m n b ≡ drawn D n m (coordinate rows n) (runFrom D n m (coordinate rows n) b 0 (start limit D))
+  pub drawing-drawn : rowsWithin limit rows m n ≡ true → b ≤ budgetLimit → drawing D limit rows m n b ≡ drawn D m n (coordinate rows n) (runFrom D m n (coordinate rows n) b 0 (start limit D))
   unfolding drawing
   drawing-drawn h k = rw (h, le-leb b budgetLimit k, drawing)
 
@@ -180,6 +180,6 @@ module _ (D limit : ℕ) (rows : List ℤ) (m n : ℕ) (ws : List ℕ) where
   unfolding checking
   checking-sum h k l = rw (h, eq-eqb (length ws) m k, ne-eqb (weightsTotal m ws) D l, checking)
 
-  pub checking-checked : rowsWithin limit rows m n ≡ true → length ws ≡ m → weightsTotal m ws ≡ D → checking D limit rows m n ws ≡ record { outcome = Accepted; ball = ballOf D n m (coordinate rows n) (weightOf ws) }
+  pub checking-checked : rowsWithin limit rows m n ≡ true → length ws ≡ m → weightsTotal m ws ≡ D → checking D limit rows m n ws ≡ record { outcome = Accepted; ball = ballOf D m n (coordinate rows n) (weightOf ws) }
   unfolding checking
   checking-checked h k l = rw (h, eq-eqb (length ws) m k, eq-eqb (weightsTotal m ws) D l, checking)

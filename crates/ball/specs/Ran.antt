@@ -14,8 +14,8 @@ use Rattle.ball.specs.declared.Ended.{Ended}
 
 -- the weights at the end of a run, the X carried beside them, the moves made, and the pair that ended it
 pub record Ran (rows : List ℤ) (m n budget : ℕ) (r : Ended) : Type 0 where
-  pub weights-are : r .weights ≡ runFrom total n m (coordinate rows n) budget 0 (start rowLimit total) .weights
-  pub moves-are : r .moves ≡ runFrom total n m (coordinate rows n) budget 0 (start rowLimit total) .moves
+  pub weights-are : r .weights ≡ runFrom total m n (coordinate rows n) budget 0 (start rowLimit total) .weights
+  pub moves-are : r .moves ≡ runFrom total m n (coordinate rows n) budget 0 (start rowLimit total) .moves
   pub centre-is : r .centre ≡ centreList n (scaledCentre (coordinate rows n) (weightOf (r .weights)) m)
   pub weights-good : WeightsOf m (r .weights)
   pub paired : Paired rows m n (r .weights) (r .pair)

@@ -85,7 +85,7 @@ pub fn ball_of(
     pair: Pair,
 ) -> Ball
     requires { ⌜ Table (now rows) m n × (WeightsOf m (now w) × ((centre ≡ centreList n (scaledCentre (coordinate (now rows) n) (weightOf (now w)) m)) × Paired (now rows) m n (now w) pair)) ⌝ }
-    ensures { λ r. ⌜ r ≡ ballOf total n m (coordinate (now (rows .entry)) n) (weightOf (now (w .entry))) ⌝ }
+    ensures { λ r. ⌜ r ≡ ballOf total m n (coordinate (now (rows .entry)) n) (weightOf (now (w .entry))) ⌝ }
 {
     let bound = lower_bound(rows, m, n, w, &centre);
     Ball {
@@ -123,7 +123,7 @@ fn not_drawn(outcome: Outcome) -> Drawing
 // The drawing of rows within limits with a budget within its limit.
 fn drawn_within(rows: &[i32], m: usize, n: usize, budget: u32) -> Drawing
     requires { ⌜ Table (now rows) m n ⌝ }
-    ensures { λ r. ⌜ r ≡ drawn total n m (coordinate (now (rows .entry)) n) (runFrom total n m (coordinate (now (rows .entry)) n) budget 0 (start rowLimit total)) ⌝ }
+    ensures { λ r. ⌜ r ≡ drawn total m n (coordinate (now (rows .entry)) n) (runFrom total m n (coordinate (now (rows .entry)) n) budget 0 (start rowLimit total)) ⌝ }
 {
     let ended = run(rows, m, n, budget);
     let weights = ended.weights;

@@ -60,7 +60,7 @@ fn squared_length_of_centre(x: &[i64; CHANNELS], n: usize) -> u64
 // The sum of weight times the row's squared length.
 fn weighted_squared_length(rows: &[i32], m: usize, n: usize, w: &[u32]) -> u64
     requires { ⌜ Table (now rows) m n × WeightsOf m (now w) ⌝ }
-    ensures { λ r. ⌜ Bounded 8388608000000 r (weightedSquaredLength n m (coordinate (now (rows .entry)) n) (weightOf (now (w .entry)))) ⌝ }
+    ensures { λ r. ⌜ Bounded 8388608000000 r (weightedSquaredLength m n (coordinate (now (rows .entry)) n) (weightOf (now (w .entry)))) ⌝ }
 {
     let mut sum: u64 = 0;
     let mut i = 0;
@@ -74,7 +74,7 @@ fn weighted_squared_length(rows: &[i32], m: usize, n: usize, w: &[u32]) -> u64
 // L of the weights whose X is x.
 pub fn lower_bound(rows: &[i32], m: usize, n: usize, w: &[u32], x: &[i64; CHANNELS]) -> u64
     requires { ⌜ Table (now rows) m n × (WeightsOf m (now w) × (now x ≡ centreList n (scaledCentre (coordinate (now rows) n) (weightOf (now w)) m))) ⌝ }
-    ensures { λ r. ⌜ r ≡ scaledLowerBound total n m (coordinate (now (rows .entry)) n) (weightOf (now (w .entry))) ⌝ }
+    ensures { λ r. ⌜ r ≡ scaledLowerBound total m n (coordinate (now (rows .entry)) n) (weightOf (now (w .entry))) ⌝ }
 {
     let first = (TOTAL as u64) * weighted_squared_length(rows, m, n, w);
     first - squared_length_of_centre(x, n)

@@ -1,5 +1,5 @@
 -- Demand 3 of document 01, over any rows, any weights of sum D above 0 and m rows above 0, apart from how the weights came about.
---     Rival n m a Y q P       the ball round Y/q of squared radius P/q² holds every row
+--     Rival m n a Y q P       the ball round Y/q of squared radius P/q² holds every row
 --     rival                   3.1: D² P is at least q² L + |q X - D Y|² for every rival
 --     holds-every-row         3.2: s of every row is at most M
 --     reaches-some-row        3.2: s of some row equals M
@@ -24,7 +24,7 @@ use Rattle.geometry.specs.SelectLaws.{largest-most, largest-below, large
 use Rattle.geometry.specs.MoveLaws.{difference-exact, far-within, near-within}
 
 -- P is at least the squared length of (q times row - Y) for every row
-pub record Rival (n m : ℕ) (a : ℕ → ℕ → ℤ) (Y : ℕ → ℤ) (q P : ℕ) : Type 0 where
+pub record Rival (m n : ℕ) (a : ℕ → ℕ → ℤ) (Y : ℕ → ℤ) (q P : ℕ) : Type 0 where
   pub some : 0 < q
   pub holds : (i : ℕ) → i < m → squaredLength n (λ k. pos q *ℤ a i k -ℤ Y k) ≤ P
 
@@ -41,60 +41,60 @@ weighted-least m D B w f sum h =
     at i l (inl e) = omega (arith, ap (λ (x : ℕ). x * B) e)
     at i l (inr p) = mul-le-mul-left (w i) (h i l p)
 
-module _ (D n m : ℕ) (a : ℕ → ℕ → ℤ) (w : ℕ → ℕ) (positive : 0 < D) (some : 0 < m) (sum : sumℕ m w ≡ D) where
-  pub rival : (Y : ℕ → ℤ) (q P : ℕ) → Rival n m a Y q P
-      → q * q * scaledLowerBound D n m a w + squaredLength n (λ k. pos q *ℤ scaledCentre a w m k -ℤ pos D *ℤ Y k) ≤ D * D * P
+module _ (D m n : ℕ) (a : ℕ → ℕ → ℤ) (w : ℕ → ℕ) (positive : 0 < D) (some : 0 < m) (sum : sumℕ m w ≡ D) where
+  pub rival : (Y : ℕ → ℤ) (q P : ℕ) → Rival m n a Y q P
+      → q * q * scaledLowerBound D m n a w + squaredLength n (λ k. pos q *ℤ scaledCentre a w m k -ℤ pos D *ℤ Y k) ≤ D * D * P
   rival Y q P r =
-      le-trans (le-of-eq (sym (moment D n m a w sum positive q Y)))
+      le-trans (le-of-eq (sym (moment D m n a w sum positive q Y)))
       (le-trans (mul-le-mul-left D (weighted-most m D P w (λ i. squaredLength n (λ k. pos q *ℤ a i k -ℤ Y k)) sum (r .holds))) (le-of-eq (sym (mul-assoc D D P))))
 
-  pub holds-every-row : (i : ℕ) → i < m → scaledSquaredDistance D n (scaledCentre a w m) (a i) ≤ scaledSquaredRadius D n m a (scaledCentre a w m)
+  pub holds-every-row : (i : ℕ) → i < m → scaledSquaredDistance D n (scaledCentre a w m) (a i) ≤ scaledSquaredRadius D m n a (scaledCentre a w m)
   unfolding scaledSquaredRadius
   holds-every-row i h = largest-most (λ i. scaledSquaredDistance D n (scaledCentre a w m) (a i)) m i h
 
-  pub reaches-some-row : (i : ℕ) × (i < m) × (scaledSquaredDistance D n (scaledCentre a w m) (a i) ≡ scaledSquaredRadius D n m a (scaledCentre a w m))
+  pub reaches-some-row : (i : ℕ) × (i < m) × (scaledSquaredDistance D n (scaledCentre a w m) (a i) ≡ scaledSquaredRadius D m n a (scaledCentre a w m))
   unfolding scaledSquaredRadius
   reaches-some-row = largest-reached (λ i. scaledSquaredDistance D n (scaledCentre a w m) (a i)) m some
 
-  pub floor-below-ball : scaledLowerBound D n m a w ≤ scaledSquaredRadius D n m a (scaledCentre a w m)
+  pub floor-below-ball : scaledLowerBound D m n a w ≤ scaledSquaredRadius D m n a (scaledCentre a w m)
   floor-below-ball =
       le-of-mul-le-mul-left
-      (le-trans (le-of-eq (sym (mean-distance D n m a w sum positive)))
-      (weighted-most m D (scaledSquaredRadius D n m a (scaledCentre a w m)) w (λ i. scaledSquaredDistance D n (scaledCentre a w m) (a i)) sum holds-every-row))
+      (le-trans (le-of-eq (sym (mean-distance D m n a w sum positive)))
+      (weighted-most m D (scaledSquaredRadius D m n a (scaledCentre a w m)) w (λ i. scaledSquaredDistance D n (scaledCentre a w m) (a i)) sum holds-every-row))
       positive
 
-  near-below-floor : distanceOf D n m a w (nearRow D n m a w) ≤ scaledLowerBound D n m a w
+  near-below-floor : distanceOf D m n a w (nearRow D m n a w) ≤ scaledLowerBound D m n a w
   unfolding distanceOf nearRow
   near-below-floor =
       le-of-mul-le-mul-left
-      (le-trans (weighted-least m D (distanceOf D n m a w (nearRow D n m a w)) w (distanceOf D n m a w) sum (nearest-leastℕ w (distanceOf D n m a w) m))
-      (le-of-eq (mean-distance D n m a w sum positive)))
+      (le-trans (weighted-least m D (distanceOf D m n a w (nearRow D m n a w)) w (distanceOf D m n a w) sum (nearest-leastℕ w (distanceOf D m n a w) m))
+      (le-of-eq (mean-distance D m n a w sum positive)))
       positive
 
-  far-is-ball : scaledSquaredRadius D n m a (scaledCentre a w m) ≡ distanceOf D n m a w (farRow D n m a w)
+  far-is-ball : scaledSquaredRadius D m n a (scaledCentre a w m) ≡ distanceOf D m n a w (farRow D m n a w)
   unfolding scaledSquaredRadius distanceOf farRow
-  far-is-ball = largest-farthest (distanceOf D n m a w) m some
+  far-is-ball = largest-farthest (distanceOf D m n a w) m some
 
-  pub settled-gap : settled D n m a w ≡ true
-      → scaledSquaredRadius D n m a (scaledCentre a w m) - scaledLowerBound D n m a w ≤ D * largestSquaredDistance n m a
+  pub settled-gap : settled D m n a w ≡ true
+      → scaledSquaredRadius D m n a (scaledCentre a w m) - scaledLowerBound D m n a w ≤ D * largestSquaredDistance m n a
   unfolding settled largestSquaredDistance separation
   settled-gap h =
-      let i = farRow D n m a w in
-      let j = nearRow D n m a w in
+      let i = farRow D m n a w in
+      let j = nearRow D m n a w in
       let row : squaredDistance n (a i) (a j) ≤ largest m (λ j. squaredDistance n (a i) (a j)) =
-      largest-most (λ j. squaredDistance n (a i) (a j)) m j (near-within D n m a w some) in
-      let all : largest m (λ j. squaredDistance n (a i) (a j)) ≤ largestSquaredDistance n m a =
-      largest-most (λ i. largest m (λ j. squaredDistance n (a i) (a j))) m i (far-within D n m a w some) in
-      let most : difference D n m a w ≤ largestSquaredDistance n m a =
-      le-trans (leb-true (difference D n m a w) (separation D n m a w) h) (le-trans row all) in
-      omega (arith, far-is-ball, difference-exact D n m a w positive some, near-below-floor, mul-le-mul-left D most)
+      largest-most (λ j. squaredDistance n (a i) (a j)) m j (near-within D m n a w some) in
+      let all : largest m (λ j. squaredDistance n (a i) (a j)) ≤ largestSquaredDistance m n a =
+      largest-most (λ i. largest m (λ j. squaredDistance n (a i) (a j))) m i (far-within D m n a w some) in
+      let most : difference D m n a w ≤ largestSquaredDistance m n a =
+      le-trans (leb-true (difference D m n a w) (separation D m n a w) h) (le-trans row all) in
+      omega (arith, far-is-ball, difference-exact D m n a w positive some, near-below-floor, mul-le-mul-left D most)
 
   module _ (C : ℕ) (within : (i k : ℕ) → i < m → k < n → natAbs (a i k) ≤ C) where
-    pub ball-most : scaledSquaredRadius D n m a (scaledCentre a w m) ≤ n * ((2 * (C * D)) * (2 * (C * D)))
+    pub ball-most : scaledSquaredRadius D m n a (scaledCentre a w m) ≤ n * ((2 * (C * D)) * (2 * (C * D)))
     unfolding scaledSquaredRadius
     ball-most =
         largest-below (λ i. scaledSquaredDistance D n (scaledCentre a w m) (a i)) m (n * ((2 * (C * D)) * (2 * (C * D))))
         (λ i l. distance-most D n C (scaledCentre a w m) (a i) (λ k b. within i k l b) (λ k b. centre-most D m C k a w sum (λ j c. within j k c b)))
 
-    pub floor-most : scaledLowerBound D n m a w ≤ n * ((2 * (C * D)) * (2 * (C * D)))
+    pub floor-most : scaledLowerBound D m n a w ≤ n * ((2 * (C * D)) * (2 * (C * D)))
     floor-most = le-trans floor-below-ball ball-most

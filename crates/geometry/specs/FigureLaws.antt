@@ -92,9 +92,9 @@ expand : (D q y A X : ℤ) → D *ℤ (q *ℤ q *ℤ A +ℤ negℤ (pos 2 *ℤ q
 expand = ring 5 (λ D q y A X. D ⊗ (q ⊗ q ⊗ A ⊕ ⊝ (# (pos 2) ⊗ q ⊗ y) ⊗ X ⊕ y ⊗ y ⊗ D) ≈ q ⊗ q ⊗ (D ⊗ A ⊖ X ⊗ X) ⊕ (q ⊗ X ⊖ D ⊗ y) ⊗ (q ⊗ X ⊖ D ⊗ y)) tt
 
 -- the weighted sum of the squared lengths of v of the rows
-weighted-ℤ : (n m : ℕ) (w : ℕ → ℕ) (v : ℕ → ℕ → ℤ)
+weighted-ℤ : (m n : ℕ) (w : ℕ → ℕ) (v : ℕ → ℕ → ℤ)
     → pos (sumℕ m (λ i. w i * squaredLength n (v i))) ≡ sumℤ n (λ k. sumℤ m (λ i. pos (w i) *ℤ (v i k *ℤ v i k)))
-weighted-ℤ n m w v =
+weighted-ℤ m n w v =
     pos-sum m (λ i. w i * squaredLength n (v i)) ∙ sumℤ-cong m (λ i l. each i)
     ∙ sumℤ-swap (λ i k. pos (w i) *ℤ (v i k *ℤ v i k)) m n
   where
@@ -102,7 +102,7 @@ weighted-ℤ n m w v =
     each i =
         ap (λ (x : ℤ). pos (w i) *ℤ x) (length-ℤ n (v i)) ∙ sym (sumℤ-mul-left (pos (w i)) (λ k. v i k *ℤ v i k) n)
 
-module _ (D n m : ℕ) (a : ℕ → ℕ → ℤ) (w : ℕ → ℕ) (sum : sumℕ m w ≡ D) where
+module _ (D m n : ℕ) (a : ℕ → ℕ → ℤ) (w : ℕ → ℕ) (sum : sumℕ m w ≡ D) where
   X : ℕ → ℤ
   X = scaledCentre a w m
 
@@ -130,18 +130,18 @@ module _ (D n m : ℕ) (a : ℕ → ℕ → ℤ) (w : ℕ → ℕ) (sum : sumℕ
   lower : ℤ
   lower = sumℤ n channelBound
 
-  lower-is : lower ≡ pos (D * weightedSquaredLength n m a w) -ℤ pos (squaredLength n X)
+  lower-is : lower ≡ pos (D * weightedSquaredLength m n a w) -ℤ pos (squaredLength n X)
   unfolding lower channelBound second weightedSquaredLength
   lower-is =
       sumℤ-sub (λ k. pos D *ℤ second k) (λ k. X k *ℤ X k) n
-      ∙ ap₂ _-ℤ_ (sumℤ-mul-left (pos D) second n ∙ ap (λ (x : ℤ). pos D *ℤ x) (sym (weighted-ℤ n m w a))) (sym (length-ℤ n X))
+      ∙ ap₂ _-ℤ_ (sumℤ-mul-left (pos D) second n ∙ ap (λ (x : ℤ). pos D *ℤ x) (sym (weighted-ℤ m n w a))) (sym (length-ℤ n X))
 
   moment-ℤ : (q : ℤ) (Y : ℕ → ℤ)
       → pos D *ℤ pos (sumℕ m (λ i. w i * squaredLength n (λ k. q *ℤ a i k -ℤ Y k)))
       ≡ q *ℤ q *ℤ lower +ℤ pos (squaredLength n (λ k. q *ℤ X k -ℤ pos D *ℤ Y k))
   unfolding lower
   moment-ℤ q Y =
-      ap (λ (x : ℤ). pos D *ℤ x) (weighted-ℤ n m w (λ i k. q *ℤ a i k -ℤ Y k))
+      ap (λ (x : ℤ). pos D *ℤ x) (weighted-ℤ m n w (λ i k. q *ℤ a i k -ℤ Y k))
       ∙ sym (sumℤ-mul-left (pos D) (λ k. sumℤ m (λ i. pos (w i) *ℤ ((q *ℤ a i k -ℤ Y k) *ℤ (q *ℤ a i k -ℤ Y k)))) n)
       ∙ sumℤ-cong n (λ k l. channel q (Y k) k)
       ∙ sumℤ-add (λ k. q *ℤ q *ℤ channelBound k) (λ k. (q *ℤ X k -ℤ pos D *ℤ Y k) *ℤ (q *ℤ X k -ℤ pos D *ℤ Y k)) n
@@ -161,24 +161,24 @@ module _ (D n m : ℕ) (a : ℕ → ℕ → ℤ) (w : ℕ → ℕ) (sum : sumℕ
         ⊑-cancel (pos D *ℤ pos D) (pos 0) lower (pos-le (mul-le-mul positive positive))
         (⊑-trans (⊑-eq (*ℤ-zero (pos D *ℤ pos D))) (⊑-trans (pos-le zero-le) (⊑-eq moment-centre)))
 
-    pub centre-length-most : squaredLength n (scaledCentre a w m) ≤ D * weightedSquaredLength n m a w
+    pub centre-length-most : squaredLength n (scaledCentre a w m) ≤ D * weightedSquaredLength m n a w
     unfolding X
     centre-length-most =
-        pos-le-inv (sub-nn (pos (squaredLength n X)) (pos (D * weightedSquaredLength n m a w)) .1 (⊑-trans lower-nn (⊑-eq lower-is)))
+        pos-le-inv (sub-nn (pos (squaredLength n X)) (pos (D * weightedSquaredLength m n a w)) .1 (⊑-trans lower-nn (⊑-eq lower-is)))
 
     -- L with the difference taken in ℤ
-    pub lower-bound-ℤ : pos (scaledLowerBound D n m a w) ≡ pos (D * weightedSquaredLength n m a w) -ℤ pos (squaredLength n (scaledCentre a w m))
+    pub lower-bound-ℤ : pos (scaledLowerBound D m n a w) ≡ pos (D * weightedSquaredLength m n a w) -ℤ pos (squaredLength n (scaledCentre a w m))
     unfolding scaledLowerBound
-    lower-bound-ℤ = pos-sub (D * weightedSquaredLength n m a w) (squaredLength n (scaledCentre a w m)) centre-length-most
+    lower-bound-ℤ = pos-sub (D * weightedSquaredLength m n a w) (squaredLength n (scaledCentre a w m)) centre-length-most
 
-    lower-is-bound : lower ≡ pos (scaledLowerBound D n m a w)
+    lower-is-bound : lower ≡ pos (scaledLowerBound D m n a w)
     unfolding X
     lower-is-bound = lower-is ∙ sym lower-bound-ℤ
 
     -- the weighted squared distances of the rows from any point Y/q
     pub moment : (q : ℕ) (Y : ℕ → ℤ)
         → D * sumℕ m (λ i. w i * squaredLength n (λ k. pos q *ℤ a i k -ℤ Y k))
-        ≡ q * q * scaledLowerBound D n m a w + squaredLength n (λ k. pos q *ℤ scaledCentre a w m k -ℤ pos D *ℤ Y k)
+        ≡ q * q * scaledLowerBound D m n a w + squaredLength n (λ k. pos q *ℤ scaledCentre a w m k -ℤ pos D *ℤ Y k)
     unfolding X
     moment q Y =
         pos-inj
@@ -186,8 +186,8 @@ module _ (D n m : ℕ) (a : ℕ → ℕ → ℤ) (w : ℕ → ℕ) (sum : sumℕ
         ∙ ap (λ (x : ℤ). pos q *ℤ pos q *ℤ x +ℤ pos (squaredLength n (λ k. pos q *ℤ X k -ℤ pos D *ℤ Y k))) lower-is-bound)
 
     -- the weighted mean of s is L
-    pub mean-distance : sumℕ m (λ i. w i * scaledSquaredDistance D n (scaledCentre a w m) (a i)) ≡ D * scaledLowerBound D n m a w
+    pub mean-distance : sumℕ m (λ i. w i * scaledSquaredDistance D n (scaledCentre a w m) (a i)) ≡ D * scaledLowerBound D m n a w
     unfolding X
     mean-distance =
-        eq-of-mul-eq-mul-left D positive (sumℕ m (λ i. w i * scaledSquaredDistance D n X (a i))) (D * scaledLowerBound D n m a w)
-        (pos-inj (moment-centre ∙ ap (λ (x : ℤ). pos D *ℤ pos D *ℤ x) lower-is-bound) ∙ mul-assoc D D (scaledLowerBound D n m a w))
+        eq-of-mul-eq-mul-left D positive (sumℕ m (λ i. w i * scaledSquaredDistance D n X (a i))) (D * scaledLowerBound D m n a w)
+        (pos-inj (moment-centre ∙ ap (λ (x : ℤ). pos D *ℤ pos D *ℤ x) lower-is-bound) ∙ mul-assoc D D (scaledLowerBound D m n a w))

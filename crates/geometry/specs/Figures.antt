@@ -4,10 +4,10 @@
 --     scaledCentre a w m k                    X of channel k
 --     scaledSquaredDistance D n X p           s of a row p
 --     largest m f                             the largest of f 0, …, f (m - 1); 0 of none
---     scaledSquaredRadius D n m a X           M, the ball
---     weightedSquaredLength n m a w           the sum of weight times the row's squared length
---     scaledLowerBound D n m a w              L, the floor
---     largestSquaredDistance n m a            the largest squared distance between two rows
+--     scaledSquaredRadius D m n a X           M, the ball
+--     weightedSquaredLength m n a w           the sum of weight times the row's squared length
+--     scaledLowerBound D m n a w              L, the floor
+--     largestSquaredDistance m n a            the largest squared distance between two rows
 -- Rows and channels count from 0. `a i k` is the coordinate of row i in channel k, `w i` the weight of row i, a point is
 -- the function from channel to coordinate, n is the number of channels and m the number of rows. Rows may be equal; the
 -- source's are distinct.
@@ -35,17 +35,17 @@ largest (suc m) f = max (largest m f) (f m)
 
 -- The ball M is the largest s. The squared radius is M/D². It is not the source's -2Q, which is the floor: rows stick out of that
 unfoldable pub scaledSquaredRadius : ℕ → ℕ → ℕ → (ℕ → ℕ → ℤ) → (ℕ → ℤ) → ℕ
-scaledSquaredRadius D n m a X = largest m (λ i. scaledSquaredDistance D n X (a i))
+scaledSquaredRadius D m n a X = largest m (λ i. scaledSquaredDistance D n X (a i))
 
 -- The sum of weight times the row's squared length
 unfoldable pub weightedSquaredLength : ℕ → ℕ → (ℕ → ℕ → ℤ) → (ℕ → ℕ) → ℕ
-weightedSquaredLength n m a w = sumℕ m (λ i. w i * squaredLength n (a i))
+weightedSquaredLength m n a w = sumℕ m (λ i. w i * squaredLength n (a i))
 
 -- The floor L is D times (the sum of weight times the row's squared length), less the squared length of X: D² times the
 -- source's -2Q (formulas 2 and 4). Where the weights sum to D the second is at most the first, so nothing is cut off at 0
 unfoldable pub scaledLowerBound : ℕ → ℕ → ℕ → (ℕ → ℕ → ℤ) → (ℕ → ℕ) → ℕ
-scaledLowerBound D n m a w = D * weightedSquaredLength n m a w - squaredLength n (scaledCentre a w m)
+scaledLowerBound D m n a w = D * weightedSquaredLength m n a w - squaredLength n (scaledCentre a w m)
 
 -- The largest squared distance between two rows; the same row may be taken twice
 unfoldable pub largestSquaredDistance : ℕ → ℕ → (ℕ → ℕ → ℤ) → ℕ
-largestSquaredDistance n m a = largest m (λ i. largest m (λ j. squaredDistance n (a i) (a j)))
+largestSquaredDistance m n a = largest m (λ i. largest m (λ j. squaredDistance n (a i) (a j)))

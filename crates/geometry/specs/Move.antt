@@ -1,16 +1,16 @@
 -- Document 01, "One move", for any rows, weights and total D.
---     distanceOf D n m a w i        s of row i under the weights w
---     farRow D n m a w              the far row
---     nearRow D n m a w             the near row
---     difference D n m a w          g
---     separation D n m a w          d²
+--     distanceOf D m n a w i        s of row i under the weights w
+--     farRow D m n a w              the far row
+--     nearRow D m n a w             the near row
+--     difference D m n a w          g
+--     separation D m n a w          d²
 --     isSettled g d                 whether g and d² say Settled
---     settled D n m a w             whether the weights are Settled
+--     settled D m n a w             whether the weights are Settled
 --     cappedStep g d cap            t from g, d² and the most that may move
---     transfer D n m a w            t
+--     transfer D m n a w            t
 --     moveWeight t from to ws       the list of weights with t moved from one row to another
 --     weightOf ws i                 the weight of row i in a list of weights, 0 past its end
---     moved D n m a ws              the list of weights after one move; a run asks for it only where they are not Settled
+--     moved D m n a ws              the list of weights after one move; a run asks for it only where they are not Settled
 use Prim.Native.Nat.{ℕ, _+_, _*_, _-_, _/_, min}
 use mathlib.Core.Bool.{Bool}
 use mathlib.Core.List.{List}
@@ -30,7 +30,7 @@ isSettled g d = leb g d
 abbrev pub cappedStep : ℕ → ℕ → ℕ → ℕ
 cappedStep g d cap = min ((g + d - 1) / (2 * d)) cap
 
-module _ (D n m : ℕ) (a : ℕ → ℕ → ℤ) (w : ℕ → ℕ) where
+module _ (D m n : ℕ) (a : ℕ → ℕ → ℤ) (w : ℕ → ℕ) where
   unfoldable pub distanceOf : ℕ → ℕ
   distanceOf i = scaledSquaredDistance D n (scaledCentre a w m) (a i)
 
@@ -66,5 +66,5 @@ moveWeight t from to ws = let lowered = set ws from (getD ws from 0 - t) in set 
 
 -- The weights after one move
 unfoldable pub moved : ℕ → ℕ → ℕ → (ℕ → ℕ → ℤ) → List ℕ → List ℕ
-moved D n m a ws =
-    moveWeight (transfer D n m a (weightOf ws)) (nearRow D n m a (weightOf ws)) (farRow D n m a (weightOf ws)) ws
+moved D m n a ws =
+    moveWeight (transfer D m n a (weightOf ws)) (nearRow D m n a (weightOf ws)) (farRow D m n a (weightOf ws)) ws

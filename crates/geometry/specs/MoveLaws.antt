@@ -135,67 +135,67 @@ moveWeight-other t from to ws i not-from not-to =
 
 -- ---- the move
 
-module _ (D n m : ℕ) (a : ℕ → ℕ → ℤ) (w : ℕ → ℕ) where
-  pub transfer-most : transfer D n m a w ≤ w (nearRow D n m a w)
+module _ (D m n : ℕ) (a : ℕ → ℕ → ℤ) (w : ℕ → ℕ) where
+  pub transfer-most : transfer D m n a w ≤ w (nearRow D m n a w)
   unfolding transfer
   transfer-most = omega arith
 
   module _ (some : 0 < m) where
-    pub far-within : farRow D n m a w < m
+    pub far-within : farRow D m n a w < m
     unfolding farRow
-    far-within = farthest-within ltb (distanceOf D n m a w) m some
+    far-within = farthest-within ltb (distanceOf D m n a w) m some
 
-    pub near-within : nearRow D n m a w < m
+    pub near-within : nearRow D m n a w < m
     unfolding nearRow
-    near-within = nearest-within ltb w (distanceOf D n m a w) m some
+    near-within = nearest-within ltb w (distanceOf D m n a w) m some
 
-    pub near-below-far : distanceOf D n m a w (nearRow D n m a w) ≤ distanceOf D n m a w (farRow D n m a w)
+    pub near-below-far : distanceOf D m n a w (nearRow D m n a w) ≤ distanceOf D m n a w (farRow D m n a w)
     unfolding farRow
-    near-below-far = farthest-mostℕ (distanceOf D n m a w) m (nearRow D n m a w) near-within
+    near-below-far = farthest-mostℕ (distanceOf D m n a w) m (nearRow D m n a w) near-within
 
 -- the parts of a move from a list of weights
-module _ (D n m : ℕ) (a : ℕ → ℕ → ℤ) (ws : List ℕ) where
-  pub moved-length : length (moved D n m a ws) ≡ length ws
+module _ (D m n : ℕ) (a : ℕ → ℕ → ℤ) (ws : List ℕ) where
+  pub moved-length : length (moved D m n a ws) ≡ length ws
   unfolding moved
-  moved-length = moveWeight-length (transfer D n m a (weightOf ws)) (nearRow D n m a (weightOf ws)) (farRow D n m a (weightOf ws)) ws
+  moved-length = moveWeight-length (transfer D m n a (weightOf ws)) (nearRow D m n a (weightOf ws)) (farRow D m n a (weightOf ws)) ws
 
   -- no weight changes but those of the near and the far row
-  pub moved-other : (i : ℕ) → i ≢ nearRow D n m a (weightOf ws) → i ≢ farRow D n m a (weightOf ws)
-      → weightOf (moved D n m a ws) i ≡ weightOf ws i
+  pub moved-other : (i : ℕ) → i ≢ nearRow D m n a (weightOf ws) → i ≢ farRow D m n a (weightOf ws)
+      → weightOf (moved D m n a ws) i ≡ weightOf ws i
   unfolding moved
-  moved-other = moveWeight-other (transfer D n m a (weightOf ws)) (nearRow D n m a (weightOf ws)) (farRow D n m a (weightOf ws)) ws
+  moved-other = moveWeight-other (transfer D m n a (weightOf ws)) (nearRow D m n a (weightOf ws)) (farRow D m n a (weightOf ws)) ws
 
   module _ (some : 0 < m) (places : m ≤ length ws) where
     -- a weighted sum after the move
-    pub moved-sum : (f : ℕ → ℤ) → sumℤ m (λ i. pos (weightOf (moved D n m a ws) i) *ℤ f i)
+    pub moved-sum : (f : ℕ → ℤ) → sumℤ m (λ i. pos (weightOf (moved D m n a ws) i) *ℤ f i)
         ≡ sumℤ m (λ i. pos (weightOf ws i) *ℤ f i)
-        +ℤ pos (transfer D n m a (weightOf ws)) *ℤ (f (farRow D n m a (weightOf ws)) -ℤ f (nearRow D n m a (weightOf ws)))
+        +ℤ pos (transfer D m n a (weightOf ws)) *ℤ (f (farRow D m n a (weightOf ws)) -ℤ f (nearRow D m n a (weightOf ws)))
     unfolding moved
     moved-sum =
-        moveWeight-sum ws m (transfer D n m a (weightOf ws)) (nearRow D n m a (weightOf ws)) (farRow D n m a (weightOf ws)) places
-        (near-within D n m a (weightOf ws) some) (far-within D n m a (weightOf ws) some) (transfer-most D n m a (weightOf ws))
+        moveWeight-sum ws m (transfer D m n a (weightOf ws)) (nearRow D m n a (weightOf ws)) (farRow D m n a (weightOf ws)) places
+        (near-within D m n a (weightOf ws) some) (far-within D m n a (weightOf ws) some) (transfer-most D m n a (weightOf ws))
 
-    pub moved-total : weightsTotal m (moved D n m a ws) ≡ weightsTotal m ws
+    pub moved-total : weightsTotal m (moved D m n a ws) ≡ weightsTotal m ws
     unfolding moved weightsTotal
     moved-total =
-        moveWeight-total ws m (transfer D n m a (weightOf ws)) (nearRow D n m a (weightOf ws)) (farRow D n m a (weightOf ws)) places
-        (near-within D n m a (weightOf ws) some) (far-within D n m a (weightOf ws) some) (transfer-most D n m a (weightOf ws))
+        moveWeight-total ws m (transfer D m n a (weightOf ws)) (nearRow D m n a (weightOf ws)) (farRow D m n a (weightOf ws)) places
+        (near-within D m n a (weightOf ws) some) (far-within D m n a (weightOf ws) some) (transfer-most D m n a (weightOf ws))
 
     -- X changes by t (far - near)
-    pub moved-centre : (k : ℕ) → scaledCentre a (weightOf (moved D n m a ws)) m k
+    pub moved-centre : (k : ℕ) → scaledCentre a (weightOf (moved D m n a ws)) m k
         ≡ scaledCentre a (weightOf ws) m k
-        +ℤ pos (transfer D n m a (weightOf ws)) *ℤ (a (farRow D n m a (weightOf ws)) k -ℤ a (nearRow D n m a (weightOf ws)) k)
+        +ℤ pos (transfer D m n a (weightOf ws)) *ℤ (a (farRow D m n a (weightOf ws)) k -ℤ a (nearRow D m n a (weightOf ws)) k)
     unfolding scaledCentre
     moved-centre k = moved-sum (λ i. a i k)
 
 -- ---- g
 
-module _ (D n m : ℕ) (a : ℕ → ℕ → ℤ) (w : ℕ → ℕ) (positive : 0 < D) (some : 0 < m) where
+module _ (D m n : ℕ) (a : ℕ → ℕ → ℤ) (w : ℕ → ℕ) (positive : 0 < D) (some : 0 < m) where
   far : ℕ
-  far = farRow D n m a w
+  far = farRow D m n a w
 
   near : ℕ
-  near = nearRow D n m a w
+  near = nearRow D m n a w
 
   X : ℕ → ℤ
   X = scaledCentre a w m
@@ -203,10 +203,10 @@ module _ (D n m : ℕ) (a : ℕ → ℕ → ℤ) (w : ℕ → ℕ) (positive : 0
   gap : ℤ
   gap = reduced D n X (a far) -ℤ reduced D n X (a near)
 
-  gap-distance : pos (distanceOf D n m a w far - distanceOf D n m a w near) ≡ pos D *ℤ gap
+  gap-distance : pos (distanceOf D m n a w far - distanceOf D m n a w near) ≡ pos D *ℤ gap
   unfolding gap far near X distanceOf
   gap-distance =
-      pos-sub (distanceOf D n m a w far) (distanceOf D n m a w near) (near-below-far D n m a w some)
+      pos-sub (distanceOf D m n a w far) (distanceOf D m n a w near) (near-below-far D m n a w some)
       ∙ ap₂ _-ℤ_ (distance-ℤ D n X (a far)) (distance-ℤ D n X (a near))
       ∙ common (pos D) (reduced D n X (a far)) (reduced D n X (a near)) (pos (squaredLength n X))
     where
@@ -219,26 +219,26 @@ module _ (D n m : ℕ) (a : ℕ → ℕ → ℤ) (w : ℕ → ℕ) (positive : 0
       (⊑-cancel (pos D) (pos 0) gap (pos-le positive)
       (⊑-trans (⊑-eq (*ℤ-zero (pos D))) (⊑-trans (pos-le zero-le) (⊑-eq gap-distance))))
 
-  gap-product : distanceOf D n m a w far - distanceOf D n m a w near ≡ D * gap-natural .0
+  gap-product : distanceOf D m n a w far - distanceOf D m n a w near ≡ D * gap-natural .0
   gap-product = pos-inj (gap-distance ∙ ap (λ (x : ℤ). pos D *ℤ x) (gap-natural .1))
 
-  difference-natural : difference D n m a w ≡ gap-natural .0
+  difference-natural : difference D m n a w ≡ gap-natural .0
   unfolding difference far near
   difference-natural = div-eq-of-eq-mul-right positive gap-product
 
-  difference-ℤ : pos (difference D n m a w) ≡ gap
+  difference-ℤ : pos (difference D m n a w) ≡ gap
   difference-ℤ = ap pos difference-natural ∙ sym (gap-natural .1)
 
   -- g is whole, and s far is not below s near
-  pub difference-exact : distanceOf D n m a w (farRow D n m a w) ≡ distanceOf D n m a w (nearRow D n m a w) + D * difference D n m a w
+  pub difference-exact : distanceOf D m n a w (farRow D m n a w) ≡ distanceOf D m n a w (nearRow D m n a w) + D * difference D m n a w
   unfolding far near
   difference-exact =
-      let e : distanceOf D n m a w far - distanceOf D n m a w near ≡ D * difference D n m a w =
+      let e : distanceOf D m n a w far - distanceOf D m n a w near ≡ D * difference D m n a w =
       gap-product ∙ ap (λ (x : ℕ). D * x) (sym difference-natural) in
-      omega (arith, near-below-far D n m a w some)
+      omega (arith, near-below-far D m n a w some)
 
   -- equal rows have equal reduced scores
-  gap-none : separation D n m a w ≡ 0 → gap ≡ pos 0
+  gap-none : separation D m n a w ≡ 0 → gap ≡ pos 0
   unfolding separation squaredDistance squaredLength gap far near reduced inner
   gap-none e =
       ap (λ (x : ℤ). x -ℤ reduced D n X (a near))
@@ -250,54 +250,54 @@ module _ (D n m : ℕ) (a : ℕ → ℕ → ℤ) (w : ℕ → ℕ) (positive : 0
           -ℤ-zero (a far k) (a near k)
           (square-zero (a far k -ℤ a near k) (omega (arith, sumℕ-term (λ j. square (a far j -ℤ a near j)) n k l)))
 
-  module _ (unsettled : settled D n m a w ≡ false) where
-    pub separation-below : separation D n m a w < difference D n m a w
+  module _ (unsettled : settled D m n a w ≡ false) where
+    pub separation-below : separation D m n a w < difference D m n a w
     unfolding settled
-    separation-below = leb-false (difference D n m a w) (separation D n m a w) unsettled
+    separation-below = leb-false (difference D m n a w) (separation D m n a w) unsettled
 
-    pub separation-positive : 0 < separation D n m a w
-    separation-positive = go (eq-zero-or-pos (separation D n m a w))
+    pub separation-positive : 0 < separation D m n a w
+    separation-positive = go (eq-zero-or-pos (separation D m n a w))
       where
-        go : (separation D n m a w ≡ 0) ⊎ (0 < separation D n m a w) → 0 < separation D n m a w
+        go : (separation D m n a w ≡ 0) ⊎ (0 < separation D m n a w) → 0 < separation D m n a w
         go (inl e) =
-            let none : difference D n m a w ≡ 0 = pos-inj (difference-ℤ ∙ gap-none e) in
+            let none : difference D m n a w ≡ 0 = pos-inj (difference-ℤ ∙ gap-none e) in
             absurd (omega (arith, separation-below))
         go (inr h) = h
 
     module _ (sum : sumℕ m w ≡ D) where
-      pub transfer-some : 0 < transfer D n m a w
+      pub transfer-some : 0 < transfer D m n a w
       unfolding transfer nearRow
       transfer-some =
           let weighted = sumℕ-positive w m (omega arith) in
-          let gives : 0 < w (nearRow D n m a w) = nearest-weighted ltb-strict w (distanceOf D n m a w) m (weighted .0) (weighted .1) (weighted .2) in
-          let moves : 1 ≤ (difference D n m a w + separation D n m a w - 1) / (2 * separation D n m a w) =
-          le-div-iff-mul-le {k = 2 * separation D n m a w} {x = 1} {y = difference D n m a w + separation D n m a w - 1} (omega (arith, separation-positive)) .1 (omega (arith, separation-below)) in
+          let gives : 0 < w (nearRow D m n a w) = nearest-weighted ltb-strict w (distanceOf D m n a w) m (weighted .0) (weighted .1) (weighted .2) in
+          let moves : 1 ≤ (difference D m n a w + separation D m n a w - 1) / (2 * separation D m n a w) =
+          le-div-iff-mul-le {k = 2 * separation D m n a w} {x = 1} {y = difference D m n a w + separation D m n a w - 1} (omega (arith, separation-positive)) .1 (omega (arith, separation-below)) in
           omega arith
 
-      pub transfer-gains : transfer D n m a w * separation D n m a w < difference D n m a w
+      pub transfer-gains : transfer D m n a w * separation D m n a w < difference D m n a w
       unfolding transfer
       transfer-gains =
-          let d = separation D n m a w in
-          let g = difference D n m a w in
-          let t = transfer D n m a w in
+          let d = separation D m n a w in
+          let g = difference D m n a w in
+          let t = transfer D m n a w in
           let q = (g + d - 1) / (2 * d) in
           let least : t ≤ q = omega arith in
           omega (arith, mul-le-mul-right (2 * d) least, div-mul-le-self (g + d - 1) (2 * d), mul-left-comm t 2 d, mul-le-mul-right d transfer-some, separation-below)
 
 -- ---- L
 
-module _ (D n m : ℕ) (a : ℕ → ℕ → ℤ) (ws : List ℕ) (positive : 0 < D) (some : 0 < m) (places : m ≤ length ws) (sum : weightsTotal m ws ≡ D) where
+module _ (D m n : ℕ) (a : ℕ → ℕ → ℤ) (ws : List ℕ) (positive : 0 < D) (some : 0 < m) (places : m ≤ length ws) (sum : weightsTotal m ws ≡ D) where
   before : ℕ → ℕ
   before = weightOf ws
 
   after : ℕ → ℕ
-  after = weightOf (moved D n m a ws)
+  after = weightOf (moved D m n a ws)
 
   t : ℤ
-  t = pos (transfer D n m a (weightOf ws))
+  t = pos (transfer D m n a (weightOf ws))
 
   toward : ℕ → ℤ
-  toward k = a (farRow D n m a (weightOf ws)) k -ℤ a (nearRow D n m a (weightOf ws)) k
+  toward k = a (farRow D m n a (weightOf ws)) k -ℤ a (nearRow D m n a (weightOf ws)) k
 
   before-sum : sumℕ m before ≡ D
   unfolding before weightsTotal
@@ -305,23 +305,23 @@ module _ (D n m : ℕ) (a : ℕ → ℕ → ℤ) (ws : List ℕ) (positive : 0 <
 
   after-sum : sumℕ m after ≡ D
   unfolding after weightsTotal
-  after-sum = moved-total D n m a ws some places ∙ sum
+  after-sum = moved-total D m n a ws some places ∙ sum
 
   lengths : ℕ → ℤ
   lengths i = pos (squaredLength n (a i))
 
-  second-moved : pos (weightedSquaredLength n m a after)
-      ≡ pos (weightedSquaredLength n m a before) +ℤ t *ℤ (lengths (farRow D n m a (weightOf ws)) -ℤ lengths (nearRow D n m a (weightOf ws)))
+  second-moved : pos (weightedSquaredLength m n a after)
+      ≡ pos (weightedSquaredLength m n a before) +ℤ t *ℤ (lengths (farRow D m n a (weightOf ws)) -ℤ lengths (nearRow D m n a (weightOf ws)))
   unfolding weightedSquaredLength after before t lengths
   second-moved =
-      pos-sum m (λ i. after i * squaredLength n (a i)) ∙ moved-sum D n m a ws some places lengths
-      ∙ ap (λ (x : ℤ). x +ℤ t *ℤ (lengths (farRow D n m a (weightOf ws)) -ℤ lengths (nearRow D n m a (weightOf ws)))) (sym (pos-sum m (λ i. before i * squaredLength n (a i))))
+      pos-sum m (λ i. after i * squaredLength n (a i)) ∙ moved-sum D m n a ws some places lengths
+      ∙ ap (λ (x : ℤ). x +ℤ t *ℤ (lengths (farRow D m n a (weightOf ws)) -ℤ lengths (nearRow D m n a (weightOf ws)))) (sym (pos-sum m (λ i. before i * squaredLength n (a i))))
 
   centre-length-moved : pos (squaredLength n (scaledCentre a after m))
-      ≡ t *ℤ t *ℤ pos (separation D n m a (weightOf ws)) +ℤ pos 2 *ℤ t *ℤ pos 1 *ℤ inner n toward (scaledCentre a before m) +ℤ pos 1 *ℤ pos 1 *ℤ pos (squaredLength n (scaledCentre a before m))
+      ≡ t *ℤ t *ℤ pos (separation D m n a (weightOf ws)) +ℤ pos 2 *ℤ t *ℤ pos 1 *ℤ inner n toward (scaledCentre a before m) +ℤ pos 1 *ℤ pos 1 *ℤ pos (squaredLength n (scaledCentre a before m))
   unfolding after before t toward separation squaredDistance
   centre-length-moved =
-      ap pos (squaredLength-cong n (λ k l. moved-centre D n m a ws some places k ∙ turned (scaledCentre a (weightOf ws) m k) t (toward k)))
+      ap pos (squaredLength-cong n (λ k l. moved-centre D m n a ws some places k ∙ turned (scaledCentre a (weightOf ws) m k) t (toward k)))
       ∙ length-combine n toward (scaledCentre a before m) t (pos 1)
     where
       turned : (x t d : ℤ) → x +ℤ t *ℤ d ≡ t *ℤ d +ℤ pos 1 *ℤ x
@@ -331,45 +331,45 @@ module _ (D n m : ℕ) (a : ℕ → ℕ → ℤ) (ws : List ℕ) (positive : 0 <
       ≡ D *ℤ B -ℤ x +ℤ t *ℤ ((D *ℤ F -ℤ pos 2 *ℤ i) -ℤ (D *ℤ N -ℤ pos 2 *ℤ j)) -ℤ t *ℤ (t *ℤ S)
   collect = ring 9 (λ D B t F N S i j x. D ⊗ (B ⊕ t ⊗ (F ⊖ N)) ⊖ (t ⊗ t ⊗ S ⊕ # (pos 2) ⊗ t ⊗ # (pos 1) ⊗ (i ⊖ j) ⊕ # (pos 1) ⊗ # (pos 1) ⊗ x) ≈ D ⊗ B ⊖ x ⊕ t ⊗ ((D ⊗ F ⊖ # (pos 2) ⊗ i) ⊖ (D ⊗ N ⊖ # (pos 2) ⊗ j)) ⊖ t ⊗ (t ⊗ S)) tt
 
-  rise-ℤ : pos (scaledLowerBound D n m a after)
-      ≡ pos (scaledLowerBound D n m a before) +ℤ t *ℤ pos (difference D n m a (weightOf ws)) -ℤ t *ℤ (t *ℤ pos (separation D n m a (weightOf ws)))
+  rise-ℤ : pos (scaledLowerBound D m n a after)
+      ≡ pos (scaledLowerBound D m n a before) +ℤ t *ℤ pos (difference D m n a (weightOf ws)) -ℤ t *ℤ (t *ℤ pos (separation D m n a (weightOf ws)))
   unfolding before after toward lengths gap reduced far near X
   rise-ℤ =
-      let i = farRow D n m a (weightOf ws) in
-      let j = nearRow D n m a (weightOf ws) in
+      let i = farRow D m n a (weightOf ws) in
+      let j = nearRow D m n a (weightOf ws) in
       let x = scaledCentre a (weightOf ws) m in
-      let S = pos (separation D n m a (weightOf ws)) in
-      lower-bound-ℤ D n m a after after-sum positive
+      let S = pos (separation D m n a (weightOf ws)) in
+      lower-bound-ℤ D m n a after after-sum positive
       ∙ ap₂ _-ℤ_ (ap (λ (y : ℤ). pos D *ℤ y) second-moved)
       (centre-length-moved ∙ ap (λ (y : ℤ). t *ℤ t *ℤ S +ℤ pos 2 *ℤ t *ℤ pos 1 *ℤ y +ℤ pos 1 *ℤ pos 1 *ℤ pos (squaredLength n x)) (inner-sub n (a i) (a j) x))
-      ∙ collect (pos D) (pos (weightedSquaredLength n m a before)) t (lengths i) (lengths j) S (inner n (a i) x) (inner n (a j) x) (pos (squaredLength n x))
-      ∙ ap₂ (λ (y z : ℤ). y +ℤ t *ℤ z -ℤ t *ℤ (t *ℤ S)) (sym (lower-bound-ℤ D n m a before before-sum positive)) (sym (difference-ℤ D n m a (weightOf ws) positive some))
+      ∙ collect (pos D) (pos (weightedSquaredLength m n a before)) t (lengths i) (lengths j) S (inner n (a i) x) (inner n (a j) x) (pos (squaredLength n x))
+      ∙ ap₂ (λ (y z : ℤ). y +ℤ t *ℤ z -ℤ t *ℤ (t *ℤ S)) (sym (lower-bound-ℤ D m n a before before-sum positive)) (sym (difference-ℤ D m n a (weightOf ws) positive some))
 
   -- L and t times t times d² after the move are L and t times g before it
-  rise-sum : scaledLowerBound D n m a after + transfer D n m a (weightOf ws) * (transfer D n m a (weightOf ws) * separation D n m a (weightOf ws))
-      ≡ scaledLowerBound D n m a before + transfer D n m a (weightOf ws) * difference D n m a (weightOf ws)
+  rise-sum : scaledLowerBound D m n a after + transfer D m n a (weightOf ws) * (transfer D m n a (weightOf ws) * separation D m n a (weightOf ws))
+      ≡ scaledLowerBound D m n a before + transfer D m n a (weightOf ws) * difference D m n a (weightOf ws)
   unfolding t
   rise-sum =
       pos-inj
-      (ap (λ (y : ℤ). y +ℤ t *ℤ (t *ℤ pos (separation D n m a (weightOf ws)))) rise-ℤ
-      ∙ -ℤ-+ℤ-cancel (pos (scaledLowerBound D n m a before) +ℤ t *ℤ pos (difference D n m a (weightOf ws))) (t *ℤ (t *ℤ pos (separation D n m a (weightOf ws)))))
+      (ap (λ (y : ℤ). y +ℤ t *ℤ (t *ℤ pos (separation D m n a (weightOf ws)))) rise-ℤ
+      ∙ -ℤ-+ℤ-cancel (pos (scaledLowerBound D m n a before) +ℤ t *ℤ pos (difference D m n a (weightOf ws))) (t *ℤ (t *ℤ pos (separation D m n a (weightOf ws)))))
 
-  module _ (unsettled : settled D n m a (weightOf ws) ≡ false) where
+  module _ (unsettled : settled D m n a (weightOf ws) ≡ false) where
     -- what a move adds to L
-    pub rise-some : 1 ≤ transfer D n m a (weightOf ws) * (difference D n m a (weightOf ws) - transfer D n m a (weightOf ws) * separation D n m a (weightOf ws))
+    pub rise-some : 1 ≤ transfer D m n a (weightOf ws) * (difference D m n a (weightOf ws) - transfer D m n a (weightOf ws) * separation D m n a (weightOf ws))
     unfolding before
     rise-some =
-        let u = transfer D n m a (weightOf ws) in
-        let left : 1 ≤ difference D n m a (weightOf ws) - u * separation D n m a (weightOf ws) =
-        omega (arith, transfer-gains D n m a (weightOf ws) positive some unsettled before-sum) in
-        mul-le-mul (transfer-some D n m a (weightOf ws) positive some unsettled before-sum) left
+        let u = transfer D m n a (weightOf ws) in
+        let left : 1 ≤ difference D m n a (weightOf ws) - u * separation D m n a (weightOf ws) =
+        omega (arith, transfer-gains D m n a (weightOf ws) positive some unsettled before-sum) in
+        mul-le-mul (transfer-some D m n a (weightOf ws) positive some unsettled before-sum) left
 
-    pub lower-bound-rises : scaledLowerBound D n m a (weightOf (moved D n m a ws))
-        ≡ scaledLowerBound D n m a (weightOf ws)
-        + transfer D n m a (weightOf ws) * (difference D n m a (weightOf ws) - transfer D n m a (weightOf ws) * separation D n m a (weightOf ws))
+    pub lower-bound-rises : scaledLowerBound D m n a (weightOf (moved D m n a ws))
+        ≡ scaledLowerBound D m n a (weightOf ws)
+        + transfer D m n a (weightOf ws) * (difference D m n a (weightOf ws) - transfer D m n a (weightOf ws) * separation D m n a (weightOf ws))
     unfolding before after
     lower-bound-rises =
-        let u = transfer D n m a (weightOf ws) in
-        let g = difference D n m a (weightOf ws) in
-        let d = separation D n m a (weightOf ws) in
+        let u = transfer D m n a (weightOf ws) in
+        let g = difference D m n a (weightOf ws) in
+        let d = separation D m n a (weightOf ws) in
         omega (arith, rise-sum, mul-sub u g (u * d), rise-some)

@@ -33,7 +33,7 @@ selected row distance = record { row = row; distance = distance }
 
 pub record Pass (rows : List ℤ) (m n : ℕ) (x : List ℤ) (pick : ℕ → ℕ) (row distance i : ℕ) : Type 0 where
   pub most : i ≤ m
-  pub found : Found rows n i x (pick i) (selected row distance)
+  pub found : Found rows i n x (pick i) (selected row distance)
 
 module _ {rows x : List ℤ} {m n : ℕ} {pick : ℕ → ℕ} where
   -- the row kept after row i is `place`, at distance d
@@ -55,10 +55,10 @@ module _ {rows x : List ℤ} {m n : ℕ} {pick : ℕ → ℕ} where
       let k = f .found in
       pass-at h (omega arith) (k .distance-is) (k .distance-most) (e ∙ sym (k .is)) p q
 
-  pub pass-end : {i row distance : ℕ} → m ≤ i → Pass rows m n x pick row distance i → Found rows n m x (pick m) (selected row distance)
+  pub pass-end : {i row distance : ℕ} → m ≤ i → Pass rows m n x pick row distance i → Found rows m n x (pick m) (selected row distance)
   pass-end {i} {row} {distance} h f =
       let e : i ≡ m = omega arith in
-      subst (λ k. Found rows n k x (pick k) (selected row distance)) e (f .found)
+      subst (λ k. Found rows k n x (pick k) (selected row distance)) e (f .found)
 
 kept-is : {rows x : List ℤ} {m n : ℕ} {pick : ℕ → ℕ} {row distance i : ℕ} → Pass rows m n x pick row distance i
     → distance ≡ score rows n x (pick i)

@@ -1,7 +1,7 @@
 -- What the functions of one move give, each by an equation with its definition.
 --     score rows n x i                      s of row i under the centre x
 --     shiftCentre rows n from to t x        X with t times (row `to` - row `from`) added
---     Found rows n m x row r                the row that a pass found and its s
+--     Found rows m n x row r                the row that a pass found and its s
 --     Paired rows m n ws r                  the far and the near row with s of the far row, g and d²
 use Prim.Native.Nat.{ℕ, _≤_, _<_}
 use mathlib.Core.Path.{_≡_}
@@ -24,7 +24,7 @@ shiftCentre rows n from to t x =
     centreList n (λ k. centreOf x k +ℤ pos t *ℤ (coordinate rows n to k -ℤ coordinate rows n from k))
 
 -- the row that a pass found among the first m, and its s
-pub record Found (rows : List ℤ) (n m : ℕ) (x : List ℤ) (row : ℕ) (r : Selected) : Type 0 where
+pub record Found (rows : List ℤ) (m n : ℕ) (x : List ℤ) (row : ℕ) (r : Selected) : Type 0 where
   pub is : r .row ≡ row
   pub within : r .row < m
   pub distance-is : r .distance ≡ score rows n x (r .row)
@@ -32,11 +32,11 @@ pub record Found (rows : List ℤ) (n m : ℕ) (x : List ℤ) (row : ℕ) (r : S
 
 -- the far and the near row with s of the far row, g and d²
 pub record Paired (rows : List ℤ) (m n : ℕ) (ws : List ℕ) (r : Pair) : Type 0 where
-  pub far-is : r .far ≡ farRow total n m (coordinate rows n) (weightOf ws)
-  pub near-is : r .near ≡ nearRow total n m (coordinate rows n) (weightOf ws)
-  pub distance-is : r .distance ≡ distanceOf total n m (coordinate rows n) (weightOf ws) (farRow total n m (coordinate rows n) (weightOf ws))
-  pub difference-is : r .difference ≡ difference total n m (coordinate rows n) (weightOf ws)
-  pub separation-is : r .separation ≡ separation total n m (coordinate rows n) (weightOf ws)
+  pub far-is : r .far ≡ farRow total m n (coordinate rows n) (weightOf ws)
+  pub near-is : r .near ≡ nearRow total m n (coordinate rows n) (weightOf ws)
+  pub distance-is : r .distance ≡ distanceOf total m n (coordinate rows n) (weightOf ws) (farRow total m n (coordinate rows n) (weightOf ws))
+  pub difference-is : r .difference ≡ difference total m n (coordinate rows n) (weightOf ws)
+  pub separation-is : r .separation ≡ separation total m n (coordinate rows n) (weightOf ws)
   pub far-within : r .far < m
   pub near-within : r .near < m
   pub distance-most : r .distance ≤ distanceLimit total

@@ -15,7 +15,7 @@ use figures::limits::CHANNELS;
 // The row with the largest s of all rows.
 pub fn farthest_row(rows: &[i32], m: usize, n: usize, x: &[i64; CHANNELS]) -> Selected
     requires { ⌜ Table (now rows) m n × CentreWithin (now x) ⌝ }
-    ensures { λ r. ⌜ Found (now (rows .entry)) n m (now (x .entry)) (farthest ltb (score (now (rows .entry)) n (now (x .entry))) m) r ⌝ }
+    ensures { λ r. ⌜ Found (now (rows .entry)) m n (now (x .entry)) (farthest ltb (score (now (rows .entry)) n (now (x .entry))) m) r ⌝ }
 {
     let mut row = 0;
     let mut distance = scaled_squared_distance(rows, n, 0, x);
@@ -44,7 +44,7 @@ fn nearer(kept_weight: u32, kept_distance: u64, distance: u64) -> bool
 // The row with the smallest s among the rows of weight above 0.
 pub fn nearest_row(rows: &[i32], m: usize, n: usize, w: &[u32], x: &[i64; CHANNELS]) -> Selected
     requires { ⌜ Table (now rows) m n × (CentreWithin (now x) × (m ≤ length (now w))) ⌝ }
-    ensures { λ r. ⌜ Found (now (rows .entry)) n m (now (x .entry)) (nearest ltb (weightOf (now (w .entry))) (score (now (rows .entry)) n (now (x .entry))) m) r ⌝ }
+    ensures { λ r. ⌜ Found (now (rows .entry)) m n (now (x .entry)) (nearest ltb (weightOf (now (w .entry))) (score (now (rows .entry)) n (now (x .entry))) m) r ⌝ }
 {
     let mut row = 0;
     let mut distance = scaled_squared_distance(rows, n, 0, x);

@@ -58,8 +58,8 @@ pub fn one_move(
     t: u32,
     weights: [u32; ROWS],
 ) -> [u32; ROWS]
-    requires { ⌜ Table (now rows) m n × (WeightsOf m weights × (Paired (now rows) m n weights pair × (t ≡ transfer total n m (coordinate (now rows) n) (weightOf weights)))) ⌝ }
-    ensures { λ r. ⌜ r ≡ moved total n m (coordinate (now (rows .entry)) n) weights ⌝ }
+    requires { ⌜ Table (now rows) m n × (WeightsOf m weights × (Paired (now rows) m n weights pair × (t ≡ transfer total m n (coordinate (now rows) n) (weightOf weights)))) ⌝ }
+    ensures { λ r. ⌜ r ≡ moved total m n (coordinate (now (rows .entry)) n) weights ⌝ }
 {
     let from = pair.near;
     let to = pair.far;

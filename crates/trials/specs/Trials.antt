@@ -40,14 +40,14 @@ outline r =
 
 -- the outline, X and the weights of the first m rows
 whole : ℕ → ℕ → Drawing → List ℤ
-whole n m r = outline r ++ take n (r .ball .«scaled_centre») ++ numbers (take m (r .weights))
+whole m n r = outline r ++ take n (r .ball .«scaled_centre») ++ numbers (take m (r .weights))
 
 -- g, and t, of one channel's rows under some weights
 gain : List ℤ → List ℕ → ℕ
-gain rows ws = difference total 1 (length rows) (coordinate rows 1) (weightOf ws)
+gain rows ws = difference total (length rows) 1 (coordinate rows 1) (weightOf ws)
 
 shift : List ℤ → List ℕ → ℕ
-shift rows ws = transfer total 1 (length rows) (coordinate rows 1) (weightOf ws)
+shift rows ws = transfer total (length rows) 1 (coordinate rows 1) (weightOf ws)
 
 right-triangle : List ℤ
 right-triangle = numbers (0 ∷ 0 ∷ 6 ∷ 0 ∷ 0 ∷ 8 ∷ [])

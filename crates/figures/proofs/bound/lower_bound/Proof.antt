@@ -36,13 +36,13 @@ module _ {rows : List ℤ} {m n : ℕ} {w : List ℕ} {x : List ℤ} (t : Table 
   length-is : squaredLength n (centreOf x) ≡ squaredLength n (scaledCentre (coordinate rows n) (weightOf w) m)
   length-is = rw e (squaredLength-cong n (λ k l. centreList-at n (scaledCentre (coordinate rows n) (weightOf w) m) k (t .channels) l))
 
-  module _ {y z : ℕ} (first : y ≡ weightedSquaredLength n m (coordinate rows n) (weightOf w))
+  module _ {y z : ℕ} (first : y ≡ weightedSquaredLength m n (coordinate rows n) (weightOf w))
       (second : z ≡ squaredLength n (centreOf x)) where
     second-most : z ≤ total * y
     unfolding weightsTotal
-    second-most = omega (arith, length-is, centre-length-most total n m (coordinate rows n) (weightOf w) (g .sum) (omega arith))
+    second-most = omega (arith, length-is, centre-length-most total m n (coordinate rows n) (weightOf w) (g .sum) (omega arith))
 
-    bound-is : total * y - z ≡ scaledLowerBound total n m (coordinate rows n) (weightOf w)
+    bound-is : total * y - z ≡ scaledLowerBound total m n (coordinate rows n) (weightOf w)
     unfolding scaledLowerBound
     bound-is = ap₂ (λ a b. total * a - b) first (second ∙ length-is)
 

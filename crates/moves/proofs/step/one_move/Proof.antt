@@ -28,8 +28,8 @@ module _ (c : tie.Start) where
   near-weight =
       let a = coordinate (c .args .rows .now) (c .args .n) in
       let w = weightOf (c .args .weights) in
-      let e : w (c .args .pair .near) ≡ w (nearRow total (c .args .n) (c .args .m) a w) = cc in
-      omega (arith, transfer-most total (c .args .n) (c .args .m) a w)
+      let e : w (c .args .pair .near) ≡ w (nearRow total (c .args .m) (c .args .n) a w) = cc in
+      omega (arith, transfer-most total (c .args .m) (c .args .n) a w)
 
 mul-changed : tie.Need-mul-changed
 mul-changed c = search needs

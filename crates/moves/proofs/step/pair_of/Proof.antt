@@ -26,37 +26,37 @@ module _ {rows x : List ℤ} {m n : ℕ} {ws : List ℕ} (t : Table rows m n) (g
   centre : CentreWithin x
   centre = subst CentreWithin (sym e) (centre-within t g)
 
-  score-is : (i : ℕ) → score rows n x i ≡ distanceOf total n m (coordinate rows n) (weightOf ws) i
+  score-is : (i : ℕ) → score rows n x i ≡ distanceOf total m n (coordinate rows n) (weightOf ws) i
   unfolding distanceOf
   score-is i =
       ap (λ y. scaledSquaredDistance total n (centreOf y) (coordinate rows n i)) e ∙
       distance-centreList total n (scaledCentre (coordinate rows n) (weightOf ws) m) (coordinate rows n i) (t .channels)
 
-  module _ {far near : Selected} (f : Found rows n m x (farthest ltb (score rows n x) m) far)
-      (k : Found rows n m x (nearest ltb (weightOf ws) (score rows n x) m) near) where
+  module _ {far near : Selected} (f : Found rows m n x (farthest ltb (score rows n x) m) far)
+      (k : Found rows m n x (nearest ltb (weightOf ws) (score rows n x) m) near) where
     near-most : near .distance ≤ far .distance
     near-most =
         omega (arith, f .distance-is ∙ ap (score rows n x) (f .is), k .distance-is, farthest-mostℕ (score rows n x) m (near .row) (k .within))
 
-    found-far : far .row ≡ farRow total n m (coordinate rows n) (weightOf ws)
+    found-far : far .row ≡ farRow total m n (coordinate rows n) (weightOf ws)
     unfolding farRow
-    found-far = f .is ∙ farthest-cong ltb (score rows n x) (distanceOf total n m (coordinate rows n) (weightOf ws)) m (λ i l. score-is i)
+    found-far = f .is ∙ farthest-cong ltb (score rows n x) (distanceOf total m n (coordinate rows n) (weightOf ws)) m (λ i l. score-is i)
 
-    found-near : near .row ≡ nearRow total n m (coordinate rows n) (weightOf ws)
+    found-near : near .row ≡ nearRow total m n (coordinate rows n) (weightOf ws)
     unfolding nearRow
     found-near =
         k .is ∙
-        nearest-cong ltb (weightOf ws) (weightOf ws) (score rows n x) (distanceOf total n m (coordinate rows n) (weightOf ws)) m (λ i l. refl) (λ i l. score-is i)
+        nearest-cong ltb (weightOf ws) (weightOf ws) (score rows n x) (distanceOf total m n (coordinate rows n) (weightOf ws)) m (λ i l. refl) (λ i l. score-is i)
 
     paired : {s : ℕ} → Bounded 512000000 s (squaredDistance n (coordinate rows n (far .row)) (coordinate rows n (near .row)))
         → Paired rows m n ws
         (record { far = far .row; near = near .row; distance = far .distance; difference = (far .distance - near .distance) / 65536; separation = s })
     unfolding difference separation
     paired b =
-        let s = distanceOf total n m (coordinate rows n) (weightOf ws) in
-        let far-distance : far .distance ≡ s (farRow total n m (coordinate rows n) (weightOf ws)) =
+        let s = distanceOf total m n (coordinate rows n) (weightOf ws) in
+        let far-distance : far .distance ≡ s (farRow total m n (coordinate rows n) (weightOf ws)) =
         f .distance-is ∙ score-is (far .row) ∙ ap s found-far in
-        let near-distance : near .distance ≡ s (nearRow total n m (coordinate rows n) (weightOf ws)) =
+        let near-distance : near .distance ≡ s (nearRow total m n (coordinate rows n) (weightOf ws)) =
         k .distance-is ∙ score-is (near .row) ∙ ap s found-near in
         record {
           far-is = found-far;
