@@ -5,7 +5,7 @@
 --     more, apart                                           where it holds, a move is left and d² is above 0
 --     transfer-is, transfer-most                            t of a turn
 --     moved-good, shifted-is, again                         the weights and X after a turn, and all is kept
---     gathered, drew                                        what `ball_of` and `drawn_within` put together
+--     gathered, drew, weighed                               what `ball_of`, `drawn_within` and `check` put together
 use Prim.Native.Nat.{ℕ, _+_, _-_, _≤_, _<_, zero-le}
 use mathlib.Core.Path.{_≡_, sym, _∙_, ap, ap₂, subst}
 use mathlib.Core.Bool.{Bool, true, false, _&&_}
@@ -17,21 +17,22 @@ use lib.ListN.{length}
 use Rattle.refusal.specs.declared.Outcome.the-variants.{Accepted}
 use Rattle.geometry.specs.Figures.{scaledCentre, scaledLowerBound}
 use Rattle.geometry.specs.Move.{difference, separation, cappedStep, transfer, settled, moved, weightOf}
-use Rattle.geometry.specs.Limits.{total, rowLimit, coordinate}
+use Rattle.geometry.specs.Limits.{total, rowLimit, coordinate, rowsWithin}
 use Rattle.geometry.specs.Places.{centreList, centreOf, weightsTotal}
 use Rattle.geometry.specs.Asked.{Bounded, CentreWithin, Table, WeightsOf}
 use Rattle.geometry.specs.PlacesLaws.{centreList-at, centreList-cong}
 use Rattle.geometry.specs.TableLaws.{weight-most}
 use Rattle.geometry.specs.FigureLaws.{centre-within}
-use Rattle.geometry.specs.MoveLaws.{separation-positive, moved-total, moved-length, moved-centre}
+use Rattle.geometry.specs.MoveLaws.{radius-far, separation-positive, moved-total, moved-length, moved-centre}
 use Rattle.moves.specs.Given.{Paired, shiftCentre}
 use Rattle.moves.specs.declared.Pair.{Pair}
 use Rattle.ball.specs.declared.Ball.{Ball}
 use Rattle.ball.specs.declared.Ended.{Ended}
 use Rattle.ball.specs.Ball.{ballOf}
 use Rattle.ball.specs.Draw.{start, runFrom, drawn}
+use Rattle.ball.specs.Check.{checking}
 use Rattle.ball.specs.Ran.{Ran}
-use Rattle.ball.specs.DrawLaws.{goes-on, stops, not-settled, runFrom-end, runFrom-move, start-length, start-total, radius-far}
+use Rattle.ball.specs.DrawLaws.{goes-on, stops, not-settled, runFrom-end, runFrom-move, start-length, start-total, checking-checked}
 
 pub record Carried (rows : List ℤ) (m n budget : ℕ) (weights : List ℕ) (centre : List ℤ) (pair : Pair) (moves : ℕ) : Type 0 where
   pub runs-on : runFrom total m n (coordinate rows n) budget 0 (start rowLimit total)
@@ -83,9 +84,9 @@ module _ {rows : List ℤ} {m n budget : ℕ} {weights : List ℕ} {centre : Lis
   same : test ≡ (ltb (separation total m n a w) (difference total m n a w) && ltb moves budget)
   same = ap₂ (λ d g. ltb d g && ltb moves budget) (here .paired .separation-is) (here .paired .difference-is)
 
-  pub ends : test ≡ false → Ran rows m n budget record { weights = weights; centre = centre; pair = pair; moves = moves }
-  ends h =
-      let done = stops (separation total m n a w) (difference total m n a w) moves budget (sym same ∙ h) in
+  pub ends : {flag : Bool} → flag ≡ test → flag ≡ false → Ran rows m n budget record { weights = weights; centre = centre; pair = pair; moves = moves }
+  ends tells left =
+      let done = stops (separation total m n a w) (difference total m n a w) moves budget (sym same ∙ sym tells ∙ left) in
       let whole = here .runs-on ∙ runFrom-end total m n a weights budget moves done in
       record {
         weights-are = sym (ap (λ r. r .weights) whole);
@@ -183,3 +184,10 @@ module _ {rows : List ℤ} {m n : ℕ} where
       → record { outcome = Accepted; ball = b; weights = e .weights; moves = e .moves }
       ≡ drawn total m n (coordinate rows n) (runFrom total m n (coordinate rows n) budget 0 (start rowLimit total))
   drew ran balls = cc
+
+pub weighed : (rows : List ℤ) (m n : ℕ) {ws : List ℕ} {b : Ball} → rowsWithin rowLimit rows m n ≡ true
+    → length ws ≡ m
+    → WeightsOf m ws
+    → b ≡ ballOf total m n (coordinate rows n) (weightOf ws)
+    → record { outcome = Accepted; ball = b } ≡ checking total rowLimit rows m n ws
+weighed rows m n {ws} within places good balls = cc (checking-checked total rowLimit rows m n ws within places (good .sum))

@@ -1,4 +1,5 @@
 -- Document 01, "Weights from anybody", for any total D and row limit.
+--     notChecked o                           a refused check
 --     checking D limit rows m n ws           what the call answers
 use Prim.Native.Nat.{ℕ}
 use mathlib.Core.Bool.{_&&_}
@@ -6,15 +7,14 @@ use mathlib.Core.List.{List}
 use lib.Dec.{eqb}
 use lib.IntN.{ℤ}
 use lib.ListN.{length}
-use Rattle.refusal.specs.Number.{limits, disagreement}
-use Rattle.refusal.specs.Outcome.{refused}
+use Rattle.refusal.specs.Number.{outside-limits, disagreement}
+use Rattle.refusal.specs.Outcome.{refused, choose}
 use Rattle.refusal.specs.declared.Outcome.{Outcome}
 use Rattle.refusal.specs.declared.Outcome.the-variants.{Accepted}
 use Rattle.geometry.specs.Move.{weightOf}
 use Rattle.geometry.specs.Limits.{rowsWithin, coordinate}
 use Rattle.geometry.specs.Places.{weightsTotal}
 use Rattle.ball.specs.Ball.{ballOf, noBall}
-use Rattle.ball.specs.Draw.{choose}
 use Rattle.ball.specs.declared.Checked.{Checked}
 
 abbrev pub notChecked : Outcome → Checked
@@ -27,4 +27,4 @@ checking D limit rows m n ws =
     (λ _. choose (eqb (weightsTotal m ws) D)
     (λ _. record { outcome = Accepted; ball = ballOf D m n (coordinate rows n) (weightOf ws) })
     (λ _. notChecked (refused disagreement)))
-    (λ _. notChecked (refused limits))
+    (λ _. notChecked (refused outside-limits))

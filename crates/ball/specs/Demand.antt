@@ -2,7 +2,7 @@
 --     Tight D m n a b           what demand 3 says of the figures b, with the limits that they keep
 --     ball-tight                it holds of the figures of any weights of sum D
 --     run-keeps                 what a move keeps, a run keeps
---     run-total, run-rises      a run keeps the sum of the weights; L rises by at least 1 with each move
+--     Kept, run-kept            a run keeps the sum of the weights, and L rises by at least 1 with each move
 --     drawing-tight             it holds of every drawing, with any budget
 --     drawing-moves             3.4: the moves made are at most L
 --     checking-tight            it holds of all weights that the check accepts
@@ -17,11 +17,10 @@ use lib.Dec.{leb, eqb, lit<}
 use lib.IntN.{ℤ, pos, natAbs, _-ℤ_, _*ℤ_}
 use lib.ListN.{length}
 use Rattle.integers.specs.Sum.{sumℕ}
-use Rattle.refusal.specs.Number.{limits, budget, disagreement}
-use Rattle.refusal.specs.Outcome.{refused}
-use Rattle.refusal.specs.declared.Outcome.{Outcome}
-use Rattle.refusal.specs.declared.Outcome.the-variants.{Accepted, Refused}
-use Rattle.geometry.specs.Figures.{squaredLength, scaledCentre, scaledSquaredDistance, scaledSquaredRadius, scaledLowerBound, largestSquaredDistance}
+use Rattle.refusal.specs.Number.{outside-limits, budget-too-large, disagreement}
+use Rattle.refusal.specs.Outcome.{refused, choose}
+use Rattle.refusal.specs.declared.Outcome.the-variants.{Accepted}
+use Rattle.geometry.specs.Figures.{squaredLength, scaledCentre, scaledSquaredDistance, scaledLowerBound, largestSquaredDistance}
 use Rattle.geometry.specs.Move.{settled, moved, weightOf}
 use Rattle.geometry.specs.Limits.{total, rowLimit, channelLimit, coordinateLimit, centreLimit, distanceLimit, budgetLimit, coordinate, rowsWithin}
 use Rattle.geometry.specs.Places.{centreList, centreOf, weightsTotal}
@@ -32,7 +31,7 @@ use Rattle.geometry.specs.FigureLaws.{squaredLength-cong, distance-centreList, 
 use Rattle.geometry.specs.MoveLaws.{moved-length, moved-total, lower-bound-rises, rise-some}
 use Rattle.geometry.specs.Demand.{Rival, rival, holds-every-row, reaches-some-row, floor-below-ball, settled-gap, ball-most}
 use Rattle.ball.specs.Ball.{ballOf}
-use Rattle.ball.specs.Draw.{Run, run, start, runFrom, drawn, notDrawn, drawing, choose}
+use Rattle.ball.specs.Draw.{Run, run, start, runFrom, drawn, notDrawn, drawing}
 use Rattle.ball.specs.Check.{checking, notChecked}
 use Rattle.ball.specs.DrawLaws.{run-zero, run-stop, run-step, start-length, start-total, drawing-drawn, checking-checked}
 use Rattle.ball.specs.declared.Ball.{Ball}
@@ -124,7 +123,7 @@ module _ (D m n : ℕ) (a : ℕ → ℕ → ℤ) (positive : 0 < D) (some : 0 < 
 -- ---- the two calls
 
 accepted-draw : (r s : Bool) (limit : ℕ) (x : Drawing)
-    → choose r (λ _. choose s (λ _. x) (λ _. notDrawn limit (refused budget))) (λ _. notDrawn limit (refused limits)) .outcome ≡ Accepted
+    → choose r (λ _. choose s (λ _. x) (λ _. notDrawn limit (refused budget-too-large))) (λ _. notDrawn limit (refused outside-limits)) .outcome ≡ Accepted
     → (r ≡ true) × (s ≡ true)
 accepted-draw true true limit x h = (refl, refl)
 accepted-draw true false limit x h = let z : _≡_ {A = ℕ} 0 1 = cc in absurd (omega arith)
@@ -157,7 +156,7 @@ module _ (D : ℕ) (rows : List ℤ) (m n b : ℕ) (positive : 0 < D) (accepted 
       subst (λ (r : Drawing). r .moves ≤ r .ball .«scaled_lower_bound») (sym drawing-is) (kept .risen)
 
 accepted-check : (r s : Bool) (x : Checked)
-    → choose r (λ _. choose s (λ _. x) (λ _. notChecked (refused disagreement))) (λ _. notChecked (refused limits)) .outcome ≡ Accepted
+    → choose r (λ _. choose s (λ _. x) (λ _. notChecked (refused disagreement))) (λ _. notChecked (refused outside-limits)) .outcome ≡ Accepted
     → (r ≡ true) × (s ≡ true)
 accepted-check true true x h = (refl, refl)
 accepted-check true false x h = let z : _≡_ {A = ℕ} 0 1 = cc in absurd (omega arith)

@@ -1,17 +1,17 @@
 -- Document 01, "A drawing", for any total D and row limit.
---     choose b f g                         f where b holds, else g; only the one chosen is computed
---     Run, run settled next b made ws      the iteration of a move with a budget of b further moves
+--     Run, run stop next b made ws         the iteration of a move with a budget of b further moves, after `made` moves
 --     start limit D                        all weight on the first row
---     runFrom D m n a b ws                 the moves of document 01 from the weights ws
---     drawing D limit rows m n budget      what the call answers
+--     runFrom D m n a b made ws            the moves of document 01 from the weights ws
+--     drawn D m n a r, notDrawn limit o    an accepted and a refused drawing
+--     drawing D limit rows m n b           what the call answers for a budget of b
 use Prim.Native.Nat.{ℕ, zero, suc}
 use mathlib.Core.Bool.{Bool, true, false}
 use mathlib.Core.List.{List}
 use lib.Dec.{leb}
 use lib.IntN.{ℤ}
 use lib.ListN.{replicate, set}
-use Rattle.refusal.specs.Number.{limits, budget}
-use Rattle.refusal.specs.Outcome.{refused}
+use Rattle.refusal.specs.Number.{outside-limits, budget-too-large}
+use Rattle.refusal.specs.Outcome.{refused, choose}
 use Rattle.refusal.specs.declared.Outcome.{Outcome}
 use Rattle.refusal.specs.declared.Outcome.the-variants.{Accepted}
 use Rattle.geometry.specs.Move.{settled, moved, weightOf}
@@ -19,16 +19,13 @@ use Rattle.geometry.specs.Limits.{rowsWithin, coordinate, budgetLimit}
 use Rattle.ball.specs.Ball.{ballOf, noBall}
 use Rattle.ball.specs.declared.Drawing.{Drawing}
 
-abbrev pub choose : {A : Type 0} → Bool → (Unit {0} → A) → (Unit {0} → A) → A
-choose true f g = f tt
-choose false f g = g tt
-
 -- the weights at the end of a run and the moves made
 pub record Run : Type 0 where
   pub weights : List ℕ
   pub moves : ℕ
 
--- It ends when the weights are Settled, else when the budget has been moved
+-- It ends when the weights are Settled, else when the budget has been moved. Which of the two is read off the last weights
+-- by `ballOf`, so that a last move that settles them ends Settled
 unfoldable pub run : (List ℕ → Bool) → (List ℕ → List ℕ) → ℕ → ℕ → List ℕ → Run
 run stop next zero made ws = record { weights = ws; moves = made }
 run stop next (suc b) made ws =
@@ -56,5 +53,5 @@ drawing D limit rows m n b =
     choose (rowsWithin limit rows m n)
     (λ _. choose (leb b budgetLimit)
     (λ _. drawn D m n (coordinate rows n) (runFrom D m n (coordinate rows n) b 0 (start limit D)))
-    (λ _. notDrawn limit (refused budget)))
-    (λ _. notDrawn limit (refused limits))
+    (λ _. notDrawn limit (refused budget-too-large)))
+    (λ _. notDrawn limit (refused outside-limits))

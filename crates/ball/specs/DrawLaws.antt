@@ -1,12 +1,11 @@
 -- Laws of the drawing and the check.
 --     run-zero, run-stop, run-step                   a run with no move left, from weights that stop it, and from others
---     run-spent                                      the moves of a run are at most its budget, and all of it where nothing stopped it
+--     run-spent, runFrom-spent                       the moves of a run are at most its budget, and all of it where nothing stopped it
 --     goes-on, stops                                 the test for another move
 --     is-settled, not-settled                        whether the weights of a list are Settled
 --     runFrom-end, runFrom-move                      the moves of document 01 where no other move is made, and where one is
 --     start-length, start-total                      the places of the first weights and their sum
 --     weightsTotal-zero, weightsTotal-next           the sum of the first weights, one more at a time
---     radius-far                                     M is s of the far row
 --     drawing-limits, -budget, -drawn                the three answers of a drawing
 --     checking-limits, -places, -sum, -checked       the four answers of a check
 use Prim.Native.Nat.{ℕ, zero, suc, _+_, _-_, _≤_, _<_}
@@ -22,11 +21,11 @@ use lib.IntN.{ℤ}
 use lib.ListN.{length, replicate, length-set, length-replicate, getD-replicate}
 use Rattle.integers.specs.Sum.{sumℕ}
 use Rattle.integers.specs.SumLaws.{sumℕ-set, sumℕ-zero, sumℕ-cong}
-use Rattle.refusal.specs.Number.{limits, budget, disagreement}
+use Rattle.refusal.specs.Number.{outside-limits, budget-too-large, disagreement}
 use Rattle.refusal.specs.Outcome.{refused}
 use Rattle.refusal.specs.declared.Outcome.the-variants.{Accepted}
 use Rattle.geometry.specs.Figures.{scaledCentre, scaledSquaredRadius}
-use Rattle.geometry.specs.Move.{distanceOf, farRow, difference, separation, settled, moved, weightOf}
+use Rattle.geometry.specs.Move.{scaledSquaredDistanceOf, farRow, difference, separation, settled, moved, weightOf}
 use Rattle.geometry.specs.Limits.{budgetLimit, coordinate, rowsWithin}
 use Rattle.geometry.specs.Places.{weightsTotal}
 use Rattle.geometry.specs.TableLaws.{both}
@@ -86,6 +85,10 @@ module _ (d g made most : ℕ) where
       either : (p q : Bool) → (p ≡ false → g ≤ d) → (q ≡ false → most ≤ made) → (p && q) ≡ false → (g ≤ d) ⊎ (most ≤ made)
       either true q f k h = inr (k h)
       either false q f k h = inl (f refl)
+
+pub runFrom-spent : (D m n : ℕ) (a : ℕ → ℕ → ℤ) (b made : ℕ) (ws : List ℕ) → Spent (λ ws. settled D m n a (weightOf ws)) made b (runFrom D m n a b made ws)
+unfolding runFrom
+runFrom-spent D m n a b made ws = run-spent (λ ws. settled D m n a (weightOf ws)) (moved D m n a) b made ws
 
 module _ (D m n : ℕ) (a : ℕ → ℕ → ℤ) (ws : List ℕ) where
   abbrev g : ℕ
@@ -148,18 +151,14 @@ pub weightsTotal-next : (i : ℕ) (ws : List ℕ) → weightsTotal (i + 1) ws �
 unfolding weightsTotal sumℕ
 weightsTotal-next i ws = ap (λ k. weightsTotal k ws) (add-one i)
 
-pub radius-far : (D m n : ℕ) (a : ℕ → ℕ → ℤ) (w : ℕ → ℕ) → 0 < m → scaledSquaredRadius D m n a (scaledCentre a w m) ≡ distanceOf D m n a w (farRow D m n a w)
-unfolding scaledSquaredRadius distanceOf farRow
-radius-far D m n a w some = largest-farthest (distanceOf D m n a w) m some
-
 -- ---- the answers
 
 module _ (D limit : ℕ) (rows : List ℤ) (m n b : ℕ) where
-  pub drawing-limits : rowsWithin limit rows m n ≡ false → drawing D limit rows m n b ≡ notDrawn limit (refused limits)
+  pub drawing-limits : rowsWithin limit rows m n ≡ false → drawing D limit rows m n b ≡ notDrawn limit (refused outside-limits)
   unfolding drawing
   drawing-limits h = rw (h, drawing)
 
-  pub drawing-budget : rowsWithin limit rows m n ≡ true → budgetLimit < b → drawing D limit rows m n b ≡ notDrawn limit (refused budget)
+  pub drawing-budget : rowsWithin limit rows m n ≡ true → budgetLimit < b → drawing D limit rows m n b ≡ notDrawn limit (refused budget-too-large)
   unfolding drawing
   drawing-budget h k = rw (h, lt-leb b budgetLimit k, drawing)
 
@@ -168,11 +167,11 @@ module _ (D limit : ℕ) (rows : List ℤ) (m n b : ℕ) where
   drawing-drawn h k = rw (h, le-leb b budgetLimit k, drawing)
 
 module _ (D limit : ℕ) (rows : List ℤ) (m n : ℕ) (ws : List ℕ) where
-  pub checking-limits : rowsWithin limit rows m n ≡ false → checking D limit rows m n ws ≡ notChecked (refused limits)
+  pub checking-limits : rowsWithin limit rows m n ≡ false → checking D limit rows m n ws ≡ notChecked (refused outside-limits)
   unfolding checking
   checking-limits h = rw (h, checking)
 
-  pub checking-places : rowsWithin limit rows m n ≡ true → (length ws ≡ m → ⊥) → checking D limit rows m n ws ≡ notChecked (refused limits)
+  pub checking-places : rowsWithin limit rows m n ≡ true → (length ws ≡ m → ⊥) → checking D limit rows m n ws ≡ notChecked (refused outside-limits)
   unfolding checking
   checking-places h k = rw (h, ne-eqb (length ws) m k, checking)
 

@@ -40,10 +40,10 @@ pub fn check(rows: &[i32], m: usize, n: usize, weights: &[u32]) -> Checked
     ensures { λ r. ⌜ CheckPromise (now (rows .entry)) m n (now (weights .entry)) r ⌝ }
 {
     if !rows_within(rows, m, n) {
-        return not_checked(refusal::refused_at(refusal::LIMITS, 0));
+        return not_checked(refusal::refused_at(refusal::OUTSIDE_LIMITS, 0));
     }
     if weights.len() != m {
-        return not_checked(refusal::refused_at(refusal::LIMITS, 0));
+        return not_checked(refusal::refused_at(refusal::OUTSIDE_LIMITS, 0));
     }
     if weights_total(weights, m) != (TOTAL as u64) {
         return not_checked(refusal::refused_at(refusal::DISAGREEMENT, 0));

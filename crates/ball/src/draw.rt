@@ -1,7 +1,7 @@
 // The drawing: moves from all weight on the first row until the weights are Settled or the budget is used.
 ghost use mathlib.Core.Path.{_≡_};
 ghost use mathlib.Core.Bool.{_&&_};
-ghost use lib.Dec.{leb, ltb};
+ghost use lib.Dec.{ltb};
 ghost use Rattle.geometry.specs.Figures.{scaledCentre};
 ghost use Rattle.geometry.specs.Move.{weightOf};
 ghost use Rattle.geometry.specs.Limits.{total, rowLimit, coordinate};
@@ -12,7 +12,6 @@ ghost use Rattle.geometry.specs.Asked.{Table, WeightsOf};
 ghost use Rattle.moves.specs.Given.{Paired};
 ghost use Rattle.ball.specs.Ran.{Ran};
 ghost use Rattle.ball.specs.Demand.{DrawPromise};
-ghost use Rattle.refusal.specs.Outcome.{refused};
 use crate::Ball;
 use crate::Drawing;
 use crate::Ended;
@@ -143,10 +142,10 @@ pub fn draw(rows: &[i32], m: usize, n: usize, budget: u32) -> Drawing
     ensures { λ r. ⌜ DrawPromise (now (rows .entry)) m n budget r ⌝ }
 {
     if !rows_within(rows, m, n) {
-        return not_drawn(refusal::refused_at(refusal::LIMITS, 0));
+        return not_drawn(refusal::refused_at(refusal::OUTSIDE_LIMITS, 0));
     }
     if BUDGET_MOST < budget {
-        return not_drawn(refusal::refused_at(refusal::BUDGET, 0));
+        return not_drawn(refusal::refused_at(refusal::BUDGET_TOO_LARGE, 0));
     }
     drawn_within(rows, m, n, budget)
 }

@@ -16,7 +16,7 @@ pub struct Ball {
     pub settled: bool,
 }
 
-// What a drawing answers. It ended Settled where the ball's weights are, else by its budget. A refusal has every figure 0.
+// What a drawing answers. Where accepted, `ball.settled` tells the ending: Settled, else Budget. A refusal has every figure 0.
 pub struct Drawing {
     pub outcome: Outcome,
     pub ball: Ball,

@@ -18,10 +18,10 @@ use lib.IntN.{ℤ, pos, natAbs, _-ℤ_, _*ℤ_}
 use Rattle.integers.specs.Sum.{sumℕ}
 use Rattle.integers.specs.SumLaws.{sumℕ-mono, sumℕ-mul-right}
 use Rattle.geometry.specs.Figures.{squaredLength, squaredDistance, scaledCentre, scaledSquaredDistance, scaledSquaredRadius, scaledLowerBound, largest, largestSquaredDistance}
-use Rattle.geometry.specs.Move.{distanceOf, farRow, nearRow, difference, separation, settled}
+use Rattle.geometry.specs.Move.{scaledSquaredDistanceOf, farRow, nearRow, difference, separation, settled}
 use Rattle.geometry.specs.FigureLaws.{moment, mean-distance, centre-most, distance-most}
-use Rattle.geometry.specs.SelectLaws.{largest-most, largest-below, largest-reached, largest-farthest, nearest-leastℕ}
-use Rattle.geometry.specs.MoveLaws.{difference-exact, far-within, near-within}
+use Rattle.geometry.specs.SelectLaws.{largest-most, largest-below, largest-reached, nearest-leastℕ}
+use Rattle.geometry.specs.MoveLaws.{difference-exact, far-within, near-within, radius-far}
 
 -- P is at least the squared length of (q times row - Y) for every row
 pub record Rival (m n : ℕ) (a : ℕ → ℕ → ℤ) (Y : ℕ → ℤ) (q P : ℕ) : Type 0 where
@@ -63,17 +63,13 @@ module _ (D m n : ℕ) (a : ℕ → ℕ → ℤ) (w : ℕ → ℕ) (positive : 0
       (weighted-most m D (scaledSquaredRadius D m n a (scaledCentre a w m)) w (λ i. scaledSquaredDistance D n (scaledCentre a w m) (a i)) sum holds-every-row))
       positive
 
-  near-below-floor : distanceOf D m n a w (nearRow D m n a w) ≤ scaledLowerBound D m n a w
-  unfolding distanceOf nearRow
+  near-below-floor : scaledSquaredDistanceOf D m n a w (nearRow D m n a w) ≤ scaledLowerBound D m n a w
+  unfolding scaledSquaredDistanceOf nearRow
   near-below-floor =
       le-of-mul-le-mul-left
-      (le-trans (weighted-least m D (distanceOf D m n a w (nearRow D m n a w)) w (distanceOf D m n a w) sum (nearest-leastℕ w (distanceOf D m n a w) m))
+      (le-trans (weighted-least m D (scaledSquaredDistanceOf D m n a w (nearRow D m n a w)) w (scaledSquaredDistanceOf D m n a w) sum (nearest-leastℕ w (scaledSquaredDistanceOf D m n a w) m))
       (le-of-eq (mean-distance D m n a w sum positive)))
       positive
-
-  far-is-ball : scaledSquaredRadius D m n a (scaledCentre a w m) ≡ distanceOf D m n a w (farRow D m n a w)
-  unfolding scaledSquaredRadius distanceOf farRow
-  far-is-ball = largest-farthest (distanceOf D m n a w) m some
 
   pub settled-gap : settled D m n a w ≡ true
       → scaledSquaredRadius D m n a (scaledCentre a w m) - scaledLowerBound D m n a w ≤ D * largestSquaredDistance m n a
@@ -87,7 +83,7 @@ module _ (D m n : ℕ) (a : ℕ → ℕ → ℤ) (w : ℕ → ℕ) (positive : 0
       largest-most (λ i. largest m (λ j. squaredDistance n (a i) (a j))) m i (far-within D m n a w some) in
       let most : difference D m n a w ≤ largestSquaredDistance m n a =
       le-trans (leb-true (difference D m n a w) (separation D m n a w) h) (le-trans row all) in
-      omega (arith, far-is-ball, difference-exact D m n a w positive some, near-below-floor, mul-le-mul-left D most)
+      omega (arith, radius-far D m n a w some, difference-exact D m n a w positive some, near-below-floor, mul-le-mul-left D most)
 
   module _ (C : ℕ) (within : (i k : ℕ) → i < m → k < n → natAbs (a i k) ≤ C) where
     pub ball-most : scaledSquaredRadius D m n a (scaledCentre a w m) ≤ n * ((2 * (C * D)) * (2 * (C * D)))

@@ -1,5 +1,5 @@
 -- Document 01, "One move", for any rows, weights and total D.
---     distanceOf D m n a w i        s of row i under the weights w
+--     scaledSquaredDistanceOf D m n a w i        s of row i under the weights w
 --     farRow D m n a w              the far row
 --     nearRow D m n a w             the near row
 --     difference D m n a w          g
@@ -31,20 +31,20 @@ abbrev pub cappedStep : ℕ → ℕ → ℕ → ℕ
 cappedStep g d cap = min ((g + d - 1) / (2 * d)) cap
 
 module _ (D m n : ℕ) (a : ℕ → ℕ → ℤ) (w : ℕ → ℕ) where
-  unfoldable pub distanceOf : ℕ → ℕ
-  distanceOf i = scaledSquaredDistance D n (scaledCentre a w m) (a i)
+  unfoldable pub scaledSquaredDistanceOf : ℕ → ℕ
+  scaledSquaredDistanceOf i = scaledSquaredDistance D n (scaledCentre a w m) (a i)
 
   -- The far row has the largest s of all rows: the source's i′ (formula 24), since ⟨a_i, x⟩ - b[i] falls as s rises
   unfoldable pub farRow : ℕ
-  farRow = farthest ltb distanceOf m
+  farRow = farthest ltb scaledSquaredDistanceOf m
 
   -- The near row has the smallest s among rows of weight above 0: the source's i″
   unfoldable pub nearRow : ℕ
-  nearRow = nearest ltb w distanceOf m
+  nearRow = nearest ltb w scaledSquaredDistanceOf m
 
   -- g = (s far - s near)/D, always whole. The source's Δ (formulas 11 and 18), in units of 1/D², is half of s far - s near
   unfoldable pub difference : ℕ
-  difference = (distanceOf farRow - distanceOf nearRow) / D
+  difference = (scaledSquaredDistanceOf farRow - scaledSquaredDistanceOf nearRow) / D
 
   -- d² is the squared distance between the two rows
   unfoldable pub separation : ℕ

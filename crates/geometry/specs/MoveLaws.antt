@@ -6,6 +6,8 @@
 --     moved-length, moved-total     a move keeps the list's length and the weights' sum
 --     moved-other                   no weight but the near and the far row's changes
 --     moved-centre                  X after a move
+--     far-within, near-within       the two rows are among the m
+--     radius-far                    M is s of the far row
 --     difference-exact              g is whole: s far ≡ s near + D g
 --     separation-positive           d² is above 0 where the weights are not Settled
 --     transfer-most                 t is at most the near row's weight
@@ -30,11 +32,11 @@ use Rattle.integers.specs.Solver.{ring, _⊕_, _⊖_, _⊗_, ⊝_, #_, _≈_}
 use Rattle.integers.specs.SumLaws.{sumℤ-cong, sumℤ-add, sumℤ-sub, sumℤ-mul-left, sumℤ-change, sumℕ-set, sumℕ-positive, sumℕ-term, pos-sum}
 use Rattle.integers.specs.Order.{_⊑_, pos-le, ⊑-eq, ⊑-trans, ⊑-cancel, nn-pos}
 use Rattle.integers.specs.Absolute.{square-zero}
-use Rattle.geometry.specs.Figures.{squaredLength, squaredDistance, scaledCentre, scaledSquaredDistance, weightedSquaredLength, scaledLowerBound}
-use Rattle.geometry.specs.Move.{distanceOf, farRow, nearRow, difference, separation, settled, transfer, weightOf, moveWeight, moved}
+use Rattle.geometry.specs.Figures.{squaredLength, squaredDistance, scaledCentre, scaledSquaredDistance, scaledSquaredRadius, weightedSquaredLength, scaledLowerBound}
+use Rattle.geometry.specs.Move.{scaledSquaredDistanceOf, farRow, nearRow, difference, separation, settled, transfer, weightOf, moveWeight, moved}
 use Rattle.geometry.specs.Places.{weightsTotal}
 use Rattle.geometry.specs.FigureLaws.{length-ℤ, squaredLength-cong, lower-bound-ℤ}
-use Rattle.geometry.specs.SelectLaws.{farthest-within, nearest-within, farthest-mostℕ, nearest-weighted, ltb-strict}
+use Rattle.geometry.specs.SelectLaws.{farthest-within, nearest-within, largest-farthest, farthest-mostℕ, nearest-weighted, ltb-strict}
 
 -- ---- inner products
 
@@ -143,15 +145,20 @@ module _ (D m n : ℕ) (a : ℕ → ℕ → ℤ) (w : ℕ → ℕ) where
   module _ (some : 0 < m) where
     pub far-within : farRow D m n a w < m
     unfolding farRow
-    far-within = farthest-within ltb (distanceOf D m n a w) m some
+    far-within = farthest-within ltb (scaledSquaredDistanceOf D m n a w) m some
 
     pub near-within : nearRow D m n a w < m
     unfolding nearRow
-    near-within = nearest-within ltb w (distanceOf D m n a w) m some
+    near-within = nearest-within ltb w (scaledSquaredDistanceOf D m n a w) m some
 
-    pub near-below-far : distanceOf D m n a w (nearRow D m n a w) ≤ distanceOf D m n a w (farRow D m n a w)
+    pub near-below-far : scaledSquaredDistanceOf D m n a w (nearRow D m n a w) ≤ scaledSquaredDistanceOf D m n a w (farRow D m n a w)
     unfolding farRow
-    near-below-far = farthest-mostℕ (distanceOf D m n a w) m (nearRow D m n a w) near-within
+    near-below-far = farthest-mostℕ (scaledSquaredDistanceOf D m n a w) m (nearRow D m n a w) near-within
+
+-- M is s of the far row
+pub radius-far : (D m n : ℕ) (a : ℕ → ℕ → ℤ) (w : ℕ → ℕ) → 0 < m → scaledSquaredRadius D m n a (scaledCentre a w m) ≡ scaledSquaredDistanceOf D m n a w (farRow D m n a w)
+unfolding scaledSquaredRadius scaledSquaredDistanceOf farRow
+radius-far D m n a w some = largest-farthest (scaledSquaredDistanceOf D m n a w) m some
 
 -- the parts of a move from a list of weights
 module _ (D m n : ℕ) (a : ℕ → ℕ → ℤ) (ws : List ℕ) where
@@ -203,10 +210,10 @@ module _ (D m n : ℕ) (a : ℕ → ℕ → ℤ) (w : ℕ → ℕ) (positive : 0
   gap : ℤ
   gap = reduced D n X (a far) -ℤ reduced D n X (a near)
 
-  gap-distance : pos (distanceOf D m n a w far - distanceOf D m n a w near) ≡ pos D *ℤ gap
-  unfolding gap far near X distanceOf
+  gap-distance : pos (scaledSquaredDistanceOf D m n a w far - scaledSquaredDistanceOf D m n a w near) ≡ pos D *ℤ gap
+  unfolding gap far near X scaledSquaredDistanceOf
   gap-distance =
-      pos-sub (distanceOf D m n a w far) (distanceOf D m n a w near) (near-below-far D m n a w some)
+      pos-sub (scaledSquaredDistanceOf D m n a w far) (scaledSquaredDistanceOf D m n a w near) (near-below-far D m n a w some)
       ∙ ap₂ _-ℤ_ (distance-ℤ D n X (a far)) (distance-ℤ D n X (a near))
       ∙ common (pos D) (reduced D n X (a far)) (reduced D n X (a near)) (pos (squaredLength n X))
     where
@@ -219,7 +226,7 @@ module _ (D m n : ℕ) (a : ℕ → ℕ → ℤ) (w : ℕ → ℕ) (positive : 0
       (⊑-cancel (pos D) (pos 0) gap (pos-le positive)
       (⊑-trans (⊑-eq (*ℤ-zero (pos D))) (⊑-trans (pos-le zero-le) (⊑-eq gap-distance))))
 
-  gap-product : distanceOf D m n a w far - distanceOf D m n a w near ≡ D * gap-natural .0
+  gap-product : scaledSquaredDistanceOf D m n a w far - scaledSquaredDistanceOf D m n a w near ≡ D * gap-natural .0
   gap-product = pos-inj (gap-distance ∙ ap (λ (x : ℤ). pos D *ℤ x) (gap-natural .1))
 
   difference-natural : difference D m n a w ≡ gap-natural .0
@@ -230,10 +237,10 @@ module _ (D m n : ℕ) (a : ℕ → ℕ → ℤ) (w : ℕ → ℕ) (positive : 0
   difference-ℤ = ap pos difference-natural ∙ sym (gap-natural .1)
 
   -- g is whole, and s far is not below s near
-  pub difference-exact : distanceOf D m n a w (farRow D m n a w) ≡ distanceOf D m n a w (nearRow D m n a w) + D * difference D m n a w
+  pub difference-exact : scaledSquaredDistanceOf D m n a w (farRow D m n a w) ≡ scaledSquaredDistanceOf D m n a w (nearRow D m n a w) + D * difference D m n a w
   unfolding far near
   difference-exact =
-      let e : distanceOf D m n a w far - distanceOf D m n a w near ≡ D * difference D m n a w =
+      let e : scaledSquaredDistanceOf D m n a w far - scaledSquaredDistanceOf D m n a w near ≡ D * difference D m n a w =
       gap-product ∙ ap (λ (x : ℕ). D * x) (sym difference-natural) in
       omega (arith, near-below-far D m n a w some)
 
@@ -269,7 +276,7 @@ module _ (D m n : ℕ) (a : ℕ → ℕ → ℤ) (w : ℕ → ℕ) (positive : 0
       unfolding transfer nearRow
       transfer-some =
           let weighted = sumℕ-positive w m (omega arith) in
-          let gives : 0 < w (nearRow D m n a w) = nearest-weighted ltb-strict w (distanceOf D m n a w) m (weighted .0) (weighted .1) (weighted .2) in
+          let gives : 0 < w (nearRow D m n a w) = nearest-weighted ltb-strict w (scaledSquaredDistanceOf D m n a w) m (weighted .0) (weighted .1) (weighted .2) in
           let moves : 1 ≤ (difference D m n a w + separation D m n a w - 1) / (2 * separation D m n a w) =
           le-div-iff-mul-le {k = 2 * separation D m n a w} {x = 1} {y = difference D m n a w + separation D m n a w - 1} (omega (arith, separation-positive)) .1 (omega (arith, separation-below)) in
           omega arith

@@ -8,7 +8,7 @@ use mathlib.Core.Path.{_≡_}
 use mathlib.Core.List.{List}
 use lib.IntN.{ℤ, pos, _+ℤ_, _-ℤ_, _*ℤ_}
 use Rattle.geometry.specs.Figures.{scaledSquaredDistance}
-use Rattle.geometry.specs.Move.{distanceOf, farRow, nearRow, difference, separation, weightOf}
+use Rattle.geometry.specs.Move.{scaledSquaredDistanceOf, farRow, nearRow, difference, separation, weightOf}
 use Rattle.geometry.specs.Limits.{total, coordinate, distanceLimit}
 use Rattle.geometry.specs.Places.{centreList, centreOf}
 use Rattle.moves.specs.declared.Selected.{Selected}
@@ -34,7 +34,7 @@ pub record Found (rows : List ℤ) (m n : ℕ) (x : List ℤ) (row : ℕ) (r : S
 pub record Paired (rows : List ℤ) (m n : ℕ) (ws : List ℕ) (r : Pair) : Type 0 where
   pub far-is : r .far ≡ farRow total m n (coordinate rows n) (weightOf ws)
   pub near-is : r .near ≡ nearRow total m n (coordinate rows n) (weightOf ws)
-  pub distance-is : r .distance ≡ distanceOf total m n (coordinate rows n) (weightOf ws) (farRow total m n (coordinate rows n) (weightOf ws))
+  pub distance-is : r .distance ≡ scaledSquaredDistanceOf total m n (coordinate rows n) (weightOf ws) (farRow total m n (coordinate rows n) (weightOf ws))
   pub difference-is : r .difference ≡ difference total m n (coordinate rows n) (weightOf ws)
   pub separation-is : r .separation ≡ separation total m n (coordinate rows n) (weightOf ws)
   pub far-within : r .far < m

@@ -31,16 +31,16 @@ table-short = 7
 
 -- n, m, coordinate, type code, envelope figure or chart channel outside limits; rows lent in below m times n places;
 -- weight list not of m places
-abbrev pub limits : ℕ
-limits = 8
+abbrev pub outside-limits : ℕ
+outside-limits = 8
 
 -- budget above 1,000,000
-abbrev pub budget : ℕ
-budget = 9
+abbrev pub budget-too-large : ℕ
+budget-too-large = 9
 
 -- reading's tag not the envelope's
-abbrev pub tag : ℕ
-tag = 10
+abbrev pub tag-differs : ℕ
+tag-differs = 10
 
 -- record not in form
 abbrev pub record-form : ℕ

@@ -19,11 +19,11 @@ pub const ROW_COUNT: u32 = 6;
 pub const TABLE_SHORT: u32 = 7;
 // 8: n, m, coordinate, type code, envelope figure or chart channel outside limits; rows lent in below m times n places;
 // weight list not of m places
-pub const LIMITS: u32 = 8;
+pub const OUTSIDE_LIMITS: u32 = 8;
 // 9: budget above 1,000,000
-pub const BUDGET: u32 = 9;
+pub const BUDGET_TOO_LARGE: u32 = 9;
 // 10: reading's tag not the envelope's
-pub const TAG: u32 = 10;
+pub const TAG_DIFFERS: u32 = 10;
 // 11: record not in form
 pub const RECORD_FORM: u32 = 11;
 // 12: weights or record disagree with rows

@@ -12,7 +12,7 @@ use lib.ListN.{length, take}
 use Rattle.integers.specs.Sum.{sumℤ, sumℕ, square}
 use Rattle.geometry.specs.Figures.{squaredLength, squaredDistance, scaledCentre, scaledSquaredDistance, largest, scaledSquaredRadius, weightedSquaredLength, scaledLowerBound}
 use Rattle.geometry.specs.Select.{farthest, replaces, nearest}
-use Rattle.geometry.specs.Move.{distanceOf, farRow, nearRow, difference, separation, settled, transfer, moveWeight, moved, weightOf}
+use Rattle.geometry.specs.Move.{scaledSquaredDistanceOf, farRow, nearRow, difference, separation, settled, transfer, moveWeight, moved, weightOf}
 use Rattle.geometry.specs.Limits.{total, rowLimit, coordinate, coordinatesWithin, rowsWithin}
 use Rattle.geometry.specs.Places.{tabulate, centreList}
 use Rattle.ball.specs.Ball.{ballOf}
@@ -74,7 +74,7 @@ trials =
     }
     -- The record: 2 moves
     ∷ record {
-      computed = whole 2 3 (draw 2 right-triangle 3 10000);
+      computed = whole 3 2 (draw 2 right-triangle 3 10000);
       stated =
           numbers (2 ∷ 107374182400 ∷ 107374182400 ∷ 1 ∷ 196608 ∷ 262144 ∷ 0 ∷ 32768 ∷ 32768 ∷ []);
     }
@@ -96,5 +96,5 @@ trials =
     ∷ []
 
 pub trials-agree : map (λ (t : Trial). t .computed) trials ≡ map (λ (t : Trial). t .stated) trials
-unfolding trials numbers flag draw outline whole gain shift right-triangle sumℤ sumℕ square squaredLength squaredDistance scaledCentre scaledSquaredDistance largest scaledSquaredRadius weightedSquaredLength scaledLowerBound farthest replaces nearest distanceOf farRow nearRow difference separation settled transfer moveWeight moved coordinate coordinatesWithin rowsWithin tabulate centreList ballOf run start runFrom drawing
+unfolding trials numbers flag draw outline whole gain shift right-triangle sumℤ sumℕ square squaredLength squaredDistance scaledCentre scaledSquaredDistance largest scaledSquaredRadius weightedSquaredLength scaledLowerBound farthest replaces nearest scaledSquaredDistanceOf farRow nearRow difference separation settled transfer moveWeight moved coordinate coordinatesWithin rowsWithin tabulate centreList ballOf run start runFrom drawing
 trials-agree = refl

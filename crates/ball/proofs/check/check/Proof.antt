@@ -5,13 +5,13 @@ use mathlib.Core.Bool.{true}
 use native.Mathlib.Omega.{arith}
 use borrow.Author.Needs.{needs}
 use borrow.Author.Tests.{not-true, not-false}
-use Rattle.refusal.specs.declared.Outcome.the-variants.{Accepted}
 use Rattle.geometry.specs.Asked.{WeightsOf}
 use Rattle.geometry.specs.Limits.{rowLimit, rowsWithin}
 use Rattle.ball.specs.Check.{notChecked}
 use Rattle.ball.specs.Demand.{check-promise}
-use Rattle.ball.specs.DrawLaws.{checking-limits, checking-places, checking-sum, checking-checked}
+use Rattle.ball.specs.DrawLaws.{checking-limits, checking-places, checking-sum}
 use Rattle.geometry.specs.TableLaws.{within-table}
+use Rattle.ball.proofs.Laws.{weighed}
 use Rattle.ball.proofs.check.check.Statement.{statement}
 use Rattle.ball.proofs.check.check.Tie as tie
 
@@ -87,9 +87,7 @@ ball-of-requires c κs =
 returns-4 : tie.Need-returns-4
 returns-4 c =
     let e = c .before .before .before .before in
-    check-promise _ _ _ _ _
-    (ap (λ b. record { outcome = Accepted; ball = b }) (c .ball-of .ensures) ∙
-    sym (checking-checked _ _ _ _ _ _ (within (e .before .before .before)) (e .before .before .if2 .left) (good e .sum)))
+    check-promise _ _ _ _ _ (weighed _ _ _ (within (e .before .before .before)) (e .before .before .if2 .left) (good e) (c .ball-of .ensures))
 
 pub check-spec : {M : Type 1} → statement M
 check-spec =

@@ -109,9 +109,7 @@ loop-again c =
     again (entry turn .pre) (head turn .loop .inv) (goes turn) stepped move shift (c .pair-of2 .ensures)
 
 returns : tie.Need-returns Inv-loop μ-loop
-returns c =
-    let entry = c .before .before .before .before .before .before .before .before .before in
-    ends (entry .pre) (c .before .before .loop .inv) (sym (c .before .goes-on .ensures) ∙ c .if1 .left)
+returns c = ends (c .before .before .before .before .before .before .before .before .before .pre) (c .before .before .loop .inv) (c .before .goes-on .ensures) (c .if1 .left)
 
 pub run-spec : {M : Type 1} → statement M
 run-spec =

@@ -9,7 +9,7 @@ use lib.Dec.{ltb}
 use lib.IntN.{ℤ}
 use Rattle.geometry.specs.Figures.{scaledCentre, squaredDistance, scaledSquaredDistance}
 use Rattle.geometry.specs.Select.{farthest, nearest}
-use Rattle.geometry.specs.Move.{distanceOf, farRow, nearRow, difference, separation, weightOf}
+use Rattle.geometry.specs.Move.{scaledSquaredDistanceOf, farRow, nearRow, difference, separation, weightOf}
 use Rattle.geometry.specs.Limits.{total, coordinate}
 use Rattle.geometry.specs.Places.{centreList, centreOf}
 use Rattle.geometry.specs.Asked.{Bounded, CentreWithin, Table, WeightsOf}
@@ -26,8 +26,8 @@ module _ {rows x : List ℤ} {m n : ℕ} {ws : List ℕ} (t : Table rows m n) (g
   centre : CentreWithin x
   centre = subst CentreWithin (sym e) (centre-within t g)
 
-  score-is : (i : ℕ) → score rows n x i ≡ distanceOf total m n (coordinate rows n) (weightOf ws) i
-  unfolding distanceOf
+  score-is : (i : ℕ) → score rows n x i ≡ scaledSquaredDistanceOf total m n (coordinate rows n) (weightOf ws) i
+  unfolding scaledSquaredDistanceOf
   score-is i =
       ap (λ y. scaledSquaredDistance total n (centreOf y) (coordinate rows n i)) e ∙
       distance-centreList total n (scaledCentre (coordinate rows n) (weightOf ws) m) (coordinate rows n i) (t .channels)
@@ -40,20 +40,20 @@ module _ {rows x : List ℤ} {m n : ℕ} {ws : List ℕ} (t : Table rows m n) (g
 
     found-far : far .row ≡ farRow total m n (coordinate rows n) (weightOf ws)
     unfolding farRow
-    found-far = f .is ∙ farthest-cong ltb (score rows n x) (distanceOf total m n (coordinate rows n) (weightOf ws)) m (λ i l. score-is i)
+    found-far = f .is ∙ farthest-cong ltb (score rows n x) (scaledSquaredDistanceOf total m n (coordinate rows n) (weightOf ws)) m (λ i l. score-is i)
 
     found-near : near .row ≡ nearRow total m n (coordinate rows n) (weightOf ws)
     unfolding nearRow
     found-near =
         k .is ∙
-        nearest-cong ltb (weightOf ws) (weightOf ws) (score rows n x) (distanceOf total m n (coordinate rows n) (weightOf ws)) m (λ i l. refl) (λ i l. score-is i)
+        nearest-cong ltb (weightOf ws) (weightOf ws) (score rows n x) (scaledSquaredDistanceOf total m n (coordinate rows n) (weightOf ws)) m (λ i l. refl) (λ i l. score-is i)
 
     paired : {s : ℕ} → Bounded 512000000 s (squaredDistance n (coordinate rows n (far .row)) (coordinate rows n (near .row)))
         → Paired rows m n ws
         (record { far = far .row; near = near .row; distance = far .distance; difference = (far .distance - near .distance) / 65536; separation = s })
     unfolding difference separation
     paired b =
-        let s = distanceOf total m n (coordinate rows n) (weightOf ws) in
+        let s = scaledSquaredDistanceOf total m n (coordinate rows n) (weightOf ws) in
         let far-distance : far .distance ≡ s (farRow total m n (coordinate rows n) (weightOf ws)) =
         f .distance-is ∙ score-is (far .row) ∙ ap s found-far in
         let near-distance : near .distance ≡ s (nearRow total m n (coordinate rows n) (weightOf ws)) =
