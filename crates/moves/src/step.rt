@@ -1,9 +1,9 @@
 // One move: the pair of rows with g and d², t, the weights and X after it.
 ghost use mathlib.Core.Path.{_≡_};
-ghost use Prim.Native.Nat.{_+_, _*_, _-_, _/_, _≤_, _<_, min};
+ghost use Prim.Native.Nat.{_≤_, _<_};
 ghost use lib.IntN.{natAbs, pos, _+ℤ_, _-ℤ_, _*ℤ_};
 ghost use Rattle.geometry.specs.Figures.{scaledCentre};
-ghost use Rattle.geometry.specs.Move.{weightOf, transfer, moved};
+ghost use Rattle.geometry.specs.Move.{cappedStep, weightOf, transfer, moved};
 ghost use Rattle.geometry.specs.Limits.{total, coordinateLimit, centreLimit, coordinate};
 ghost use Rattle.geometry.specs.Places.{centreList};
 ghost use Rattle.geometry.specs.Asked.{Bounded, CentreWithin, RowAt, Table, WeightsOf};
@@ -39,7 +39,7 @@ pub fn pair_of(rows: &[i32], m: usize, n: usize, w: &[u32], x: &[i64; CHANNELS])
 // t: the whole part of (g + d² - 1)/(2d²), never more than the near row's weight.
 pub fn transfer_of(difference: u64, separation: u64, weight: u32) -> u32
     requires { ⌜ (0 < separation) × ((separation ≤ 512000000) × (difference ≤ 33554432000000)) ⌝ }
-    ensures { λ r. ⌜ Bounded weight r (min ((difference + separation - 1) / (2 * separation)) weight) ⌝ }
+    ensures { λ r. ⌜ Bounded weight r (cappedStep difference separation weight) ⌝ }
 {
     let most = weight as u64;
     let t = (difference + separation - 1) / (2 * separation);
