@@ -270,3 +270,8 @@ fn accepted(number: u32, line: u32) -> Result<(), Refusal> {
         _ => Err(Refusal { number, line }),
     }
 }
+
+/// The README's example is a test.
+#[cfg(doctest)]
+#[doc = include_str!("../../../README.md")]
+struct Readme;

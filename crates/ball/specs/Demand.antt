@@ -5,7 +5,9 @@
 --     Kept, run-kept            a run keeps the sum of the weights, and L rises by at least 1 with each move
 --     drawing-tight             it holds of every drawing, with any budget
 --     drawing-moves             3.4: the moves made are at most L
+--     drawing-spent             the moves are at most the budget, and all of it where the weights are not Settled
 --     checking-tight            it holds of all weights that the check accepts
+--     DrawPromise, CheckPromise what the two calls promise: the definition's answer, and demand 3 where it is accepted
 use Prim.Native.Nat.{ℕ, zero, suc, _+_, _*_, _-_, _≤_, _<_, zero-le}
 use mathlib.Core.Path.{_≡_, refl, sym, _∙_, ap, subst}
 use mathlib.Core.Bool.{Bool, true, false, _&&_}
@@ -33,7 +35,7 @@ use Rattle.geometry.specs.Demand.{Rival, rival, holds-every-row, reaches-some-r
 use Rattle.ball.specs.Ball.{ballOf}
 use Rattle.ball.specs.Draw.{Run, run, start, runFrom, drawn, notDrawn, drawing}
 use Rattle.ball.specs.Check.{checking, notChecked}
-use Rattle.ball.specs.DrawLaws.{run-zero, run-stop, run-step, start-length, start-total, drawing-drawn, checking-checked}
+use Rattle.ball.specs.DrawLaws.{runFrom-spent, run-zero, run-stop, run-step, start-length, start-total, drawing-drawn, checking-checked}
 use Rattle.ball.specs.declared.Ball.{Ball}
 use Rattle.ball.specs.declared.Drawing.{Drawing}
 use Rattle.ball.specs.declared.Checked.{Checked}
@@ -155,6 +157,14 @@ module _ (D : ℕ) (rows : List ℤ) (m n b : ℕ) (positive : 0 < D) (accepted 
   drawing-moves =
       subst (λ (r : Drawing). r .moves ≤ r .ball .«scaled_lower_bound») (sym drawing-is) (kept .risen)
 
+  -- the moves are at most the budget, and all of it where the weights are not Settled
+  pub drawing-spent : (drawing D rowLimit rows m n b .moves ≤ b) × (drawing D rowLimit rows m n b .ball .settled ≡ false → drawing D rowLimit rows m n b .moves ≡ b)
+  unfolding ballOf
+  drawing-spent =
+      let spent = runFrom-spent D m n (coordinate rows n) b 0 (start rowLimit D) in
+      subst (λ (r : Drawing). (r .moves ≤ b) × (r .ball .settled ≡ false → r .moves ≡ b)) (sym drawing-is)
+      (omega (arith, spent .most), λ h. omega (arith, spent .all h))
+
 accepted-check : (r s : Bool) (x : Checked)
     → choose r (λ _. choose s (λ _. x) (λ _. notChecked (refused disagreement))) (λ _. notChecked (refused outside-limits)) .outcome ≡ Accepted
     → (r ≡ true) × (s ≡ true)
@@ -186,6 +196,7 @@ pub record DrawPromise (rows : List ℤ) (m n b : ℕ) (r : Drawing) : Type 0 wh
   pub is : r ≡ drawing total rowLimit rows m n b
   pub tight : r .outcome ≡ Accepted → Tight total m n (coordinate rows n) (r .ball)
   pub moves-most : r .outcome ≡ Accepted → r .moves ≤ r .ball .«scaled_lower_bound»
+  pub budget-spent : r .outcome ≡ Accepted → (r .moves ≤ b) × (r .ball .settled ≡ false → r .moves ≡ b)
 
 pub record CheckPromise (rows : List ℤ) (m n : ℕ) (ws : List ℕ) (r : Checked) : Type 0 where
   pub is : r ≡ checking total rowLimit rows m n ws
@@ -193,12 +204,15 @@ pub record CheckPromise (rows : List ℤ) (m n : ℕ) (ws : List ℕ) (r : Check
 
 pub draw-promise : (rows : List ℤ) (m n b : ℕ) (r : Drawing) → r ≡ drawing total rowLimit rows m n b → DrawPromise rows m n b r
 draw-promise rows m n b r e =
+    let accepted : r .outcome ≡ Accepted → drawing total rowLimit rows m n b .outcome ≡ Accepted = λ h. ap (λ (x : Drawing). x .outcome) (sym e) ∙ h in
     record {
       is = e;
-      tight = λ h. subst (λ (x : Drawing). Tight total m n (coordinate rows n) (x .ball)) (sym e)
-          (drawing-tight total rows m n b (lit< tt) (ap (λ (x : Drawing). x .outcome) (sym e) ∙ h));
-      moves-most = λ h. subst (λ (x : Drawing). x .moves ≤ x .ball .«scaled_lower_bound») (sym e)
-          (drawing-moves total rows m n b (lit< tt) (ap (λ (x : Drawing). x .outcome) (sym e) ∙ h));
+      tight = λ h.
+          subst (λ (x : Drawing). Tight total m n (coordinate rows n) (x .ball)) (sym e) (drawing-tight total rows m n b (lit< tt) (accepted h));
+      moves-most = λ h.
+          subst (λ (x : Drawing). x .moves ≤ x .ball .«scaled_lower_bound») (sym e) (drawing-moves total rows m n b (lit< tt) (accepted h));
+      budget-spent = λ h.
+          subst (λ (x : Drawing). (x .moves ≤ b) × (x .ball .settled ≡ false → x .moves ≡ b)) (sym e) (drawing-spent total rows m n b (lit< tt) (accepted h));
     }
 
 pub check-promise : (rows : List ℤ) (m n : ℕ) (ws : List ℕ) (r : Checked) → r ≡ checking total rowLimit rows m n ws → CheckPromise rows m n ws r
