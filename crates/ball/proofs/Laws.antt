@@ -19,7 +19,8 @@ use Rattle.geometry.specs.Figures.{scaledCentre, scaledLowerBound}
 use Rattle.geometry.specs.Move.{difference, separation, cappedStep, transfer, settled, moved, weightOf}
 use Rattle.geometry.specs.Limits.{total, rowLimit, coordinate, rowsWithin}
 use Rattle.geometry.specs.Places.{centreList, centreOf, weightsTotal}
-use Rattle.geometry.specs.Asked.{Bounded, CentreWithin, Table, WeightsOf}
+use Rattle.integers.specs.Reading.{Bounded}
+use Rattle.geometry.specs.Asked.{CentreWithin, Table, WeightsOf}
 use Rattle.geometry.specs.PlacesLaws.{centreList-at, centreList-cong}
 use Rattle.geometry.specs.TableLaws.{weight-most}
 use Rattle.geometry.specs.FigureLaws.{centre-within}

@@ -24,12 +24,10 @@ use Rattle.integers.specs.SumLaws.{sumℕ-set, sumℕ-zero, sumℕ-cong}
 use Rattle.refusal.specs.Number.{outside-limits, budget-too-large, disagreement}
 use Rattle.refusal.specs.Outcome.{refused}
 use Rattle.refusal.specs.declared.Outcome.the-variants.{Accepted}
-use Rattle.geometry.specs.Figures.{scaledCentre, scaledSquaredRadius}
-use Rattle.geometry.specs.Move.{scaledSquaredDistanceOf, farRow, difference, separation, settled, moved, weightOf}
+use Rattle.geometry.specs.Move.{difference, separation, settled, moved, weightOf}
 use Rattle.geometry.specs.Limits.{budgetLimit, coordinate, rowsWithin}
 use Rattle.geometry.specs.Places.{weightsTotal}
 use Rattle.geometry.specs.TableLaws.{both}
-use Rattle.geometry.specs.SelectLaws.{largest-farthest}
 use Rattle.ball.specs.Ball.{ballOf}
 use Rattle.ball.specs.Draw.{Run, run, start, runFrom, drawn, notDrawn, drawing}
 use Rattle.ball.specs.Check.{notChecked, checking}

@@ -7,7 +7,8 @@ ghost use Rattle.geometry.specs.Figures.{squaredLength, scaledCentre, weightedS
 ghost use Rattle.geometry.specs.Move.{weightOf};
 ghost use Rattle.geometry.specs.Limits.{total, coordinate, coordinateLimit, centreLimit};
 ghost use Rattle.geometry.specs.Places.{centreList, centreOf};
-ghost use Rattle.geometry.specs.Asked.{Bounded, CentreWithin, RowAt, Table, WeightsOf};
+ghost use Rattle.integers.specs.Reading.{Bounded};
+ghost use Rattle.geometry.specs.Asked.{CentreWithin, RowAt, Table, WeightsOf};
 use crate::limits::CHANNELS;
 use crate::limits::TOTAL;
 

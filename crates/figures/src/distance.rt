@@ -5,7 +5,8 @@ ghost use Rattle.integers.specs.Sum.{square};
 ghost use Rattle.geometry.specs.Figures.{squaredDistance, scaledSquaredDistance};
 ghost use Rattle.geometry.specs.Limits.{total, coordinate, coordinateLimit, centreLimit, distanceLimit};
 ghost use Rattle.geometry.specs.Places.{centreOf};
-ghost use Rattle.geometry.specs.Asked.{Bounded, CentreWithin, RowAt};
+ghost use Rattle.integers.specs.Reading.{Bounded};
+ghost use Rattle.geometry.specs.Asked.{CentreWithin, RowAt};
 use crate::limits::CHANNELS;
 use crate::limits::TOTAL;
 

@@ -3,7 +3,6 @@
 --     RowAt rows n i            row i of the table lies in the list and its coordinates are within limits
 --     Table rows m n            n, m, the places and the coordinates are within limits
 --     WeightsOf m ws            a list of at least m weights of sum `total`
---     Bounded limit r d         r is the number d, which is at most limit
 use Prim.Native.Nat.{ℕ, _+_, _*_, _≤_, _<_}
 use mathlib.Core.Path.{_≡_}
 use mathlib.Core.List.{List}
@@ -31,7 +30,3 @@ pub record Table (rows : List ℤ) (m n : ℕ) : Type 0 where
 pub record WeightsOf (m : ℕ) (ws : List ℕ) : Type 0 where
   pub places : m ≤ length ws
   pub sum : weightsTotal m ws ≡ total
-
-pub record Bounded (limit r defined : ℕ) : Type 0 where
-  pub is : r ≡ defined
-  pub most : r ≤ limit

@@ -9,21 +9,20 @@
 --     centre-length-most                             what is subtracted in L is at most what it is subtracted from
 --     mean-distance                                  Σ w s ≡ D L
 use Prim.Native.Nat.{ℕ, _+_, _*_, _≤_, _<_, zero-le}
-use mathlib.Core.Path.{_≡_, refl, sym, _∙_, ap, ap₂}
+use mathlib.Core.Path.{_≡_, sym, _∙_, ap, ap₂}
 use mathlib.Core.List.{List}
 use native.Mathlib.Omega.{arith}
 use native.Mathlib.Nat.{mul-le-mul, mul-le-mul-left, mul-comm, mul-assoc, eq-of-mul-eq-mul-left}
 use lib.IntN.{ℤ, pos, natAbs, negℤ, _+ℤ_, _-ℤ_, _*ℤ_, +ℤ-idr, *ℤ-zero}
-use lib.ListN.{getD}
 use Rattle.integers.specs.Sum.{sumℤ, sumℕ, square}
 use Rattle.integers.specs.Ring.{pos-inj, pos-sub, -ℤ-self}
 use Rattle.integers.specs.Solver.{ring, _⊕_, _⊖_, _⊗_, ⊝_, #_, _≈_}
 use Rattle.integers.specs.Order.{_⊑_, pos-le, pos-le-inv, ⊑-eq, ⊑-cancel, ⊑-trans, sub-nn}
 use Rattle.integers.specs.SumLaws.{sumℤ-cong, sumℕ-cong, sumℕ-mono, sumℕ-bound, sumℕ-zero, sumℕ-mul-left, sumℤ-add, sumℤ-sub, sumℤ-mul-left, sumℤ-swap, pos-sum}
 use Rattle.integers.specs.Absolute.{abs-mul, abs-sub, abs-sum, square-pos, square-le}
-use Rattle.geometry.specs.Figures.{squaredLength, squaredDistance, scaledCentre, scaledSquaredDistance, weightedSquaredLength, scaledLowerBound}
+use Rattle.geometry.specs.Figures.{squaredLength, scaledCentre, scaledSquaredDistance, weightedSquaredLength, scaledLowerBound}
 use Rattle.geometry.specs.Move.{weightOf}
-use Rattle.geometry.specs.Limits.{total, coordinateLimit, centreLimit, distanceLimit, channelLimit, coordinate}
+use Rattle.geometry.specs.Limits.{total, coordinateLimit, centreLimit, coordinate}
 use Rattle.geometry.specs.Places.{centreList, centreOf, weightsTotal}
 use Rattle.geometry.specs.Asked.{CentreWithin, Table, WeightsOf}
 use Rattle.geometry.specs.PlacesLaws.{centreList-at, centreList-most}

@@ -15,22 +15,22 @@
 --     transfer-gains                t d² is below g where the weights are not Settled
 --     lower-bound-rises             L rises by t (g - t d²), at least 1
 use Prim.Native.Nat.{ℕ, _+_, _*_, _-_, _/_, _≤_, _<_, zero-le}
-use mathlib.Core.Path.{_≡_, refl, sym, _∙_, ap, ap₂}
+use mathlib.Core.Path.{_≡_, sym, _∙_, ap, ap₂}
 use mathlib.Core.Logic.{_≢_, _⊎_, inl, inr}
-use mathlib.Core.Bool.{Bool, true, false}
+use mathlib.Core.Bool.{false}
 use mathlib.Core.List.{List}
 use native.Mathlib.Omega.{arith}
 use native.Mathlib.Nat.{mul-le-mul, mul-le-mul-right, mul-left-comm, div-eq-of-eq-mul-right, div-mul-le-self, le-div-iff-mul-le, eq-zero-or-pos, mul-sub}
-use borrow.Author.Tests.{leb-true, leb-false}
-use lib.Dec.{leb, ltb}
+use borrow.Author.Tests.{leb-false}
+use lib.Dec.{ltb}
 use lib.IntN.{ℤ, pos, negsuc, _+ℤ_, _-ℤ_, _*ℤ_, *ℤ-zero, -ℤ-+ℤ-cancel}
 use lib.ListN.{length, getD, set, length-set}
 use lib.Seq.{getD-set-same, getD-set-other}
 use Rattle.integers.specs.Sum.{sumℤ, sumℕ, square}
 use Rattle.integers.specs.Ring.{pos-inj, pos-sub, -ℤ-self, -ℤ-zero}
-use Rattle.integers.specs.Solver.{ring, _⊕_, _⊖_, _⊗_, ⊝_, #_, _≈_}
+use Rattle.integers.specs.Solver.{ring, _⊕_, _⊖_, _⊗_, #_, _≈_}
 use Rattle.integers.specs.SumLaws.{sumℤ-cong, sumℤ-add, sumℤ-sub, sumℤ-mul-left, sumℤ-change, sumℕ-set, sumℕ-positive, sumℕ-term, pos-sum}
-use Rattle.integers.specs.Order.{_⊑_, pos-le, ⊑-eq, ⊑-trans, ⊑-cancel, nn-pos}
+use Rattle.integers.specs.Order.{pos-le, ⊑-eq, ⊑-trans, ⊑-cancel, nn-pos}
 use Rattle.integers.specs.Absolute.{square-zero}
 use Rattle.geometry.specs.Figures.{squaredLength, squaredDistance, scaledCentre, scaledSquaredDistance, scaledSquaredRadius, weightedSquaredLength, scaledLowerBound}
 use Rattle.geometry.specs.Move.{scaledSquaredDistanceOf, farRow, nearRow, difference, separation, settled, transfer, weightOf, moveWeight, moved}

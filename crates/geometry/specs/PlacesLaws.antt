@@ -4,19 +4,21 @@
 --     centreList-at, centreList-past          its places below n are X, those past n are 0
 --     centreList-by                           a list with these places is X's
 --     centreList-most                         a bound on X is one on all places
+--     centreList-more                         one channel more
 --     centreList-cong                         only the places below n count
-use Prim.Native.Nat.{ℕ, zero, suc, _≤_, _<_}
+use Prim.Native.Nat.{ℕ, zero, suc, _+_, _≤_, _<_}
 use mathlib.Core.Path.{_≡_, refl, sym, _∙_, ap}
-use mathlib.Core.Logic.{_⊎_, inl, inr}
-use mathlib.Core.Bool.{Bool, true, false, cond}
+use mathlib.Core.Logic.{_≢_, _⊎_, inl, inr}
+use mathlib.Core.Bool.{Bool, cond}
 use mathlib.Core.List.{List, [], _∷_, _++_}
 use native.Mathlib.Omega.{arith}
 use native.Mathlib.Decide.{decLt}
+use borrow.Author.Count.{below-more}
 use borrow.Author.Tests.{lt-ltb, le-ltb}
 use lib.Dec.{ltb}
 use lib.IntN.{ℤ, pos, natAbs}
-use lib.ListN.{length, getD, length-append, List·getD-append, List·getD-eq-default}
-use lib.Seq.{getD-at, ext-getD}
+use lib.ListN.{length, getD, set, length-set, length-append, List·getD-append, List·getD-eq-default}
+use lib.Seq.{getD-at, ext-getD, getD-set-same, getD-set-other}
 use Rattle.integers.specs.SumLaws.{last-or-below}
 use Rattle.geometry.specs.Places.{tabulate, centreList, centreOf}
 
@@ -86,3 +88,16 @@ pub centreList-cong : (n : ℕ) (X Y : ℕ → ℤ) → n ≤ 8 → ((k : ℕ) �
 centreList-cong n X Y most h =
     centreList-by n Y (centreList n X) (length-centreList n X) (λ k l. centreList-at n X k most l ∙ h k l)
     (λ k l. centreList-past n X k l)
+
+-- X with one channel more
+module _ (X : ℕ → ℤ) (k : ℕ) (h : k < 8) where
+  pub centreList-more : set (centreList k X) k (X k) ≡ centreList (k + 1) X
+  centreList-more =
+      centreList-by (k + 1) X (set (centreList k X) k (X k)) (length-set (centreList k X) k (X k) ∙ length-centreList k X)
+      (below-more (λ j. getD (set (centreList k X) k (X k)) j (pos 0) ≡ X j) k
+      (λ j l. other j (omega arith) ∙ centreList-at k X j (omega arith) l)
+      (getD-set-same (centreList k X) k (X k) (pos 0) (omega (arith, length-centreList k X))))
+      (λ j l. other j (omega arith) ∙ centreList-past k X j (omega arith))
+    where
+      other : (j : ℕ) → j ≢ k → getD (set (centreList k X) k (X k)) j (pos 0) ≡ getD (centreList k X) j (pos 0)
+      other j e = getD-set-other (centreList k X) k j (X k) (pos 0) e

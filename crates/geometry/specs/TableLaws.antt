@@ -5,22 +5,28 @@
 --     within-table                    the test of the limits, as the record
 --     table-row                       a row of such a table
 --     weight-most                     a weight is at most the total
+--     weights-passed, weights-next    the weights of the first rows are within the total
+--     row-held, centre-held           an element of a row and of X, as a callee is passed it
 use Prim.Native.Nat.{ℕ, zero, suc, _+_, _*_, _≤_, _<_}
-use mathlib.Core.Path.{_≡_, refl, sym, _∙_, ap, ap₂}
+use mathlib.Core.Path.{_≡_, refl}
 use mathlib.Core.Logic.{_⊎_, inl, inr}
 use mathlib.Core.Bool.{Bool, true, false, _&&_}
 use mathlib.Core.List.{List}
 use native.Mathlib.Omega.{arith}
 use native.Mathlib.Nat.{mul-le-mul-right, suc-mul}
-use borrow.Author.Tests.{leb-true, le-leb}
+use borrow.Author.Tests.{leb-true}
 use lib.Dec.{leb}
 use lib.IntN.{ℤ, pos, natAbs}
+use mir.Syntax.{w32, w64}
 use lib.ListN.{length, getD}
-use Rattle.integers.specs.SumLaws.{last-or-below, sumℕ-term}
-use Rattle.geometry.specs.Limits.{total, rowLimit, channelLimit, coordinateLimit, coordinate, coordinatesWithin, rowsWithin}
+use Rattle.integers.specs.Sum.{sumℕ}
+use Rattle.integers.specs.SumLaws.{last-or-below, sumℕ-term, sumℕ-next, sumℕ-part}
+use Rattle.integers.specs.Absolute.{fits32, fits64}
+use Rattle.integers.specs.Reading.{back, Reads, held}
+use Rattle.geometry.specs.Limits.{total, rowLimit, channelLimit, coordinateLimit, centreLimit, coordinate, coordinatesWithin, rowsWithin}
 use Rattle.geometry.specs.Move.{weightOf}
-use Rattle.geometry.specs.Places.{weightsTotal}
-use Rattle.geometry.specs.Asked.{RowAt, Table, WeightsOf}
+use Rattle.geometry.specs.Places.{weightsTotal, centreOf}
+use Rattle.geometry.specs.Asked.{CentreWithin, RowAt, Table, WeightsOf}
 
 -- both parts of a test that holds
 pub both : (a b : Bool) → (a && b) ≡ true → (a ≡ true) × (b ≡ true)
@@ -78,3 +84,21 @@ module _ {rows : List ℤ} {m n : ℕ} (t : Table rows m n) where
 pub weight-most : {m : ℕ} {ws : List ℕ} → WeightsOf m ws → (i : ℕ) → i < m → getD ws i 0 ≤ total
 unfolding weightsTotal
 weight-most {m} {ws} g i h = omega (arith, sumℕ-term (weightOf ws) m i h, g .sum)
+
+-- the weights of the rows passed and of the next row are within the total
+pub weights-passed : {m : ℕ} {ws : List ℕ} → WeightsOf m ws → (i : ℕ) → i ≤ m → sumℕ i (weightOf ws) ≤ total
+unfolding weightsTotal
+weights-passed {m} {ws} g i l = omega (arith, sumℕ-part (weightOf ws) m i l, g .sum)
+
+pub weights-next : {m : ℕ} {ws : List ℕ} → WeightsOf m ws → (i : ℕ) → i < m → sumℕ i (weightOf ws) + weightOf ws i ≤ total
+weights-next {m} {ws} g i l = omega (arith, sumℕ-next (weightOf ws) i, weights-passed g (i + 1) (omega arith))
+
+-- ---- an element of a row and of X, as a callee is passed it
+
+pub row-held : {rows : List ℤ} {n i : ℕ} → RowAt rows n i → (k : ℕ) → k < n
+    → Reads (back w32 (getD rows (i * n + k) (pos 0))) (coordinate rows n i k) coordinateLimit
+unfolding coordinate
+row-held {rows} {n} {i} r k l = held (fits32 (getD rows (i * n + k) (pos 0)) (omega (arith, r .bound k l))) (r .bound k l)
+
+pub centre-held : {x : List ℤ} → CentreWithin x → (k : ℕ) → Reads (back w64 (centreOf x k)) (centreOf x k) (centreLimit total)
+centre-held {x} r k = held (fits64 (centreOf x k) (omega (arith, r .bound k))) (r .bound k)

@@ -5,3 +5,5 @@ pub mod Solver
 pub mod Order
 pub mod SumLaws
 pub mod Absolute
+pub mod Reading
+pub mod Partial

@@ -4,6 +4,8 @@
 --     sumℤ-zero, sumℕ-zero            a sum of zeros
 --     sumℤ-const, sumℕ-const          n times one number
 --     sumℤ-add, -sub, -neg, -mul-left, -mul-right       sums of linear combinations; sumℕ alike (with no -neg)
+--     sumℤ-next, sumℕ-next            a sum with one more term, at k + 1
+--     sumℕ-part                       a sum of fewer terms is at most the sum
 --     sumℤ-swap, sumℕ-swap            two sums change places
 --     sumℤ-mono, sumℕ-mono            smaller terms, smaller sum
 --     sumℤ-nn                         a sum of numbers that are 0 or more
@@ -22,7 +24,8 @@ use mathlib.Core.Bool.{cond}
 use mathlib.Core.List.{List}
 use Prim.Native.Nat.{ℕ, zero, suc, _+_, _*_, _-_, _≤_, _<_, zero-le}
 use native.Mathlib.Nat.{le-refl}
-use native.Mathlib.Decide.{ℕ-discrete}
+use native.Mathlib.Decide.{ℕ-discrete, decLe}
+use native.Mathlib.Numerals.{add-one}
 use native.Mathlib.Omega.{arith}
 use borrow.Author.Tests.{eq-eqb, ne-eqb}
 use lib.Dec.{eqb}
@@ -146,6 +149,25 @@ pub sumℕ-swap : (f : ℕ → ℕ → ℕ) (m n : ℕ) → sumℕ m (λ i. sum�
 unfolding sumℕ
 sumℕ-swap f zero n = sym (sumℕ-zero n)
 sumℕ-swap f (suc m) n = ap (λ x. x + sumℕ n (f m)) (sumℕ-swap f m n) ∙ sym (sumℕ-add (λ k. sumℕ m (λ i. f i k)) (f m) n)
+
+-- ---- one more term, and fewer terms
+
+pub sumℤ-next : (f : ℕ → ℤ) (k : ℕ) → sumℤ (k + 1) f ≡ sumℤ k f +ℤ f k
+unfolding sumℤ
+sumℤ-next f k = ap (λ i. sumℤ i f) (add-one k)
+
+pub sumℕ-next : (f : ℕ → ℕ) (k : ℕ) → sumℕ (k + 1) f ≡ sumℕ k f + f k
+unfolding sumℕ
+sumℕ-next f k = ap (λ i. sumℕ i f) (add-one k)
+
+pub sumℕ-part : (f : ℕ → ℕ) (n k : ℕ) → k ≤ n → sumℕ k f ≤ sumℕ n f
+unfolding sumℕ
+sumℕ-part f zero k l = let e : k ≡ zero = omega arith in rw e (omega arith)
+sumℕ-part f (suc n) k l = go (decLe k n) (sumℕ-part f n k)
+  where
+    go : Dec (k ≤ n) → (k ≤ n → sumℕ k f ≤ sumℕ n f) → sumℕ k f ≤ sumℕ n f + f n
+    go (yes h) r = omega (arith, r h)
+    go (no h) r = let e : k ≡ suc n = omega arith in rw e (omega arith)
 
 -- ---- bounds
 

@@ -4,25 +4,18 @@
 --     pass-end                   after the last row
 --     far-new, far-old           the far row after one row more, by the test of the two distances
 --     near-light, near-new, near-old     the near row after one row more, by its weight and the test of `nearer`
---     centreList-more            X with one channel more
 use Prim.Native.Nat.{ℕ, _+_, _≤_, _<_}
 use mathlib.Core.Path.{_≡_, sym, _∙_, ap, ap₂, subst}
-use mathlib.Core.Logic.{_≢_}
 use mathlib.Core.Bool.{true, false, _&&_, _||_}
 use mathlib.Core.List.{List}
 use native.Mathlib.Omega.{arith}
-use borrow.Author.Count.{below-more}
 use borrow.Author.Tests.{lt-ltb, le-ltb}
 use lib.Dec.{ltb, eqb}
-use lib.IntN.{ℤ, pos}
-use lib.ListN.{getD, set, length-set}
-use lib.Seq.{getD-set-same, getD-set-other}
+use lib.IntN.{ℤ}
 use Rattle.geometry.specs.Select.{farthest, replaces, nearest}
 use Rattle.geometry.specs.SelectLaws.{farthest-taken, farthest-kept, nearest-taken, nearest-kept}
 use Rattle.geometry.specs.Limits.{total, distanceLimit}
-use Rattle.geometry.specs.Places.{centreList}
-use Rattle.geometry.specs.PlacesLaws.{length-centreList, centreList-at, centreList-past, centreList-by}
-use Rattle.geometry.specs.Asked.{Bounded}
+use Rattle.integers.specs.Reading.{Bounded}
 use Rattle.moves.specs.Given.{Found, score}
 use Rattle.moves.specs.declared.Selected.{Selected}
 
@@ -96,17 +89,3 @@ module _ (w : ℕ → ℕ) {rows x : List ℤ} {m n row distance i d : ℕ}
 
   pub near-old : (eqb (w row) 0 || ltb d distance) ≡ false → nearest ltb w (score rows n x) (i + 1) ≡ nearest ltb w (score rows n x) i
   near-old t = nearest-kept ltb w (score rows n x) i (near-test ∙ t)
-
--- ---- X with one channel more
-
-module _ (X : ℕ → ℤ) (k : ℕ) (h : k < 8) where
-  pub centreList-more : set (centreList k X) k (X k) ≡ centreList (k + 1) X
-  centreList-more =
-      centreList-by (k + 1) X (set (centreList k X) k (X k)) (length-set (centreList k X) k (X k) ∙ length-centreList k X)
-      (below-more (λ j. getD (set (centreList k X) k (X k)) j (pos 0) ≡ X j) k
-      (λ j l. other j (omega arith) ∙ centreList-at k X j (omega arith) l)
-      (getD-set-same (centreList k X) k (X k) (pos 0) (omega (arith, length-centreList k X))))
-      (λ j l. other j (omega arith) ∙ centreList-past k X j (omega arith))
-    where
-      other : (j : ℕ) → j ≢ k → getD (set (centreList k X) k (X k)) j (pos 0) ≡ getD (centreList k X) j (pos 0)
-      other j e = getD-set-other (centreList k X) k j (X k) (pos 0) e

@@ -3,9 +3,9 @@
 --     Trial             the figures that the definitions give, and those that document 01 states or that follow from them
 --     trials            the table, in document 01's order
 --     trials-agree      every case gives document 01's figures
-use Prim.Native.Nat.{ℕ, _-_}
+use Prim.Native.Nat.{ℕ}
 use mathlib.Core.Path.{_≡_, refl}
-use mathlib.Core.Bool.{Bool, true, false, cond}
+use mathlib.Core.Bool.{Bool, cond}
 use mathlib.Core.List.{List, [], _∷_, _++_, map}
 use lib.IntN.{ℤ, pos}
 use lib.ListN.{length, take}

@@ -1,7 +1,7 @@
 -- `figures::bound::square_of` meets its contract: the coordinate is within 4,000 of 0, so that its square fits an i64 and is read
 -- back as it is.
 use mir.Syntax.{w32, w64}
-use Rattle.figures.proofs.Laws.{back, Reads, held, kept, fits, product, square-cast, square-is}
+use Rattle.integers.specs.Reading.{back, Reads, held, kept, fits, product, square-cast, square-is}
 use Rattle.figures.proofs.bound.square_of.Statement.{statement}
 use Rattle.figures.proofs.bound.square_of.Tie as tie
 

@@ -1,7 +1,7 @@
 -- `figures::bound::square_of_centre` meets its contract: the coordinate of X is within 262,144,000 of 0, so that its square fits an
 -- i64 and is read back as it is.
 use mir.Syntax.{w64}
-use Rattle.figures.proofs.Laws.{back, Reads, held, fits, product, square-cast, square-is}
+use Rattle.integers.specs.Reading.{back, Reads, held, fits, product, square-cast, square-is}
 use Rattle.figures.proofs.bound.square_of_centre.Statement.{statement}
 use Rattle.figures.proofs.bound.square_of_centre.Tie as tie
 

@@ -5,7 +5,9 @@ use native.Mathlib.Omega.{arith}
 use Rattle.integers.specs.Sum.{square}
 use Rattle.geometry.specs.Figures.{squaredLength}
 use Rattle.geometry.specs.Limits.{coordinate}
-use Rattle.figures.proofs.Laws.{Partial, partial-none, partial-more, partial-all, row-held, passed, given}
+use Rattle.integers.specs.Partial.{Partial, partial-none, partial-more, partial-all}
+use Rattle.geometry.specs.TableLaws.{row-held}
+use Rattle.integers.specs.Reading.{passed, given}
 use Rattle.figures.proofs.bound.squared_length.Statement.{statement}
 use Rattle.figures.proofs.bound.squared_length.Tie as tie
 

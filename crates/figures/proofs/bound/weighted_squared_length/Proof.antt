@@ -9,9 +9,11 @@ use Rattle.integers.specs.Sum.{sumℕ}
 use Rattle.geometry.specs.Figures.{squaredLength, weightedSquaredLength}
 use Rattle.geometry.specs.Move.{weightOf}
 use Rattle.geometry.specs.Limits.{total, coordinate}
-use Rattle.geometry.specs.Asked.{Bounded, WeightsOf}
-use Rattle.geometry.specs.TableLaws.{table-row}
-use Rattle.figures.proofs.Laws.{Partial, partial-none, partial-more, partial-all, sumℕ-next, weights-passed, weights-next}
+use Rattle.integers.specs.Reading.{Bounded}
+use Rattle.geometry.specs.Asked.{WeightsOf}
+use Rattle.geometry.specs.TableLaws.{table-row, weights-passed, weights-next}
+use Rattle.integers.specs.Partial.{Partial, partial-none, partial-more, partial-all}
+use Rattle.integers.specs.SumLaws.{sumℕ-next}
 use Rattle.figures.proofs.bound.weighted_squared_length.Statement.{statement}
 use Rattle.figures.proofs.bound.weighted_squared_length.Tie as tie
 

@@ -16,9 +16,10 @@ use Rattle.geometry.specs.Figures.{scaledCentre}
 use Rattle.geometry.specs.Move.{weightOf}
 use Rattle.geometry.specs.Limits.{coordinate, coordinateLimit}
 use Rattle.geometry.specs.Asked.{Table, WeightsOf}
-use Rattle.geometry.specs.TableLaws.{table-row, weight-most}
+use Rattle.geometry.specs.TableLaws.{table-row, weight-most, row-held, weights-next}
 use Rattle.figures.specs.Given.{Weighted}
-use Rattle.figures.proofs.Laws.{back, Reads, kept, fits, addition, row-held, passed, sumℤ-next, sumℕ-next, weights-next}
+use Rattle.integers.specs.Reading.{back, Reads, kept, fits, addition, passed}
+use Rattle.integers.specs.SumLaws.{sumℤ-next, sumℕ-next}
 use Rattle.figures.proofs.centre.centre_of_channel.Statement.{statement}
 use Rattle.figures.proofs.centre.centre_of_channel.Tie as tie
 

@@ -4,11 +4,9 @@ use borrow.Author.Needs.{needs}
 use mathlib.Core.Path.{_≡_, refl, ap, ap₂, _∙_}
 use mathlib.Core.List.{List}
 use Prim.Native.Nat.{ℕ, _+_, _-_, _≤_, _<_}
-use native.Mathlib.Decide.{ℕ-discrete}
 use native.Mathlib.Omega.{arith}
-use lib.IntN.{ℤ, pos, natAbs}
-use lib.ListN.{getD, set, length-set}
-use lib.Seq.{getD-set-same, getD-set-other}
+use lib.IntN.{ℤ, natAbs}
+use lib.ListN.{set}
 use mir.Syntax.{w64}
 use Rattle.integers.specs.Absolute.{back64}
 use Rattle.geometry.specs.Figures.{scaledCentre}
@@ -16,26 +14,15 @@ use Rattle.geometry.specs.FigureLaws.{centre-at-most}
 use Rattle.geometry.specs.Move.{weightOf}
 use Rattle.geometry.specs.Limits.{total, coordinate, centreLimit}
 use Rattle.geometry.specs.Places.{tabulate, centreList}
-use Rattle.geometry.specs.PlacesLaws.{length-centreList, centreList-at, centreList-past, centreList-by}
-use Rattle.figures.proofs.Laws.{back}
+use Rattle.geometry.specs.PlacesLaws.{centreList-more}
+use Rattle.integers.specs.Reading.{back}
 use Rattle.figures.proofs.centre.scaled_centre.Statement.{statement}
 use Rattle.figures.proofs.centre.scaled_centre.Tie as tie
 
--- one more channel
-grown : (k : ℕ) (X : ℕ → ℤ) → k < 8 → set (centreList k X) k (X k) ≡ centreList (k + 1) X
-grown k X l =
-    centreList-by (k + 1) X (set (centreList k X) k (X k))
-    (length-set (centreList k X) k (X k) ∙ length-centreList k X) (λ j h. at j h (ℕ-discrete j k))
-    (λ j h. getD-set-other (centreList k X) k j (X k) (pos 0) (omega arith) ∙ centreList-past k X j (omega arith))
-  where
-    at : (j : ℕ) → j < k + 1 → Dec (j ≡ k) → getD (set (centreList k X) k (X k)) j (pos 0) ≡ X j
-    at j h (yes e) = rw e (getD-set-same (centreList k X) k (X k) (pos 0) (omega (arith, length-centreList k X)))
-    at j h (no e) = getD-set-other (centreList k X) k j (X k) (pos 0) e ∙ centreList-at k X j (omega arith) (omega arith)
-
--- the same as the loop has it: the result as the machine reads it, stored in x
+-- one channel more, as the loop has it: the result as the machine reads it, stored in x
 turned : (k : ℕ) (X : ℕ → ℤ) (x : List ℤ) (r : ℤ) → k < 8 → natAbs (X k) ≤ centreLimit total → x ≡ centreList k X → r ≡ X k
     → set x k (back w64 r) ≡ centreList (k + 1) X
-turned k X x r l h e f = ap₂ (λ y z. set y k (back w64 z)) e f ∙ ap (set (centreList k X) k) (back64 (X k) (omega arith)) ∙ grown k X l
+turned k X x r l h e f = ap₂ (λ y z. set y k (back w64 z)) e f ∙ ap (set (centreList k X) k) (back64 (X k) (omega arith)) ∙ centreList-more X k l
 
 abbrev Inv-loop : tie.InvT-loop
 Inv-loop rows m n w x₀ k₀ x k = (k ≤ n) × (x ≡ centreList k (scaledCentre (coordinate rows n) (weightOf w) m))

@@ -7,7 +7,7 @@ use native.Mathlib.Nat.{le-refl}
 use native.Mathlib.Omega.{arith}
 use lib.IntN.{pos, natAbs, _*ℤ_}
 use mir.Syntax.{w32, w64}
-use Rattle.figures.proofs.Laws.{back, Reads, held, number, kept, fits, product}
+use Rattle.integers.specs.Reading.{back, Reads, held, number, kept, fits, product}
 use Rattle.figures.proofs.centre.weighted.Statement.{statement}
 use Rattle.figures.proofs.centre.weighted.Tie as tie
 

@@ -7,7 +7,9 @@ use Rattle.integers.specs.Sum.{square}
 use Rattle.geometry.specs.Figures.{squaredLength, scaledSquaredDistance}
 use Rattle.geometry.specs.Limits.{total, coordinate}
 use Rattle.geometry.specs.Places.{centreOf}
-use Rattle.figures.proofs.Laws.{Partial, partial-none, partial-more, partial-all, row-held, centre-held, passed, given₂}
+use Rattle.integers.specs.Partial.{Partial, partial-none, partial-more, partial-all}
+use Rattle.geometry.specs.TableLaws.{row-held, centre-held}
+use Rattle.integers.specs.Reading.{passed, given₂}
 use Rattle.figures.proofs.distance.scaled_squared_distance.Statement.{statement}
 use Rattle.figures.proofs.distance.scaled_squared_distance.Tie as tie
 

@@ -2,7 +2,7 @@
 -- and the square is read back as it is.
 use lib.IntN.{_-ℤ_}
 use mir.Syntax.{w32, w64}
-use Rattle.figures.proofs.Laws.{back, Reads, held, kept, fits, difference, product, square-cast, square-is}
+use Rattle.integers.specs.Reading.{back, Reads, held, kept, fits, difference, product, square-cast, square-is}
 use Rattle.figures.proofs.distance.square_of_difference.Statement.{statement}
 use Rattle.figures.proofs.distance.square_of_difference.Tie as tie
 

@@ -6,7 +6,9 @@ use lib.IntN.{_-ℤ_}
 use Rattle.integers.specs.Sum.{square}
 use Rattle.geometry.specs.Figures.{squaredLength, squaredDistance}
 use Rattle.geometry.specs.Limits.{coordinate}
-use Rattle.figures.proofs.Laws.{Partial, partial-none, partial-more, partial-all, row-held, passed, given₂}
+use Rattle.integers.specs.Partial.{Partial, partial-none, partial-more, partial-all}
+use Rattle.geometry.specs.TableLaws.{row-held}
+use Rattle.integers.specs.Reading.{passed, given₂}
 use Rattle.figures.proofs.distance.squared_distance.Statement.{statement}
 use Rattle.figures.proofs.distance.squared_distance.Tie as tie
 

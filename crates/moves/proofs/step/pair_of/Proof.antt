@@ -12,7 +12,8 @@ use Rattle.geometry.specs.Select.{farthest, nearest}
 use Rattle.geometry.specs.Move.{scaledSquaredDistanceOf, farRow, nearRow, difference, separation, weightOf}
 use Rattle.geometry.specs.Limits.{total, coordinate}
 use Rattle.geometry.specs.Places.{centreList, centreOf}
-use Rattle.geometry.specs.Asked.{Bounded, CentreWithin, Table, WeightsOf}
+use Rattle.integers.specs.Reading.{Bounded}
+use Rattle.geometry.specs.Asked.{CentreWithin, Table, WeightsOf}
 use Rattle.geometry.specs.FigureLaws.{centre-within, distance-centreList}
 use Rattle.geometry.specs.SelectLaws.{farthest-cong, farthest-mostℕ, nearest-cong}
 use Rattle.geometry.specs.TableLaws.{table-row}

@@ -11,8 +11,9 @@ use lib.IntN.{ℤ, pos, _+ℤ_, _-ℤ_, _*ℤ_}
 use Rattle.geometry.specs.Limits.{coordinate}
 use Rattle.geometry.specs.Places.{tabulate, centreList, centreOf}
 use Rattle.moves.specs.Given.{shiftCentre}
-use Rattle.figures.proofs.Laws.{passed, row-held, centre-held}
-use Rattle.moves.proofs.Laws.{centreList-more}
+use Rattle.integers.specs.Reading.{passed}
+use Rattle.geometry.specs.TableLaws.{row-held, centre-held}
+use Rattle.geometry.specs.PlacesLaws.{centreList-more}
 use Rattle.moves.proofs.step.shift_centre.Statement.{statement}
 use Rattle.moves.proofs.step.shift_centre.Tie as tie
 

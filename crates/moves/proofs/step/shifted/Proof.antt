@@ -3,7 +3,7 @@
 use lib.IntN.{pos, _-ℤ_, _*ℤ_}
 use mir.Syntax.{w32, w64}
 use mir.Val.{toZ}
-use Rattle.figures.proofs.Laws.{back, Reads, held, kept, fits, number, addition, difference, product}
+use Rattle.integers.specs.Reading.{back, Reads, held, kept, fits, number, addition, difference, product}
 use Rattle.moves.proofs.step.shifted.Statement.{statement}
 use Rattle.moves.proofs.step.shifted.Tie as tie
 
