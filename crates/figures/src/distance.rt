@@ -9,6 +9,7 @@ ghost use Rattle.integers.specs.Reading.{Bounded};
 ghost use Rattle.geometry.specs.Asked.{CentreWithin, RowAt};
 use crate::limits::CHANNELS;
 use crate::limits::TOTAL;
+use crate::limits::channels;
 
 // One channel's part of s: the square of (D times coordinate - X).
 fn scaled_square(a: i32, x: i64) -> u64
@@ -25,9 +26,10 @@ pub fn scaled_squared_distance(rows: &[i32], n: usize, row: usize, x: &[i64; CHA
     ensures { λ r. ⌜ Bounded (distanceLimit total) r (scaledSquaredDistance total n (centreOf (now (x .entry))) (coordinate (now (rows .entry)) n row)) ⌝ }
 {
     let base = row * n;
+    let count = channels(n);
     let mut sum: u64 = 0;
     let mut k = 0;
-    while k < n {
+    while k < count {
         sum += scaled_square(rows[base + k], x[k]);
         k += 1;
     }
@@ -50,9 +52,10 @@ pub fn squared_distance(rows: &[i32], n: usize, i: usize, j: usize) -> u64
 {
     let base = i * n;
     let other = j * n;
+    let count = channels(n);
     let mut sum: u64 = 0;
     let mut k = 0;
-    while k < n {
+    while k < count {
         sum += square_of_difference(rows[base + k], rows[other + k]);
         k += 1;
     }

@@ -4,7 +4,7 @@ ghost use Prim.Native.Nat.{_≤_};
 ghost use lib.Dec.{leb};
 ghost use lib.IntN.{natAbs};
 ghost use lib.ListN.{length};
-ghost use Rattle.geometry.specs.Limits.{coordinateLimit, rowLimit, coordinatesWithin, rowsWithin};
+ghost use Rattle.geometry.specs.Limits.{channelLimit, coordinateLimit, rowLimit, coordinatesWithin, rowsWithin};
 
 pub const TOTAL: u32 = 65536;
 
@@ -15,6 +15,14 @@ pub const CHANNELS: usize = 8;
 pub const COORDINATE: i32 = 4000;
 
 pub const BUDGET_MOST: u32 = 1_000_000;
+
+// n itself, in a form that shows a compiler that a loop over the channels is short.
+pub fn channels(n: usize) -> usize
+    requires { ⌜ n ≤ channelLimit ⌝ }
+    ensures { λ r. ⌜ r ≡ n ⌝ }
+{
+    if n < CHANNELS { n } else { CHANNELS }
+}
 
 fn coordinate_within(z: i32) -> bool
     ensures { λ r. ⌜ r ≡ leb (natAbs z) coordinateLimit ⌝ }

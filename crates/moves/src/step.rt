@@ -16,6 +16,7 @@ use figures::distance::squared_distance;
 use figures::limits::CHANNELS;
 use figures::limits::ROWS;
 use figures::limits::TOTAL;
+use figures::limits::channels;
 
 // The far and the near row of the weights whose X is x, with g and d².
 pub fn pair_of(rows: &[i32], m: usize, n: usize, w: &[u32], x: &[i64; CHANNELS]) -> Pair
@@ -93,8 +94,9 @@ pub fn shift_centre(
     let mut changed = [0i64; CHANNELS];
     let lower = from * n;
     let higher = to * n;
+    let count = channels(n);
     let mut k = 0;
-    while k < n {
+    while k < count {
         changed[k] = shifted(x[k], t, rows[higher + k], rows[lower + k]);
         k += 1;
     }

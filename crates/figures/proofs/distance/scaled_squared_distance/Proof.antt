@@ -14,13 +14,16 @@ use Rattle.figures.proofs.distance.scaled_squared_distance.Statement.{s
 use Rattle.figures.proofs.distance.scaled_squared_distance.Tie as tie
 
 abbrev Inv-loop : tie.InvT-loop
-Inv-loop rows n row x base sum₀ k₀ sum k = Partial 274877906944000000 k (λ j. square (pos total *ℤ coordinate rows n row j -ℤ centreOf x j)) n k sum
+Inv-loop rows n row x base count sum₀ k₀ sum k = Partial 274877906944000000 k (λ j. square (pos total *ℤ coordinate rows n row j -ℤ centreOf x j)) n k sum
 
 abbrev μ-loop : tie.MeasureT-loop
-μ-loop rows n row x base sum₀ k₀ sum k = n - k
+μ-loop rows n row x base count sum₀ k₀ sum k = n - k
 
 mul-base : tie.Need-mul-base Inv-loop μ-loop
 mul-base c = omega arith
+
+channels-requires : tie.Need-channels-requires Inv-loop μ-loop
+channels-requires c κs = omega arith
 
 loop-holds : tie.Need-loop-holds Inv-loop μ-loop
 loop-holds c = partial-none
@@ -42,7 +45,7 @@ element-copy-out-scaled-square c = omega arith
 
 scaled-square-requires : tie.Need-scaled-square-requires Inv-loop μ-loop
 scaled-square-requires c κs =
-    let s = c .before .before .before .before in
+    let s = c .before .before .before .before .before in
     let k = c .before .before .before .loop .k in
     (passed (row-held (s .pre .0) k (omega arith)), passed (centre-held (s .pre .1) k))
 
@@ -57,14 +60,14 @@ loop-less c = omega arith
 
 loop-again : tie.Need-loop-again Inv-loop μ-loop
 loop-again c =
-    let s = c .before .before .before .before .before in
+    let s = c .before .before .before .before .before .before in
     let k = c .before .before .before .before .loop .k in
     partial-more 1 (c .before .before .before .before .loop .inv) (omega arith)
     (given₂ (row-held (s .pre .0) k (omega arith)) (λ a x. square (pos total *ℤ a -ℤ x)) (centre-held (s .pre .1) k) (c .scaled-square .ensures))
 
 returns : tie.Need-returns Inv-loop μ-loop
 unfolding squaredLength scaledSquaredDistance
-returns c = partial-all 8 (c .before .loop .inv) (c .loop-test .left) (omega arith)
+returns c = partial-all 8 (c .before .loop .inv) (omega arith) (omega arith)
 
 pub scaled-squared-distance-spec : {M : Type 1} → statement M
 scaled-squared-distance-spec =
@@ -73,6 +76,7 @@ scaled-squared-distance-spec =
     Inv-loop
     μ-loop
     mul-base
+    channels-requires
     loop-holds
     add-scaled-square
     mul-scaled-square

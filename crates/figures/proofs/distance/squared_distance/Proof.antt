@@ -13,16 +13,19 @@ use Rattle.figures.proofs.distance.squared_distance.Statement.{statemen
 use Rattle.figures.proofs.distance.squared_distance.Tie as tie
 
 abbrev Inv-loop : tie.InvT-loop
-Inv-loop rows n i j base other sum₀ k₀ sum k = Partial 64000000 k (λ t. square (coordinate rows n i t -ℤ coordinate rows n j t)) n k sum
+Inv-loop rows n i j base other count sum₀ k₀ sum k = Partial 64000000 k (λ t. square (coordinate rows n i t -ℤ coordinate rows n j t)) n k sum
 
 abbrev μ-loop : tie.MeasureT-loop
-μ-loop rows n i j base other sum₀ k₀ sum k = n - k
+μ-loop rows n i j base other count sum₀ k₀ sum k = n - k
 
 mul-base : tie.Need-mul-base Inv-loop μ-loop
 mul-base c = omega arith
 
 mul-other : tie.Need-mul-other Inv-loop μ-loop
 mul-other c = omega arith
+
+channels-requires : tie.Need-channels-requires Inv-loop μ-loop
+channels-requires c κs = omega arith
 
 loop-holds : tie.Need-loop-holds Inv-loop μ-loop
 loop-holds c = partial-none
@@ -47,7 +50,7 @@ shared-slice-copy-out-square-of-difference-2 c = omega arith
 
 square-of-difference-requires : tie.Need-square-of-difference-requires Inv-loop μ-loop
 square-of-difference-requires c κs =
-    let s = c .before .before .before .before in
+    let s = c .before .before .before .before .before in
     let k = c .before .before .before .loop .k in
     (passed (row-held (s .pre .0) k (omega arith)), passed (row-held (s .pre .1) k (omega arith)))
 
@@ -62,14 +65,14 @@ loop-less c = omega arith
 
 loop-again : tie.Need-loop-again Inv-loop μ-loop
 loop-again c =
-    let s = c .before .before .before .before .before in
+    let s = c .before .before .before .before .before .before in
     let k = c .before .before .before .before .loop .k in
     partial-more 1 (c .before .before .before .before .loop .inv) (omega arith)
     (given₂ (row-held (s .pre .0) k (omega arith)) (λ a b. square (a -ℤ b)) (row-held (s .pre .1) k (omega arith)) (c .square-of-difference .ensures))
 
 returns : tie.Need-returns Inv-loop μ-loop
 unfolding squaredLength squaredDistance
-returns c = partial-all 8 (c .before .loop .inv) (c .loop-test .left) (omega arith)
+returns c = partial-all 8 (c .before .loop .inv) (omega arith) (omega arith)
 
 pub squared-distance-spec : {M : Type 1} → statement M
 squared-distance-spec =
@@ -79,6 +82,7 @@ squared-distance-spec =
     μ-loop
     mul-base
     mul-other
+    channels-requires
     loop-holds
     add-square-of-difference
     mul-square-of-difference

@@ -1,6 +1,6 @@
 -- `moves::step::shift_centre` meets its contract. The loop's invariant: the first k places are shifted and the others are 0. The
 -- measure is the number of channels left. Assumes nothing.
-use Prim.Native.Nat.{ℕ, _-_, _≤_}
+use Prim.Native.Nat.{ℕ, _-_, _≤_, _<_}
 use mathlib.Core.Path.{_≡_, refl, _∙_, ap, ap₂}
 use mathlib.Core.List.{List}
 use native.Mathlib.Omega.{arith}
@@ -22,16 +22,19 @@ abbrev place : List ℤ → ℕ → ℕ → ℕ → ℕ → List ℤ → ℕ →
 place rows n from to t x k = centreOf x k +ℤ pos t *ℤ (coordinate rows n to k -ℤ coordinate rows n from k)
 
 abbrev Inv-loop : tie.InvT-loop
-Inv-loop rows n from to t x changed₀ lower higher k₀ changed k = (k ≤ n) × (changed ≡ centreList k (place rows n from to t x))
+Inv-loop rows n from to t x changed₀ lower higher count k₀ changed k = (k ≤ n) × (changed ≡ centreList k (place rows n from to t x))
 
 abbrev μ-loop : tie.MeasureT-loop
-μ-loop rows n from to t x changed₀ lower higher k₀ changed k = n - k
+μ-loop rows n from to t x changed₀ lower higher count k₀ changed k = n - k
 
 mul-lower : tie.Need-mul-lower Inv-loop μ-loop
 mul-lower c = omega arith
 
 mul-higher : tie.Need-mul-higher Inv-loop μ-loop
 mul-higher c = omega arith
+
+channels-requires : tie.Need-channels-requires Inv-loop μ-loop
+channels-requires c κs = omega arith
 
 loop-holds : tie.Need-loop-holds Inv-loop μ-loop
 unfolding centreList tabulate
@@ -63,9 +66,9 @@ shared-slice-copy-out-shifted-2 c = omega arith
 
 shifted-requires : tie.Need-shifted-requires Inv-loop μ-loop
 shifted-requires c κs =
-    let p = c .before .before .before .before .before .pre in
+    let p = c .before .before .before .before .before .before .pre in
     let k = c .before .before .before .before .loop .k in
-    let l = c .before .before .before .loop-test .taken in
+    let l : k < c .before .before .before .before .before .before .args .n = omega arith in
     (passed (centre-held (p .1 .1 .0) k), (p .1 .1 .1, (passed (row-held (p .1 .0) k l), passed (row-held (p .0) k l))))
 
 mul-changed : tie.Need-mul-changed Inv-loop μ-loop
@@ -82,10 +85,10 @@ loop-less c = omega arith
 
 loop-again : tie.Need-loop-again Inv-loop μ-loop
 loop-again c =
-    let p = c .before .before .before .before .before .before .pre in
+    let p = c .before .before .before .before .before .before .before .pre in
     let f = c .before .before .before .before .before .loop in
-    let l = c .before .before .before .before .loop-test .taken in
-    let a = c .before .before .before .before .before .before .args in
+    let a = c .before .before .before .before .before .before .before .args in
+    let l : f .k < a .n = omega arith in
     let X = place (a .rows .now) (a .n) (a .from) (a .to) (a .t) (a .t1) in
     let e : c .shifted .result ≡ X (f .k) =
     c .shifted .ensures ∙ ap₂ (λ y d. y +ℤ pos (a .t) *ℤ d) (centre-held (p .1 .1 .0) (f .k) .is)
@@ -96,7 +99,7 @@ loop-again c =
 returns : tie.Need-returns Inv-loop μ-loop
 unfolding shiftCentre
 returns c =
-    let a = c .before .before .args in
+    let a = c .before .before .before .args in
     let e : c .before .loop .k ≡ a .n = omega arith in
     c .before .loop .inv .1 ∙ ap (λ k. centreList k (place (a .rows .now) (a .n) (a .from) (a .to) (a .t) (a .t1))) e
 
@@ -108,6 +111,7 @@ shift-centre-spec =
     μ-loop
     mul-lower
     mul-higher
+    channels-requires
     loop-holds
     mul-shifted
     array-copy-out-shifted
