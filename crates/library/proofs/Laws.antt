@@ -1,0 +1,179 @@
+-- What the proofs of the exported calls share.
+--     Filling, filling-none, -next, -done              a lent slice as it is filled place by place
+--     filled-refused                                   one that a refused call leaves
+--     as-number                                        a test in numbers
+--     drawing-zero, checking-zero                      only an accepted drawing or check has the number 0
+--     Export, draw-export, check-export                how a call's answer becomes one in numbers
+--     Known, answer-is, unwritten, written             what such a call answers and leaves in the lent slices
+--     draw-room, check-room                            the places of an accepted drawing and check
+use Prim.Native.Nat.{ℕ, zero, suc, _+_, _≤_, _<_, zero-le}
+use mathlib.Core.Path.{_≡_, refl, sym, ap, ap₂, _∙_}
+use mathlib.Core.Bool.{Bool, true, false, cond, _&&_}
+use mathlib.Core.List.{List, [], _∷_, _++_}
+use native.Mathlib.Omega.{arith}
+use native.Mathlib.Nat.{le-antisymm, le-of-suc-le-suc, not-suc-le-zero}
+use native.Mathlib.Numerals.{add-one}
+use borrow.Author.Tests.{leb-true}
+use lib.Dec.{leb, eqb, lit<}
+use lib.IntN.{ℤ}
+use lib.ListN.{length, getD, set, take, drop, length-set}
+use mir.Val.{boolByte}
+use Rattle.refusal.specs.Outcome.{numberOf, choose}
+use Rattle.refusal.specs.declared.Outcome.{Outcome}
+use Rattle.refusal.specs.declared.Outcome.the-variants.{Accepted, Refused}
+use Rattle.geometry.specs.Limits.{total, rowLimit, channelLimit, budgetLimit, rowsWithin}
+use Rattle.geometry.specs.Places.{weightsTotal}
+use Rattle.geometry.specs.TableLaws.{both, within-table}
+use Rattle.ball.specs.Draw.{drawing}
+use Rattle.ball.specs.Check.{checking}
+use Rattle.ball.specs.Demand.{drawing-accepted, checking-accepted}
+use Rattle.ball.specs.declared.Drawing.{Drawing}
+use Rattle.ball.specs.declared.Checked.{Checked}
+use Rattle.library.specs.declared.DrawingAnswer.{DrawingAnswer}
+use Rattle.library.specs.declared.CheckAnswer.{CheckAnswer}
+use Rattle.library.specs.Export.{withRoom, drawingInNumbers, checkInNumbers, filled}
+
+-- ---- lent slices
+
+-- before turn i of a loop that copies count places: the first i are the source's, the others as they were lent
+pub record Filling {A : Type 0} (lent₀ source : List A) (count : ℕ) (lent : List A) (i : ℕ) : Type 0 where
+  pub within : i ≤ count
+  pub so-far : lent ≡ filled 0 i source lent₀
+  pub same-length : length lent ≡ length lent₀
+
+module _ {A : Type 0} (lent₀ source : List A) (count : ℕ) where
+  pub filling-none : Filling lent₀ source count lent₀ 0
+  unfolding filled
+  filling-none = record { within = zero-le; so-far = refl; same-length = refl }
+
+  next : (i : ℕ) (lent source : List A) (z : A) → i < length lent → i < length source
+      → set (take i source ++ drop i lent) i (getD source i z) ≡ take (suc i) source ++ drop (suc i) lent
+  next i [] source z h k = absurd (not-suc-le-zero h)
+  next i (x ∷ xs) [] z h k = absurd (not-suc-le-zero k)
+  next zero (x ∷ xs) (y ∷ ys) z h k = refl
+  next (suc i) (x ∷ xs) (y ∷ ys) z h k = ap (λ (l : List A). y ∷ l) (next i xs ys z (le-of-suc-le-suc h) (le-of-suc-le-suc k))
+
+  pub filling-next : (lent : List A) (i : ℕ) (v z : A) → (count ≤ length lent₀) × (count ≤ length source) → i < count
+      → Filling lent₀ source count lent i → v ≡ getD source i z → Filling lent₀ source count (set lent i v) (i + 1)
+  unfolding filled
+  filling-next lent i v z asked h f e =
+      record {
+        within = omega arith;
+        so-far =
+            ap₂ (λ l x. set l i x) (f .so-far) e ∙ next i lent₀ source z (omega arith) (omega arith)
+            ∙ ap (λ j. take j source ++ drop j lent₀) (sym (add-one i));
+        same-length = length-set lent i v ∙ f .same-length;
+      }
+
+  pub filling-done : (lent : List A) (i : ℕ) → count ≤ i → Filling lent₀ source count lent i → lent ≡ filled 0 count source lent₀
+  filling-done lent i h f = f .so-far ∙ ap (λ j. filled 0 j source lent₀) (le-antisymm (f .within) h)
+
+filled-refused : {A : Type 0} (number count : ℕ) (source lent : List A) → (number ≡ 0 → ⊥) → lent ≡ filled number count source lent
+unfolding filled
+filled-refused zero count source lent h = absurd (h refl)
+filled-refused (suc number) count source lent h = refl
+
+-- ---- answers in numbers
+
+pub as-number : (t : Bool) → boolByte t ≡ cond t 1 0
+as-number true = refl
+as-number false = refl
+
+-- ---- an outcome of number 0
+
+nonzero : {A : Type 0} {k : ℕ} → suc k ≡ 0 → A
+nonzero h = absurd (omega arith)
+
+room-accepted : (room : Bool) (o : Outcome) → (numberOf o ≡ 0 → o ≡ Accepted) → numberOf (withRoom room o) ≡ 0
+    → (room ≡ true) × (o ≡ Accepted)
+room-accepted true Accepted only h = (refl, refl)
+room-accepted false Accepted only h = nonzero h
+room-accepted room (Refused r) only h = let z : _≡_ {A = ℕ} 0 1 = cc (only h) in absurd (omega arith)
+
+-- of a call with two refusals, only the accepted answer has the number 0
+module _ {A : Type 0} (outcome : A → Outcome) (x y z : A) (accepted : outcome x ≡ Accepted) (second : numberOf (outcome y) ≡ 0 → ⊥)
+    (first : numberOf (outcome z) ≡ 0 → ⊥) where
+  choose-zero : (r s : Bool) → numberOf (outcome (choose r (λ _. choose s (λ _. x) (λ _. y)) (λ _. z))) ≡ 0
+      → outcome (choose r (λ _. choose s (λ _. x) (λ _. y)) (λ _. z)) ≡ Accepted
+  choose-zero true true h = accepted
+  choose-zero true false h = absurd (second h)
+  choose-zero false s h = absurd (first h)
+
+drawing-zero : (D limit : ℕ) (rows : List ℤ) (m n b : ℕ) → numberOf (drawing D limit rows m n b .outcome) ≡ 0
+    → drawing D limit rows m n b .outcome ≡ Accepted
+unfolding drawing
+drawing-zero D limit rows m n b =
+    choose-zero (λ (d : Drawing). d .outcome) _ _ _ refl nonzero nonzero (rowsWithin limit rows m n) (leb b budgetLimit)
+
+checking-zero : (D limit : ℕ) (rows : List ℤ) (m n : ℕ) (ws : List ℕ) → numberOf (checking D limit rows m n ws .outcome) ≡ 0
+    → checking D limit rows m n ws .outcome ≡ Accepted
+unfolding checking
+checking-zero D limit rows m n ws =
+    choose-zero (λ (k : Checked). k .outcome) _ _ _ refl nonzero nonzero (rowsWithin limit rows m n && eqb (length ws) m)
+    (eqb (weightsTotal m ws) D)
+
+-- ---- a call on lent slices
+
+-- how a call's answer of type K becomes one of type R in numbers
+pub record Export (K R : Type 0) : Type 0 where
+  pub outcome : K → Outcome
+  pub in-numbers : Outcome → K → R
+  pub number : R → ℕ
+  pub number-is : (o : Outcome) (k : K) → number (in-numbers o k) ≡ numberOf o
+
+abbrev pub draw-export : Export Drawing DrawingAnswer
+draw-export = record { outcome = λ d. d .outcome; in-numbers = drawingInNumbers; number = λ r. r .number; number-is = λ o d. refl }
+
+abbrev pub check-export : Export Checked CheckAnswer
+check-export = record { outcome = λ k. k .outcome; in-numbers = checkInNumbers; number = λ r. r .number; number-is = λ o k. refl }
+
+-- what is known before anything is written: the call's answer, the outcome with the lent places counted, and its number
+pub record Known {K R : Type 0} (E : Export K R) (defined : K) (room : Bool) : Type 0 where
+  pub called : K
+  pub result : Outcome
+  pub number : ℕ
+  pub is : called ≡ defined
+  pub answered : result ≡ withRoom room (E .outcome called)
+  pub numbered : number ≡ numberOf result
+
+module _ {K R : Type 0} {E : Export K R} {defined : K} {room : Bool} (h : Known E defined room) where
+  accepted : (numberOf (E .outcome defined) ≡ 0 → E .outcome defined ≡ Accepted) → h .number ≡ 0
+      → (room ≡ true) × (E .outcome defined ≡ Accepted)
+  accepted only z =
+      room-accepted room (E .outcome defined) only
+      (ap (λ (k : K). numberOf (withRoom room (E .outcome k))) (sym (h .is)) ∙ ap numberOf (sym (h .answered)) ∙ sym (h .numbered) ∙ z)
+
+  module _ (r : R) (e : r ≡ E .in-numbers (h .result) (h .called)) where
+    pub answer-is : r ≡ E .in-numbers (withRoom room (E .outcome defined)) defined
+    answer-is =
+        e ∙ ap (λ (o : Outcome). E .in-numbers o (h .called)) (h .answered)
+        ∙ ap (λ (k : K). E .in-numbers (withRoom room (E .outcome k)) k) (h .is)
+
+    number-is : E .number r ≡ h .number
+    number-is = ap (E .number) e ∙ E .number-is (h .result) (h .called) ∙ sym (h .numbered)
+
+    pub unwritten : {A : Type 0} (count : ℕ) (source lent : List A) → (h .number ≡ 0 → ⊥)
+        → lent ≡ filled (E .number r) count source lent
+    unwritten count source lent refused = filled-refused (E .number r) count source lent (λ z. refused (sym number-is ∙ z))
+
+    pub written : {A : Type 0} (count : ℕ) (part : K → List A) (lent₀ lent : List A) → h .number ≡ 0
+        → lent ≡ filled 0 count (part (h .called)) lent₀ → lent ≡ filled (E .number r) count (part defined) lent₀
+    written {A} count part lent₀ lent z l =
+        l ∙ ap₂ (λ (k : ℕ) (d : K). filled k count (part d) lent₀) (sym (number-is ∙ z)) (h .is)
+
+-- the places of an accepted drawing
+pub draw-room : (rows : List ℤ) (m n b c w : ℕ) (h : Known draw-export (drawing total rowLimit rows m n b) (leb n c && leb m w))
+    → h .number ≡ 0 → ((n ≤ c) × (n ≤ channelLimit)) × ((m ≤ w) × (m ≤ rowLimit))
+draw-room rows m n b c w h z =
+    let both-hold = accepted h (drawing-zero total rowLimit rows m n b) z in
+    let room = both (leb n c) (leb m w) (both-hold .0) in
+    let table = within-table rows m n (drawing-accepted total rows m n b (lit< tt) (both-hold .1) .0) in
+    ((leb-true n c (room .0), table .channels), (leb-true m w (room .1), table .rows-most))
+
+-- the places of an accepted check
+pub check-room : (rows : List ℤ) (m n : ℕ) (ws : List ℕ) (c : ℕ) (h : Known check-export (checking total rowLimit rows m n ws) (leb n c))
+    → h .number ≡ 0 → (n ≤ c) × (n ≤ channelLimit)
+check-room rows m n ws c h z =
+    let both-hold = accepted h (checking-zero total rowLimit rows m n ws) z in
+    let table = within-table rows m n (checking-accepted total rows m n ws (lit< tt) (both-hold .1) .0) in
+    (leb-true n c (both-hold .0), table .channels)

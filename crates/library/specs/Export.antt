@@ -1,0 +1,65 @@
+-- What the exported calls answer in numbers, and what a lent slice holds at the end.
+--     withRoom room o                    the outcome of a call that fills lent slices: 13, tested last, where they are too short
+--     figure o f                         a figure of an answer with the outcome o
+--     drawingInNumbers o d               a drawing in numbers, with the outcome o
+--     checkInNumbers o k                 a check in numbers, with the outcome o
+--     drawAnswer d m n c w               the answer to a drawing that is lent c places for X and w for the weights
+--     checkAnswer k n c                  the answer to a check that is lent c places for X
+--     filled number count source lent    a lent slice after a call that answers with this number
+use Prim.Native.Nat.{ℕ, zero, suc}
+use mathlib.Core.Bool.{Bool, true, false, cond, _&&_}
+use mathlib.Core.List.{List, _++_}
+use lib.Dec.{leb}
+use lib.ListN.{take, drop}
+use Rattle.refusal.specs.Number.{buffer-short}
+use Rattle.refusal.specs.Outcome.{refused, numberOf, lineOf}
+use Rattle.refusal.specs.declared.Outcome.{Outcome}
+use Rattle.refusal.specs.declared.Outcome.the-variants.{Accepted, Refused}
+use Rattle.ball.specs.declared.Drawing.{Drawing}
+use Rattle.ball.specs.declared.Checked.{Checked}
+use Rattle.library.specs.declared.DrawingAnswer.{DrawingAnswer}
+use Rattle.library.specs.declared.CheckAnswer.{CheckAnswer}
+
+-- a refusal of the call comes before 13
+abbrev pub withRoom : Bool → Outcome → Outcome
+withRoom room Accepted = cond room Accepted (refused buffer-short)
+withRoom room (Refused r) = Refused r
+
+-- a figure where accepted, else 0
+abbrev pub figure : Outcome → ℕ → ℕ
+figure Accepted f = f
+figure (Refused r) f = 0
+
+abbrev pub drawingInNumbers : Outcome → Drawing → DrawingAnswer
+drawingInNumbers o d =
+    record {
+      number = numberOf o;
+      line = lineOf o;
+      settled = figure o (cond (d .ball .settled) 1 0);
+      moves = figure o (d .moves);
+      «scaled_squared_radius» = figure o (d .ball .«scaled_squared_radius»);
+      «scaled_lower_bound» = figure o (d .ball .«scaled_lower_bound»);
+    }
+
+abbrev pub checkInNumbers : Outcome → Checked → CheckAnswer
+checkInNumbers o k =
+    record {
+      number = numberOf o;
+      line = lineOf o;
+      settled = figure o (cond (k .ball .settled) 1 0);
+      «scaled_squared_radius» = figure o (k .ball .«scaled_squared_radius»);
+      «scaled_lower_bound» = figure o (k .ball .«scaled_lower_bound»);
+    }
+
+-- X needs n places, the weights m
+abbrev pub drawAnswer : Drawing → ℕ → ℕ → ℕ → ℕ → DrawingAnswer
+drawAnswer d m n centrePlaces weightsPlaces =
+    drawingInNumbers (withRoom (leb n centrePlaces && leb m weightsPlaces) (d .outcome)) d
+
+abbrev pub checkAnswer : Checked → ℕ → ℕ → CheckAnswer
+checkAnswer k n centrePlaces = checkInNumbers (withRoom (leb n centrePlaces) (k .outcome)) k
+
+-- where accepted, the first places are the source's and the others as they were lent; else every place is
+unfoldable pub filled : {A : Type 0} → ℕ → ℕ → List A → List A → List A
+filled zero count source lent = take count source ++ drop count lent
+filled (suc number) count source lent = lent

@@ -1,0 +1,196 @@
+// The drawing and the check for C and Rust, on numbers, lent slices and small structs of numbers. X and the weights are
+// written to slices of the caller's, so that these structs stay as they are where the row limit changes.
+ghost use Prim.Native.Nat.{_≤_};
+ghost use mathlib.Core.Path.{_≡_};
+ghost use mathlib.Core.Bool.{_&&_};
+ghost use lib.Dec.{leb};
+ghost use lib.ListN.{length};
+ghost use Rattle.geometry.specs.Limits.{total, rowLimit};
+ghost use Rattle.ball.specs.Draw.{drawing};
+ghost use Rattle.ball.specs.Check.{checking};
+ghost use Rattle.library.specs.Export.{withRoom, drawingInNumbers, checkInNumbers, drawAnswer, checkAnswer, filled};
+use ball::Checked;
+use ball::Drawing;
+use refusal::Outcome;
+use refusal::Refusal;
+
+// What a drawing answers: number 0 where accepted, else the refusal's number and line, every other figure being 0.
+// `settled` is 1 for Settled, else 0.
+#[repr(C)]
+pub struct DrawingAnswer {
+    pub number: u32,
+    pub line: u32,
+    pub settled: u32,
+    pub moves: u32,
+    pub scaled_squared_radius: u64,
+    pub scaled_lower_bound: u64,
+}
+
+// What a check answers, in the same way.
+#[repr(C)]
+pub struct CheckAnswer {
+    pub number: u32,
+    pub line: u32,
+    pub settled: u32,
+    pub scaled_squared_radius: u64,
+    pub scaled_lower_bound: u64,
+}
+
+// The outcome of a call that fills lent slices. A refusal of the call comes before the one for want of room.
+fn with_room(outcome: Outcome, room: bool) -> Outcome
+    ensures { λ r. ⌜ r ≡ withRoom room outcome ⌝ }
+{
+    match outcome {
+        Outcome::Accepted => {
+            if room {
+                outcome
+            } else {
+                Outcome::Refused(Refusal {
+                    number: refusal::BUFFER_SHORT,
+                    line: 0,
+                })
+            }
+        }
+        Outcome::Refused(_) => outcome,
+    }
+}
+
+// Whether X fits its lent places and the weights fit theirs.
+fn both_fit(n: usize, centre_places: usize, m: usize, weights_places: usize) -> bool
+    ensures { λ r. ⌜ r ≡ (leb n «centre_places» && leb m «weights_places») ⌝ }
+{
+    if n <= centre_places {
+        m <= weights_places
+    } else {
+        false
+    }
+}
+
+fn drawing_in_numbers(outcome: Outcome, drawing: Drawing) -> DrawingAnswer
+    ensures { λ r. ⌜ r ≡ drawingInNumbers outcome drawing ⌝ }
+{
+    match outcome {
+        Outcome::Accepted => DrawingAnswer {
+            number: 0,
+            line: 0,
+            settled: drawing.ball.settled as u32,
+            moves: drawing.moves,
+            scaled_squared_radius: drawing.ball.scaled_squared_radius,
+            scaled_lower_bound: drawing.ball.scaled_lower_bound,
+        },
+        Outcome::Refused(refusal) => DrawingAnswer {
+            number: refusal.number,
+            line: refusal.line,
+            settled: 0,
+            moves: 0,
+            scaled_squared_radius: 0,
+            scaled_lower_bound: 0,
+        },
+    }
+}
+
+fn check_in_numbers(outcome: Outcome, checked: Checked) -> CheckAnswer
+    ensures { λ r. ⌜ r ≡ checkInNumbers outcome checked ⌝ }
+{
+    match outcome {
+        Outcome::Accepted => CheckAnswer {
+            number: 0,
+            line: 0,
+            settled: checked.ball.settled as u32,
+            scaled_squared_radius: checked.ball.scaled_squared_radius,
+            scaled_lower_bound: checked.ball.scaled_lower_bound,
+        },
+        Outcome::Refused(refusal) => CheckAnswer {
+            number: refusal.number,
+            line: refusal.line,
+            settled: 0,
+            scaled_squared_radius: 0,
+            scaled_lower_bound: 0,
+        },
+    }
+}
+
+fn fill_centre(lent: &mut [i64], source: &[i64], count: usize)
+    requires { ⌜ (count ≤ length (now lent)) × (count ≤ length (now source)) ⌝ }
+    ensures { λ _. ⌜ now (lent .exit) ≡ filled 0 count (now (source .entry)) (now (lent .entry)) ⌝ }
+{
+    let mut i = 0;
+    while i < count {
+        lent[i] = source[i];
+        i += 1;
+    }
+}
+
+fn fill_weights(lent: &mut [u32], source: &[u32], count: usize)
+    requires { ⌜ (count ≤ length (now lent)) × (count ≤ length (now source)) ⌝ }
+    ensures { λ _. ⌜ now (lent .exit) ≡ filled 0 count (now (source .entry)) (now (lent .entry)) ⌝ }
+{
+    let mut i = 0;
+    while i < count {
+        lent[i] = source[i];
+        i += 1;
+    }
+}
+
+// The drawing of the first m rows of n channels with a budget of moves. It fills the first n places of `centre` with X and
+// the first m places of `weights` where accepted, and writes nothing else. Refused: 8, 9, then 13.
+#[no_mangle]
+pub extern "C" fn cundarivo_draw(
+    rows: &[i32],
+    m: usize,
+    n: usize,
+    budget: u32,
+    centre: &mut [i64],
+    weights: &mut [u32],
+) -> DrawingAnswer
+    ensures answer { λ r.
+        ⌜ r ≡ drawAnswer (drawing total rowLimit (now (rows .entry)) m n budget) m n
+        (length (now (centre .entry))) (length (now (weights .entry))) ⌝ }
+    ensures centre_filled { λ r.
+        ⌜ now (centre .exit) ≡ filled (r .number) n
+        (drawing total rowLimit (now (rows .entry)) m n budget .ball .«scaled_centre») (now (centre .entry)) ⌝ }
+    ensures weights_filled { λ r.
+        ⌜ now (weights .exit) ≡ filled (r .number) m
+        (drawing total rowLimit (now (rows .entry)) m n budget .weights) (now (weights .entry)) ⌝ }
+{
+    let drawing = ball::draw::draw(rows, m, n, budget);
+    let answered = drawing.outcome;
+    let room = both_fit(n, centre.len(), m, weights.len());
+    let outcome = with_room(answered, room);
+    if refusal::number_of(outcome) != 0 {
+        return drawing_in_numbers(outcome, drawing);
+    }
+    let scaled_centre = drawing.ball.scaled_centre;
+    fill_centre(centre, &scaled_centre, n);
+    let drawn = drawing.weights;
+    fill_weights(weights, &drawn, m);
+    drawing_in_numbers(outcome, drawing)
+}
+
+// The figures of the weights that the caller lends. It fills the first n places of `centre` with X where accepted, and
+// writes nothing else. Refused: 8, 12, then 13.
+#[no_mangle]
+pub extern "C" fn cundarivo_check(
+    rows: &[i32],
+    m: usize,
+    n: usize,
+    weights: &[u32],
+    centre: &mut [i64],
+) -> CheckAnswer
+    ensures answer { λ r.
+        ⌜ r ≡ checkAnswer (checking total rowLimit (now (rows .entry)) m n (now (weights .entry))) n
+        (length (now (centre .entry))) ⌝ }
+    ensures centre_filled { λ r.
+        ⌜ now (centre .exit) ≡ filled (r .number) n
+        (checking total rowLimit (now (rows .entry)) m n (now (weights .entry)) .ball .«scaled_centre») (now (centre .entry)) ⌝ }
+{
+    let checked = ball::check::check(rows, m, n, weights);
+    let answered = checked.outcome;
+    let outcome = with_room(answered, n <= centre.len());
+    if refusal::number_of(outcome) != 0 {
+        return check_in_numbers(outcome, checked);
+    }
+    let scaled_centre = checked.ball.scaled_centre;
+    fill_centre(centre, &scaled_centre, n);
+    check_in_numbers(outcome, checked)
+}
