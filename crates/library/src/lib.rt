@@ -114,10 +114,10 @@ fn fill_centre(lent: &mut [i64], source: &[i64], count: usize)
     requires { ⌜ (count ≤ length (now lent)) × (count ≤ length (now source)) ⌝ }
     ensures { λ _. ⌜ now (lent .exit) ≡ filled 0 count (now (source .entry)) (now (lent .entry)) ⌝ }
 {
-    let mut i = 0;
-    while i < count {
-        lent[i] = source[i];
-        i += 1;
+    let mut channel = 0;
+    while channel < count {
+        lent[channel] = source[channel];
+        channel += 1;
     }
 }
 
@@ -125,10 +125,10 @@ fn fill_weights(lent: &mut [u32], source: &[u32], count: usize)
     requires { ⌜ (count ≤ length (now lent)) × (count ≤ length (now source)) ⌝ }
     ensures { λ _. ⌜ now (lent .exit) ≡ filled 0 count (now (source .entry)) (now (lent .entry)) ⌝ }
 {
-    let mut i = 0;
-    while i < count {
-        lent[i] = source[i];
-        i += 1;
+    let mut row = 0;
+    while row < count {
+        lent[row] = source[row];
+        row += 1;
     }
 }
 

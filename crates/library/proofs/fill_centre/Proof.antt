@@ -8,10 +8,10 @@ use Rattle.library.proofs.fill_centre.Statement.{statement}
 use Rattle.library.proofs.fill_centre.Tie as tie
 
 abbrev Inv-loop : tie.InvT-loop
-Inv-loop lent₀ source count i₀ lent i = Filling lent₀ source count lent i
+Inv-loop lent₀ source count channel₀ lent channel = Filling lent₀ source count lent channel
 
 abbrev μ-loop : tie.MeasureT-loop
-μ-loop lent₀ source count i₀ lent i = count - i
+μ-loop lent₀ source count channel₀ lent channel = count - channel
 
 loop-holds : tie.Need-loop-holds Inv-loop μ-loop
 loop-holds c = filling-none (c .args .lent .now) (c .args .source .now) (c .args .count)
@@ -28,8 +28,8 @@ mul-t9 c = omega (arith, c .before .before .before .good)
 slice-set-from-lent : tie.Need-slice-set-from-lent Inv-loop μ-loop
 slice-set-from-lent c = omega arith
 
-add-i : tie.Need-add-i Inv-loop μ-loop
-add-i c = omega arith
+add-channel : tie.Need-add-channel Inv-loop μ-loop
+add-channel c = omega arith
 
 loop-less : tie.Need-loop-less Inv-loop μ-loop
 loop-less c = omega arith
@@ -39,7 +39,7 @@ loop-again c =
     let at-loop = c .before .before in
     let at-start = at-loop .before in
     filling-next (at-start .args .lent .now) (at-start .args .source .now) (at-start .args .count) (at-loop .loop .lent)
-    (at-loop .loop .i) _ (pos 0) (at-start .pre) (c .before .loop-test .taken) (at-loop .loop .inv) (toZ-ofZ (record { sfits = c .lent .given }))
+    (at-loop .loop .channel) _ (pos 0) (at-start .pre) (c .before .loop-test .taken) (at-loop .loop .inv) (toZ-ofZ (record { sfits = c .lent .given }))
 
 same-length : tie.Need-same-length Inv-loop μ-loop
 same-length c = c .before .loop .inv .same-length
@@ -49,7 +49,7 @@ returns c =
     let at-loop = c .before in
     let at-start = at-loop .before in
     filling-done (at-start .args .lent .now) (at-start .args .source .now) (at-start .args .count) (at-loop .loop .lent)
-    (at-loop .loop .i) (c .loop-test .left) (at-loop .loop .inv)
+    (at-loop .loop .channel) (c .loop-test .left) (at-loop .loop .inv)
 
 pub fill-centre-spec : {M : Type 1} → statement M
 fill-centre-spec =
@@ -62,7 +62,7 @@ fill-centre-spec =
     shared-slice-copy-out-lent
     mul-t9
     slice-set-from-lent
-    add-i
+    add-channel
     loop-less
     loop-again
     same-length

@@ -7,10 +7,10 @@ use Rattle.library.proofs.fill_weights.Statement.{statement}
 use Rattle.library.proofs.fill_weights.Tie as tie
 
 abbrev Inv-loop : tie.InvT-loop
-Inv-loop lent₀ source count i₀ lent i = Filling lent₀ source count lent i
+Inv-loop lent₀ source count row₀ lent row = Filling lent₀ source count lent row
 
 abbrev μ-loop : tie.MeasureT-loop
-μ-loop lent₀ source count i₀ lent i = count - i
+μ-loop lent₀ source count row₀ lent row = count - row
 
 loop-holds : tie.Need-loop-holds Inv-loop μ-loop
 loop-holds c = filling-none (c .args .lent .now) (c .args .source .now) (c .args .count)
@@ -27,8 +27,8 @@ mul-lent-2 c = omega (arith, c .before .before .before .good)
 slice-write-lent : tie.Need-slice-write-lent Inv-loop μ-loop
 slice-write-lent c = omega arith
 
-add-i : tie.Need-add-i Inv-loop μ-loop
-add-i c = omega arith
+add-row : tie.Need-add-row Inv-loop μ-loop
+add-row c = omega arith
 
 loop-less : tie.Need-loop-less Inv-loop μ-loop
 loop-less c = omega arith
@@ -38,7 +38,7 @@ loop-again c =
     let at-loop = c .before .before in
     let at-start = at-loop .before in
     filling-next (at-start .args .lent .now) (at-start .args .source .now) (at-start .args .count) (at-loop .loop .lent)
-    (at-loop .loop .i) _ 0 (at-start .pre) (c .before .loop-test .taken) (at-loop .loop .inv) refl
+    (at-loop .loop .row) _ 0 (at-start .pre) (c .before .loop-test .taken) (at-loop .loop .inv) refl
 
 same-length : tie.Need-same-length Inv-loop μ-loop
 same-length c = c .before .loop .inv .same-length
@@ -48,7 +48,7 @@ returns c =
     let at-loop = c .before in
     let at-start = at-loop .before in
     filling-done (at-start .args .lent .now) (at-start .args .source .now) (at-start .args .count) (at-loop .loop .lent)
-    (at-loop .loop .i) (c .loop-test .left) (at-loop .loop .inv)
+    (at-loop .loop .row) (c .loop-test .left) (at-loop .loop .inv)
 
 pub fill-weights-spec : {M : Type 1} → statement M
 fill-weights-spec =
@@ -61,7 +61,7 @@ fill-weights-spec =
     shared-slice-read-lent
     mul-lent-2
     slice-write-lent
-    add-i
+    add-row
     loop-less
     loop-again
     same-length
