@@ -35,6 +35,9 @@ use crate::random::Random;
 use crate::rules::{BUDGET_LIMIT, CHANNEL_LIMIT, COORDINATE_LIMIT, ROW_LIMIT, TOTAL};
 use crate::sets::{self, SHAPES, Set, Shape};
 
+/// The seed of the cases in the gate.
+pub const SEED: u64 = 20_260_102;
+
 const DRAW: u8 = 0;
 const CHECK: u8 = 1;
 const END: u8 = 255;

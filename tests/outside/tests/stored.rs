@@ -72,3 +72,14 @@ fn line_of_the_first_trial() {
     let expected = format!("0,0,1,1,107374182400,107374182400,{centre},98304\n");
     assert_eq!(output, expected);
 }
+
+/// The program in the gate runs the cases that this implementation writes, on its answers.
+#[test]
+fn the_gate_has_these_cases() {
+    let folder = concat!(env!("CARGO_MANIFEST_DIR"), "/../../crates/cases/");
+    let list = stored::stored_cases(&mut Random::new(stored::SEED));
+    let input = std::fs::read(format!("{folder}stdin")).unwrap();
+    let output = std::fs::read_to_string(format!("{folder}stdout")).unwrap();
+    assert_eq!(input, stored::input(&list));
+    assert_eq!(output, stored::output(&list));
+}

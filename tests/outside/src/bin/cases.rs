@@ -5,8 +5,6 @@ use outside::random::{Random, number_from_environment};
 use outside::stored;
 use std::io::{Error, ErrorKind};
 
-const SEED: u64 = 20_260_102;
-
 fn main() -> std::io::Result<()> {
     let mut paths = std::env::args().skip(1);
     let (Some(input), Some(output), None) = (paths.next(), paths.next(), paths.next()) else {
@@ -15,7 +13,7 @@ fn main() -> std::io::Result<()> {
             "two paths: cases INPUT OUTPUT",
         ));
     };
-    let seed = number_from_environment("SEED", SEED);
+    let seed = number_from_environment("SEED", stored::SEED);
     let list = stored::stored_cases(&mut Random::new(seed));
     let bytes = stored::input(&list);
     println!("seed {seed}: {} cases, {} bytes", list.len(), bytes.len());
