@@ -15,6 +15,8 @@ ghost use Rattle.ball.specs.Demand.{DrawPromise};
 use crate::Ball;
 use crate::Drawing;
 use crate::Ended;
+use crate::ball_of;
+use crate::no_ball;
 use figures::bound::lower_bound;
 use figures::centre::scaled_centre;
 use figures::limits::BUDGET_MOST;
@@ -71,39 +73,6 @@ fn run(rows: &[i32], m: usize, n: usize, budget: u32) -> Ended
         centre,
         pair,
         moves,
-    }
-}
-
-// The figures of weights whose X and pair of rows are known.
-pub fn ball_of(
-    rows: &[i32],
-    m: usize,
-    n: usize,
-    w: &[u32],
-    centre: [i64; CHANNELS],
-    pair: Pair,
-) -> Ball
-    requires { ⌜ Table (now rows) m n × (WeightsOf m (now w) × ((centre ≡ centreList n (scaledCentre (coordinate (now rows) n) (weightOf (now w)) m)) × Paired (now rows) m n (now w) pair)) ⌝ }
-    ensures { λ r. ⌜ r ≡ ballOf total m n (coordinate (now (rows .entry)) n) (weightOf (now (w .entry))) ⌝ }
-{
-    let bound = lower_bound(rows, m, n, w, &centre);
-    Ball {
-        scaled_centre: centre,
-        scaled_squared_radius: pair.distance,
-        scaled_lower_bound: bound,
-        settled: pair.difference <= pair.separation,
-    }
-}
-
-// Every figure 0, beside a refusal.
-pub fn no_ball() -> Ball
-    ensures { λ r. ⌜ r ≡ noBall ⌝ }
-{
-    Ball {
-        scaled_centre: [0i64; CHANNELS],
-        scaled_squared_radius: 0,
-        scaled_lower_bound: 0,
-        settled: false,
     }
 }
 

@@ -1,8 +1,18 @@
 // The ball round the reference rows of a sampling point (document 01): drawing it by moves, and checking anybody's weights.
 // A table holds m rows of n channels, row by row. Rows and channels count from 0 in the code.
+ghost use mathlib.Core.Path.{_≡_};
+ghost use Rattle.geometry.specs.Figures.{scaledCentre};
+ghost use Rattle.geometry.specs.Move.{weightOf};
+ghost use Rattle.geometry.specs.Limits.{total, coordinate};
+ghost use Rattle.geometry.specs.Places.{centreList};
+ghost use Rattle.ball.specs.Ball.{ballOf, noBall};
+ghost use Rattle.geometry.specs.Asked.{Table, WeightsOf};
+ghost use Rattle.moves.specs.Given.{Paired};
+
 pub mod check;
 pub mod draw;
 
+use figures::bound::lower_bound;
 use figures::limits::CHANNELS;
 use figures::limits::ROWS;
 use moves::Pair;
@@ -36,4 +46,30 @@ struct Ended {
     centre: [i64; CHANNELS],
     pair: Pair,
     moves: u32,
+}
+
+// The figures of weights whose X and pair of rows are known.
+fn ball_of(rows: &[i32], m: usize, n: usize, w: &[u32], centre: [i64; CHANNELS], pair: Pair) -> Ball
+    requires { ⌜ Table (now rows) m n × (WeightsOf m (now w) × ((centre ≡ centreList n (scaledCentre (coordinate (now rows) n) (weightOf (now w)) m)) × Paired (now rows) m n (now w) pair)) ⌝ }
+    ensures { λ r. ⌜ r ≡ ballOf total m n (coordinate (now (rows .entry)) n) (weightOf (now (w .entry))) ⌝ }
+{
+    let bound = lower_bound(rows, m, n, w, &centre);
+    Ball {
+        scaled_centre: centre,
+        scaled_squared_radius: pair.distance,
+        scaled_lower_bound: bound,
+        settled: pair.difference <= pair.separation,
+    }
+}
+
+// Every figure 0, beside a refusal.
+fn no_ball() -> Ball
+    ensures { λ r. ⌜ r ≡ noBall ⌝ }
+{
+    Ball {
+        scaled_centre: [0i64; CHANNELS],
+        scaled_squared_radius: 0,
+        scaled_lower_bound: 0,
+        settled: false,
+    }
 }

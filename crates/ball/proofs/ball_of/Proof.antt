@@ -1,8 +1,8 @@
 -- `ball::draw::ball_of` meets its contract: M is s of the far row, and the weights are Settled by the test of the definition.
 use borrow.Author.Needs.{needs}
 use Rattle.ball.proofs.Laws.{gathered}
-use Rattle.ball.proofs.draw.ball_of.Statement.{statement}
-use Rattle.ball.proofs.draw.ball_of.Tie as tie
+use Rattle.ball.proofs.ball_of.Statement.{statement}
+use Rattle.ball.proofs.ball_of.Tie as tie
 
 lower-bound-requires : tie.Need-lower-bound-requires
 lower-bound-requires c κs = search needs
