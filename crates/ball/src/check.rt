@@ -1,6 +1,7 @@
 // The check of anybody's weights.
 ghost use mathlib.Core.Path.{_≡_};
 ghost use Prim.Native.Nat.{_≤_};
+ghost use Rattle.geometry.specs.Limits.{rowLimit};
 ghost use lib.ListN.{length};
 ghost use Rattle.geometry.specs.Places.{weightsTotal};
 ghost use Rattle.ball.specs.Check.{notChecked};
@@ -16,7 +17,7 @@ use refusal::Outcome;
 
 // The sum of the first m weights.
 fn weights_total(w: &[u32], m: usize) -> u64
-    requires { ⌜ (m ≤ 256) × (m ≤ length (now w)) ⌝ }
+    requires { ⌜ (m ≤ rowLimit) × (m ≤ length (now w)) ⌝ }
     ensures { λ r. ⌜ r ≡ weightsTotal m (now (w .entry)) ⌝ }
 {
     let mut sum: u64 = 0;

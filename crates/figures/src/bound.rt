@@ -1,11 +1,11 @@
 // L of a set of weights.
 ghost use mathlib.Core.Path.{_≡_};
-ghost use Prim.Native.Nat.{_≤_};
+ghost use Prim.Native.Nat.{_*_, _≤_};
 ghost use lib.IntN.{natAbs};
 ghost use Rattle.integers.specs.Sum.{square};
 ghost use Rattle.geometry.specs.Figures.{squaredLength, scaledCentre, weightedSquaredLength, scaledLowerBound};
 ghost use Rattle.geometry.specs.Move.{weightOf};
-ghost use Rattle.geometry.specs.Limits.{total, coordinate, coordinateLimit, centreLimit};
+ghost use Rattle.geometry.specs.Limits.{total, channelLimit, coordinate, coordinateLimit, centreLimit, lengthLimit};
 ghost use Rattle.geometry.specs.Places.{centreList, centreOf};
 ghost use Rattle.integers.specs.Reading.{Bounded};
 ghost use Rattle.geometry.specs.Asked.{CentreWithin, RowAt, Table, WeightsOf};
@@ -15,7 +15,7 @@ use crate::limits::TOTAL;
 // The square of a coordinate.
 fn square_of(a: i32) -> u64
     requires { ⌜ natAbs a ≤ coordinateLimit ⌝ }
-    ensures { λ r. ⌜ Bounded 16000000 r (square a) ⌝ }
+    ensures { λ r. ⌜ Bounded (coordinateLimit * coordinateLimit) r (square a) ⌝ }
 {
     let d = a as i64;
     (d * d) as u64
@@ -24,7 +24,7 @@ fn square_of(a: i32) -> u64
 // The squared length of a row.
 fn squared_length(rows: &[i32], n: usize, row: usize) -> u64
     requires { ⌜ RowAt (now rows) n row ⌝ }
-    ensures { λ r. ⌜ Bounded 128000000 r (squaredLength n (coordinate (now (rows .entry)) n row)) ⌝ }
+    ensures { λ r. ⌜ Bounded lengthLimit r (squaredLength n (coordinate (now (rows .entry)) n row)) ⌝ }
 {
     let base = row * n;
     let mut sum: u64 = 0;
@@ -39,15 +39,15 @@ fn squared_length(rows: &[i32], n: usize, row: usize) -> u64
 // The square of one coordinate of X.
 fn square_of_centre(x: i64) -> u64
     requires { ⌜ natAbs x ≤ centreLimit total ⌝ }
-    ensures { λ r. ⌜ Bounded 68719476736000000 r (square x) ⌝ }
+    ensures { λ r. ⌜ Bounded (centreLimit total * centreLimit total) r (square x) ⌝ }
 {
     (x * x) as u64
 }
 
 // The squared length of X.
 fn squared_length_of_centre(x: &[i64; CHANNELS], n: usize) -> u64
-    requires { ⌜ CentreWithin (now x) × (n ≤ 8) ⌝ }
-    ensures { λ r. ⌜ Bounded 549755813888000000 r (squaredLength n (centreOf (now (x .entry)))) ⌝ }
+    requires { ⌜ CentreWithin (now x) × (n ≤ channelLimit) ⌝ }
+    ensures { λ r. ⌜ Bounded (channelLimit * centreLimit total * centreLimit total) r (squaredLength n (centreOf (now (x .entry)))) ⌝ }
 {
     let mut sum: u64 = 0;
     let mut k = 0;
@@ -61,7 +61,7 @@ fn squared_length_of_centre(x: &[i64; CHANNELS], n: usize) -> u64
 // The sum of weight times the row's squared length.
 fn weighted_squared_length(rows: &[i32], m: usize, n: usize, w: &[u32]) -> u64
     requires { ⌜ Table (now rows) m n × WeightsOf m (now w) ⌝ }
-    ensures { λ r. ⌜ Bounded 8388608000000 r (weightedSquaredLength m n (coordinate (now (rows .entry)) n) (weightOf (now (w .entry)))) ⌝ }
+    ensures { λ r. ⌜ Bounded (lengthLimit * total) r (weightedSquaredLength m n (coordinate (now (rows .entry)) n) (weightOf (now (w .entry)))) ⌝ }
 {
     let mut sum: u64 = 0;
     let mut i = 0;

@@ -1,9 +1,9 @@
 // s of a row, and d² of two rows.
-ghost use Prim.Native.Nat.{_≤_};
+ghost use Prim.Native.Nat.{_*_, _≤_};
 ghost use lib.IntN.{natAbs, pos, _-ℤ_, _*ℤ_};
 ghost use Rattle.integers.specs.Sum.{square};
 ghost use Rattle.geometry.specs.Figures.{squaredDistance, scaledSquaredDistance};
-ghost use Rattle.geometry.specs.Limits.{total, coordinate, coordinateLimit, centreLimit, distanceLimit};
+ghost use Rattle.geometry.specs.Limits.{total, coordinate, coordinateLimit, centreLimit, distanceLimit, separationLimit};
 ghost use Rattle.geometry.specs.Places.{centreOf};
 ghost use Rattle.integers.specs.Reading.{Bounded};
 ghost use Rattle.geometry.specs.Asked.{CentreWithin, RowAt};
@@ -14,7 +14,7 @@ use crate::limits::channels;
 // One channel's part of s: the square of (D times coordinate - X).
 fn scaled_square(a: i32, x: i64) -> u64
     requires { ⌜ (natAbs a ≤ coordinateLimit) × (natAbs x ≤ centreLimit total) ⌝ }
-    ensures { λ r. ⌜ Bounded 274877906944000000 r (square (pos total *ℤ a -ℤ x)) ⌝ }
+    ensures { λ r. ⌜ Bounded ((2 * centreLimit total) * (2 * centreLimit total)) r (square (pos total *ℤ a -ℤ x)) ⌝ }
 {
     let d = (TOTAL as i64) * (a as i64) - x;
     (d * d) as u64
@@ -39,7 +39,7 @@ pub fn scaled_squared_distance(rows: &[i32], n: usize, row: usize, x: &[i64; CHA
 // The square of the difference of two coordinates.
 fn square_of_difference(a: i32, b: i32) -> u64
     requires { ⌜ (natAbs a ≤ coordinateLimit) × (natAbs b ≤ coordinateLimit) ⌝ }
-    ensures { λ r. ⌜ Bounded 64000000 r (square (a -ℤ b)) ⌝ }
+    ensures { λ r. ⌜ Bounded ((2 * coordinateLimit) * (2 * coordinateLimit)) r (square (a -ℤ b)) ⌝ }
 {
     let d = (a as i64) - (b as i64);
     (d * d) as u64
@@ -48,7 +48,7 @@ fn square_of_difference(a: i32, b: i32) -> u64
 // d² of two rows.
 pub fn squared_distance(rows: &[i32], n: usize, i: usize, j: usize) -> u64
     requires { ⌜ RowAt (now rows) n i × RowAt (now rows) n j ⌝ }
-    ensures { λ r. ⌜ Bounded 512000000 r (squaredDistance n (coordinate (now (rows .entry)) n i) (coordinate (now (rows .entry)) n j)) ⌝ }
+    ensures { λ r. ⌜ Bounded separationLimit r (squaredDistance n (coordinate (now (rows .entry)) n i) (coordinate (now (rows .entry)) n j)) ⌝ }
 {
     let base = i * n;
     let other = j * n;

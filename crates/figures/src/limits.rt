@@ -6,14 +6,19 @@ ghost use lib.IntN.{natAbs};
 ghost use lib.ListN.{length};
 ghost use Rattle.geometry.specs.Limits.{channelLimit, coordinateLimit, rowLimit, coordinatesWithin, rowsWithin};
 
+// D
 pub const TOTAL: u32 = 65536;
 
+// the most rows
 pub const ROWS: usize = 256;
 
+// the most channels
 pub const CHANNELS: usize = 8;
 
+// how far a coordinate may be from 0
 pub const COORDINATE: i32 = 4000;
 
+// the largest budget
 pub const BUDGET_MOST: u32 = 1_000_000;
 
 // n itself, in a form that shows a compiler that a loop over the channels is short.

@@ -22,7 +22,7 @@ use Rattle.integers.specs.SumLaws.{sumℤ-cong, sumℕ-cong, sumℕ-mono, sum�
 use Rattle.integers.specs.Absolute.{abs-mul, abs-sub, abs-sum, square-pos, square-le}
 use Rattle.geometry.specs.Figures.{squaredLength, scaledCentre, scaledSquaredDistance, weightedSquaredLength, scaledLowerBound}
 use Rattle.geometry.specs.Move.{weightOf}
-use Rattle.geometry.specs.Limits.{total, coordinateLimit, centreLimit, coordinate}
+use Rattle.geometry.specs.Limits.{channelLimit, total, coordinateLimit, centreLimit, coordinate}
 use Rattle.geometry.specs.Places.{centreList, centreOf, weightsTotal}
 use Rattle.geometry.specs.Asked.{CentreWithin, Table, WeightsOf}
 use Rattle.geometry.specs.PlacesLaws.{centreList-at, centreList-most}
@@ -45,7 +45,7 @@ pub length-ℤ : (n : ℕ) (v : ℕ → ℤ) → pos (squaredLength n v) ≡ sum
 unfolding squaredLength
 length-ℤ n v = pos-sum n (λ k. square (v k)) ∙ sumℤ-cong n (λ k l. square-pos (v k))
 
-pub distance-centreList : (D n : ℕ) (X p : ℕ → ℤ) → n ≤ 8
+pub distance-centreList : (D n : ℕ) (X p : ℕ → ℤ) → n ≤ channelLimit
     → scaledSquaredDistance D n (centreOf (centreList n X)) p ≡ scaledSquaredDistance D n X p
 unfolding scaledSquaredDistance
 distance-centreList D n X p most =

@@ -1,6 +1,8 @@
 -- Document 01's limits on what a drawing or a check is lent, and the figures' limits.
 --     total, rowLimit, channelLimit, coordinateLimit, budgetLimit     the numbers that the contracts fix
 --     distanceLimit D, centreLimit D                                  the limits on s, M and L, and on X, for a total D
+--     lengthLimit, separationLimit                                    the limits on a row's squared length and on d²
+--     differenceLimit D                                               the limit on g
 --     coordinate rows n i k                                           row i's coordinate in channel k of a table of n channels
 --     coordinatesWithin c rows                                        the first c places are within the coordinate limit of 0
 --     rowsWithin limit rows m n                                       n, m, the places and the coordinates are within limits
@@ -34,6 +36,17 @@ centreLimit D = coordinateLimit * D
 -- the limit on s, M and L: 2,199,023,255,552,000,000 where D is 65,536
 abbrev pub distanceLimit : ℕ → ℕ
 distanceLimit D = channelLimit * (2 * centreLimit D) * (2 * centreLimit D)
+
+-- the limits on a row's squared length, and on d²
+abbrev pub lengthLimit : ℕ
+lengthLimit = channelLimit * coordinateLimit * coordinateLimit
+
+abbrev pub separationLimit : ℕ
+separationLimit = channelLimit * (2 * coordinateLimit) * (2 * coordinateLimit)
+
+-- the limit on g, which is the limit on s divided by D
+abbrev pub differenceLimit : ℕ → ℕ
+differenceLimit D = separationLimit * D
 
 -- a table holds its rows one after the other
 unfoldable pub coordinate : List ℤ → ℕ → ℕ → ℕ → ℤ

@@ -137,6 +137,11 @@ moveWeight-other t from to ws i not-from not-to =
 
 -- ---- the move
 
+-- M is s of the far row
+pub radius-far : (D m n : ℕ) (a : ℕ → ℕ → ℤ) (w : ℕ → ℕ) → 0 < m → scaledSquaredRadius D m n a (scaledCentre a w m) ≡ scaledSquaredDistanceOf D m n a w (farRow D m n a w)
+unfolding scaledSquaredRadius scaledSquaredDistanceOf farRow
+radius-far D m n a w some = largest-farthest (scaledSquaredDistanceOf D m n a w) m some
+
 module _ (D m n : ℕ) (a : ℕ → ℕ → ℤ) (w : ℕ → ℕ) where
   pub transfer-most : transfer D m n a w ≤ w (nearRow D m n a w)
   unfolding transfer
@@ -154,11 +159,6 @@ module _ (D m n : ℕ) (a : ℕ → ℕ → ℤ) (w : ℕ → ℕ) where
     pub near-below-far : scaledSquaredDistanceOf D m n a w (nearRow D m n a w) ≤ scaledSquaredDistanceOf D m n a w (farRow D m n a w)
     unfolding farRow
     near-below-far = farthest-mostℕ (scaledSquaredDistanceOf D m n a w) m (nearRow D m n a w) near-within
-
--- M is s of the far row
-pub radius-far : (D m n : ℕ) (a : ℕ → ℕ → ℤ) (w : ℕ → ℕ) → 0 < m → scaledSquaredRadius D m n a (scaledCentre a w m) ≡ scaledSquaredDistanceOf D m n a w (farRow D m n a w)
-unfolding scaledSquaredRadius scaledSquaredDistanceOf farRow
-radius-far D m n a w some = largest-farthest (scaledSquaredDistanceOf D m n a w) m some
 
 -- the parts of a move from a list of weights
 module _ (D m n : ℕ) (a : ℕ → ℕ → ℤ) (ws : List ℕ) where

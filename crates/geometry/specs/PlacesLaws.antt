@@ -20,6 +20,7 @@ use lib.IntN.{ℤ, pos, natAbs}
 use lib.ListN.{length, getD, set, length-set, length-append, List·getD-append, List·getD-eq-default}
 use lib.Seq.{getD-at, ext-getD, getD-set-same, getD-set-other}
 use Rattle.integers.specs.SumLaws.{last-or-below}
+use Rattle.geometry.specs.Limits.{channelLimit}
 use Rattle.geometry.specs.Places.{tabulate, centreList, centreOf}
 
 module _ {A : Type 0} (f : ℕ → A) where
@@ -49,48 +50,48 @@ module _ (n : ℕ) (X : ℕ → ℤ) where
   unfolding place
   place-past k h = ap (λ (b : Bool). cond b (X k) (pos 0)) (le-ltb k n h)
 
-  pub length-centreList : length (centreList n X) ≡ 8
+  pub length-centreList : length (centreList n X) ≡ channelLimit
   unfolding centreList place
-  length-centreList = length-tabulate place 8
+  length-centreList = length-tabulate place channelLimit
 
-  getD-centreList : (k : ℕ) → k < 8 → getD (centreList n X) k (pos 0) ≡ place k
+  getD-centreList : (k : ℕ) → k < channelLimit → getD (centreList n X) k (pos 0) ≡ place k
   unfolding centreList place
-  getD-centreList k h = getD-tabulate place 8 k (pos 0) h
+  getD-centreList k h = getD-tabulate place channelLimit k (pos 0) h
 
-  pub centreList-at : (k : ℕ) → n ≤ 8 → k < n → centreOf (centreList n X) k ≡ X k
+  pub centreList-at : (k : ℕ) → n ≤ channelLimit → k < n → centreOf (centreList n X) k ≡ X k
   centreList-at k most h = getD-centreList k (omega arith) ∙ place-at k h
 
   pub centreList-past : (k : ℕ) → n ≤ k → centreOf (centreList n X) k ≡ pos 0
-  centreList-past k h = go (decLt k 8)
+  centreList-past k h = go (decLt k channelLimit)
     where
-      go : Dec (k < 8) → centreOf (centreList n X) k ≡ pos 0
+      go : Dec (k < channelLimit) → centreOf (centreList n X) k ≡ pos 0
       go (yes l) = getD-centreList k l ∙ place-past k h
       go (no l) = List·getD-eq-default (centreList n X) (pos 0) (omega (arith, length-centreList))
 
-  pub centreList-by : (l : List ℤ) → length l ≡ 8 → ((k : ℕ) → k < n → getD l k (pos 0) ≡ X k)
+  pub centreList-by : (l : List ℤ) → length l ≡ channelLimit → ((k : ℕ) → k < n → getD l k (pos 0) ≡ X k)
       → ((k : ℕ) → n ≤ k → getD l k (pos 0) ≡ pos 0) → l ≡ centreList n X
   centreList-by l len at past =
       ext-getD (pos 0) l (centreList n X) (len ∙ sym length-centreList) (λ k h. same k (omega arith) (decLt k n))
     where
-      same : (k : ℕ) → k < 8 → Dec (k < n) → getD l k (pos 0) ≡ getD (centreList n X) k (pos 0)
+      same : (k : ℕ) → k < channelLimit → Dec (k < n) → getD l k (pos 0) ≡ getD (centreList n X) k (pos 0)
       same k h (yes b) = at k b ∙ sym (getD-centreList k h ∙ place-at k b)
       same k h (no b) = past k (omega arith) ∙ sym (getD-centreList k h ∙ place-past k (omega arith))
 
 -- a bound on X is one on all places
-pub centreList-most : (n C : ℕ) (X : ℕ → ℤ) → n ≤ 8 → ((k : ℕ) → k < n → natAbs (X k) ≤ C) → (k : ℕ) → natAbs (centreOf (centreList n X) k) ≤ C
+pub centreList-most : (n C : ℕ) (X : ℕ → ℤ) → n ≤ channelLimit → ((k : ℕ) → k < n → natAbs (X k) ≤ C) → (k : ℕ) → natAbs (centreOf (centreList n X) k) ≤ C
 centreList-most n C X most h k = go (decLt k n)
   where
     go : Dec (k < n) → natAbs (centreOf (centreList n X) k) ≤ C
     go (yes l) = omega (arith, ap natAbs (centreList-at n X k most l), h k l)
     go (no l) = omega (arith, ap natAbs (centreList-past n X k (omega arith)))
 
-pub centreList-cong : (n : ℕ) (X Y : ℕ → ℤ) → n ≤ 8 → ((k : ℕ) → k < n → X k ≡ Y k) → centreList n X ≡ centreList n Y
+pub centreList-cong : (n : ℕ) (X Y : ℕ → ℤ) → n ≤ channelLimit → ((k : ℕ) → k < n → X k ≡ Y k) → centreList n X ≡ centreList n Y
 centreList-cong n X Y most h =
     centreList-by n Y (centreList n X) (length-centreList n X) (λ k l. centreList-at n X k most l ∙ h k l)
     (λ k l. centreList-past n X k l)
 
 -- X with one channel more
-module _ (X : ℕ → ℤ) (k : ℕ) (h : k < 8) where
+module _ (X : ℕ → ℤ) (k : ℕ) (h : k < channelLimit) where
   pub centreList-more : set (centreList k X) k (X k) ≡ centreList (k + 1) X
   centreList-more =
       centreList-by (k + 1) X (set (centreList k X) k (X k)) (length-set (centreList k X) k (X k) ∙ length-centreList k X)

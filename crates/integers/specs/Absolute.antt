@@ -15,6 +15,7 @@
 --     within, within-not         natAbs z ≤ B, by the tests - B ≤ z ≤ B, or by the failed tests z < - B and B < z
 --     above, under, above-not, under-not    B < natAbs z, by the test that says so
 --     abs-nonneg, abs-negative   z by its absolute value and the test of its sign
+-- A worked call stands at the end.
 use mathlib.Core.Path.{_≡_, refl, sym, _∙_, ap, subst}
 use mathlib.Core.Logic.{_↔_}
 use mathlib.Core.Bool.{true, false}

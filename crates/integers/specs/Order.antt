@@ -24,6 +24,7 @@
 --     leZ-true, leZ-false, ltZ-true, ltZ-false    what a test that came out so says
 --     le-leZ, lt-leZ, lt-ltZ, le-ltZ              how a test comes out
 --     <ℤ-⊑              the kit's strict order
+-- A worked call stands at the end.
 use mathlib.Core.Path.{_≡_, refl, sym, _∙_, ap, ap₂, subst}
 use mathlib.Core.Logic.{_↔_, _⊎_, inl, inr}
 use Prim.Native.Nat.{ℕ, suc, _+_, _*_, _-_, _≤_, _<_, zero-le}

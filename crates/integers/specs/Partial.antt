@@ -1,6 +1,7 @@
 -- A sum of natural numbers that a loop gathers, one term a turn, as its invariant.
 --     Partial B c f n k sum         sum is the sum of f over the first k of n places, and at most B * c
 --     partial-none, -more, -all     it at the start, after a turn and at the end
+-- A worked call stands at the end.
 use mathlib.Core.Path.{_≡_, refl, sym, ap, ap₂, _∙_}
 use Prim.Native.Nat.{ℕ, _+_, _*_, _≤_, _<_}
 use native.Mathlib.Nat.{mul-add, mul-le-mul-left}

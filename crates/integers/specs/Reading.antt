@@ -9,6 +9,7 @@
 --     square-cast, square-is        the square of a reading, cast to u64
 --     passed, given, given₂         what a callee asks and gives of readings, as said of the integers themselves
 -- A numeric bound that computes is given as `tt`.
+-- A worked call stands at the end.
 use mathlib.Core.Path.{_≡_, refl, sym, ap, ap₂, subst, _∙_}
 use Prim.Native.Nat.{ℕ, _+_, _*_, _^_, _≤_}
 use native.Mathlib.Nat.{le-refl, mul-le-mul}

@@ -13,6 +13,7 @@
 --     pos-add, pos-mul  sum and product of ℕ are those of ℤ, by computation
 --     pos-sub           and so is the difference, where it is not cut off
 -- An identity of ℕ with no difference is `pos-inj` of the identity of ℤ (`ring` of Solver).
+-- A worked call stands at the end.
 use mathlib.Core.Path.{_≡_, refl, sym, _∙_, ap, ap₂}
 use Prim.Native.Nat.{ℕ, zero, suc, _+_, _*_, _-_, _≤_}
 use native.Mathlib.Omega.{arith}

@@ -11,6 +11,7 @@
 --     Each M n f ρ            M at f of the variables, for any n integers
 --     each                    it holds where M holds at f of the variables, under every assignment
 --     value e ρ               an expression's integer, under the assignment ρ
+-- A worked call stands at the end.
 use mathlib.Core.Path.{_≡_, refl, sym, _∙_, ap, ap₂}
 use mathlib.Core.Bool.{Bool, true, false, _&&_}
 use Prim.Native.Nat.{ℕ, zero, suc, _+_, _*_}

@@ -1,8 +1,9 @@
--- Sums over a range, and squares.
+-- Sums over a range, and squares. A worked call stands at the end.
 --     sumℤ n f     f 0 + … + f (n - 1), over the integers
 --     sumℕ n f     the same over the natural numbers
 --     square z     the square of an integer, as a natural number
 use Prim.Native.Nat.{ℕ, zero, suc, _+_, _*_}
+use mathlib.Core.Path.{_≡_, refl}
 use lib.IntN.{ℤ, pos, natAbs, _+ℤ_}
 
 unfoldable pub sumℤ : ℕ → (ℕ → ℤ) → ℤ
@@ -15,3 +16,8 @@ sumℕ (suc n) f = sumℕ n f + f n
 
 unfoldable pub square : ℤ → ℕ
 square z = natAbs z * natAbs z
+
+-- a worked call: 0 + 1 + 2
+three-terms : sumℕ 3 (λ k. k) ≡ 3
+unfolding sumℕ
+three-terms = refl

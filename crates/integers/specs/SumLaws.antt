@@ -18,6 +18,7 @@
 --     pos-sum                         a sum of naturals, in ℤ
 -- `simp (sumℤ-add, sumℤ-neg, sumℤ-mul-left, sumℤ-mul-right)` with bare names pushes a sum through a linear combination. A difference is
 -- a sum with a negation there, so that `sumℤ-sub` would have to stand first. What `ring` says of the terms goes in as a law of its own.
+-- A worked call stands at the end.
 use mathlib.Core.Path.{_≡_, refl, sym, _∙_, ap, ap₂, subst}
 use mathlib.Core.Logic.{_≢_, _⊎_, inl, inr}
 use mathlib.Core.Bool.{cond}

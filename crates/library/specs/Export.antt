@@ -7,7 +7,7 @@
 --     checkAnswer k n c                  the answer to a check that is lent c places for X
 --     filled number count source lent    a lent slice after a call that answers with this number
 use Prim.Native.Nat.{ℕ, zero, suc}
-use mathlib.Core.Bool.{Bool, true, false, cond, _&&_}
+use mathlib.Core.Bool.{Bool, cond, _&&_}
 use mathlib.Core.List.{List, _++_}
 use lib.Dec.{leb}
 use lib.ListN.{take, drop}

@@ -9,7 +9,7 @@ use mathlib.Core.List.{List}
 use lib.IntN.{ℤ, pos, _+ℤ_, _-ℤ_, _*ℤ_}
 use Rattle.geometry.specs.Figures.{scaledSquaredDistance}
 use Rattle.geometry.specs.Move.{scaledSquaredDistanceOf, farRow, nearRow, difference, separation, weightOf}
-use Rattle.geometry.specs.Limits.{total, coordinate, distanceLimit}
+use Rattle.geometry.specs.Limits.{total, distanceLimit, separationLimit, differenceLimit, coordinate}
 use Rattle.geometry.specs.Places.{centreList, centreOf}
 use Rattle.moves.specs.declared.Selected.{Selected}
 use Rattle.moves.specs.declared.Pair.{Pair}
@@ -40,5 +40,5 @@ pub record Paired (rows : List ℤ) (m n : ℕ) (ws : List ℕ) (r : Pair) : Typ
   pub far-within : r .far < m
   pub near-within : r .near < m
   pub distance-most : r .distance ≤ distanceLimit total
-  pub difference-most : r .difference ≤ 33554432000000
-  pub separation-most : r .separation ≤ 512000000
+  pub difference-most : r .difference ≤ differenceLimit total
+  pub separation-most : r .separation ≤ separationLimit

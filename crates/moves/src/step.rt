@@ -4,7 +4,7 @@ ghost use Prim.Native.Nat.{_≤_, _<_};
 ghost use lib.IntN.{natAbs, pos, _+ℤ_, _-ℤ_, _*ℤ_};
 ghost use Rattle.geometry.specs.Figures.{scaledCentre};
 ghost use Rattle.geometry.specs.Move.{cappedStep, weightOf, transfer, moved};
-ghost use Rattle.geometry.specs.Limits.{total, coordinateLimit, centreLimit, coordinate};
+ghost use Rattle.geometry.specs.Limits.{total, coordinateLimit, centreLimit, separationLimit, differenceLimit, coordinate};
 ghost use Rattle.geometry.specs.Places.{centreList};
 ghost use Rattle.integers.specs.Reading.{Bounded};
 ghost use Rattle.geometry.specs.Asked.{CentreWithin, RowAt, Table, WeightsOf};
@@ -40,7 +40,7 @@ pub fn pair_of(rows: &[i32], m: usize, n: usize, w: &[u32], x: &[i64; CHANNELS])
 
 // t: the whole part of (g + d² - 1)/(2d²), never more than the near row's weight.
 pub fn transfer_of(difference: u64, separation: u64, weight: u32) -> u32
-    requires { ⌜ (0 < separation) × ((separation ≤ 512000000) × (difference ≤ 33554432000000)) ⌝ }
+    requires { ⌜ (0 < separation) × ((separation ≤ separationLimit) × (difference ≤ differenceLimit total)) ⌝ }
     ensures { λ r. ⌜ Bounded weight r (cappedStep difference separation weight) ⌝ }
 {
     let most = weight as u64;
@@ -51,7 +51,8 @@ pub fn transfer_of(difference: u64, separation: u64, weight: u32) -> u32
     weight
 }
 
-// The weights after one move: the near row loses t, the far row gains t. The rows and their counts say of which move.
+// The weights after one move: the near row loses t, the far row gains t. The body does not read rows, m and n; the contract
+// names the move by them.
 pub fn one_move(
     rows: &[i32],
     m: usize,

@@ -2,10 +2,11 @@
 -- back as it is.
 use mir.Syntax.{w32, w64}
 use Rattle.integers.specs.Reading.{back, Reads, held, kept, fits, product, square-cast, square-is}
+use Rattle.geometry.specs.Limits.{coordinateLimit}
 use Rattle.figures.proofs.bound.square_of.Statement.{statement}
 use Rattle.figures.proofs.bound.square_of.Tie as tie
 
-coordinate : (c : tie.Start) → Reads (back w64 (back w32 (c .args .a))) (c .args .a) 4000
+coordinate : (c : tie.Start) → Reads (back w64 (back w32 (c .args .a))) (c .args .a) coordinateLimit
 coordinate c = kept (held (c .fits .a) (c .pre)) tt
 
 cast-d : tie.Need-cast-d

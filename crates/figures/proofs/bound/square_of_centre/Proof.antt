@@ -2,10 +2,11 @@
 -- i64 and is read back as it is.
 use mir.Syntax.{w64}
 use Rattle.integers.specs.Reading.{back, Reads, held, fits, product, square-cast, square-is}
+use Rattle.geometry.specs.Limits.{centreLimit, total}
 use Rattle.figures.proofs.bound.square_of_centre.Statement.{statement}
 use Rattle.figures.proofs.bound.square_of_centre.Tie as tie
 
-coordinate : (c : tie.Start) → Reads (back w64 (c .args .x)) (c .args .x) 262144000
+coordinate : (c : tie.Start) → Reads (back w64 (c .args .x)) (c .args .x) (centreLimit total)
 coordinate c = held (c .fits .x) (c .pre)
 
 mul-result : tie.Need-mul-result

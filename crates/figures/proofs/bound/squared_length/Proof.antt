@@ -1,10 +1,10 @@
 -- `figures::bound::squared_length` meets its contract. The loop's invariant: the sum is that of the squares of the channels passed,
 -- each at most 16,000,000. The measure is what is left of the channels.
-use Prim.Native.Nat.{_-_}
+use Prim.Native.Nat.{_-_, _*_}
 use native.Mathlib.Omega.{arith}
 use Rattle.integers.specs.Sum.{square}
 use Rattle.geometry.specs.Figures.{squaredLength}
-use Rattle.geometry.specs.Limits.{coordinate}
+use Rattle.geometry.specs.Limits.{coordinate, coordinateLimit}
 use Rattle.integers.specs.Partial.{Partial, partial-none, partial-more, partial-all}
 use Rattle.geometry.specs.TableLaws.{row-held}
 use Rattle.integers.specs.Reading.{passed, given}
@@ -12,7 +12,7 @@ use Rattle.figures.proofs.bound.squared_length.Statement.{statement}
 use Rattle.figures.proofs.bound.squared_length.Tie as tie
 
 abbrev Inv-loop : tie.InvT-loop
-Inv-loop rows n row base sum₀ k₀ sum k = Partial 16000000 k (λ j. square (coordinate rows n row j)) n k sum
+Inv-loop rows n row base sum₀ k₀ sum k = Partial (coordinateLimit * coordinateLimit) k (λ j. square (coordinate rows n row j)) n k sum
 
 abbrev μ-loop : tie.MeasureT-loop
 μ-loop rows n row base sum₀ k₀ sum k = n - k

@@ -1,6 +1,6 @@
 -- `figures::bound::squared_length_of_centre` meets its contract. The loop's invariant: the sum is that of the squares of the
 -- coordinates passed, each at most 68,719,476,736,000,000. The measure is what is left of the channels.
-use Prim.Native.Nat.{_-_}
+use Prim.Native.Nat.{_-_, _*_}
 use native.Mathlib.Omega.{arith}
 use Rattle.integers.specs.Sum.{square}
 use Rattle.geometry.specs.Figures.{squaredLength}
@@ -8,11 +8,12 @@ use Rattle.geometry.specs.Places.{centreOf}
 use Rattle.integers.specs.Partial.{Partial, partial-none, partial-more, partial-all}
 use Rattle.geometry.specs.TableLaws.{centre-held}
 use Rattle.integers.specs.Reading.{passed, given}
+use Rattle.geometry.specs.Limits.{centreLimit, total}
 use Rattle.figures.proofs.bound.squared_length_of_centre.Statement.{statement}
 use Rattle.figures.proofs.bound.squared_length_of_centre.Tie as tie
 
 abbrev Inv-loop : tie.InvT-loop
-Inv-loop x n sum₀ k₀ sum k = Partial 68719476736000000 k (λ j. square (centreOf x j)) n k sum
+Inv-loop x n sum₀ k₀ sum k = Partial (centreLimit total * centreLimit total) k (λ j. square (centreOf x j)) n k sum
 
 abbrev μ-loop : tie.MeasureT-loop
 μ-loop x n sum₀ k₀ sum k = n - k

@@ -8,7 +8,7 @@ use native.Mathlib.Omega.{arith}
 use Rattle.integers.specs.Sum.{sumℕ}
 use Rattle.geometry.specs.Figures.{squaredLength, weightedSquaredLength}
 use Rattle.geometry.specs.Move.{weightOf}
-use Rattle.geometry.specs.Limits.{total, coordinate}
+use Rattle.geometry.specs.Limits.{total, coordinate, lengthLimit}
 use Rattle.integers.specs.Reading.{Bounded}
 use Rattle.geometry.specs.Asked.{WeightsOf}
 use Rattle.geometry.specs.TableLaws.{table-row, weights-passed, weights-next}
@@ -18,15 +18,15 @@ use Rattle.figures.proofs.bound.weighted_squared_length.Statement.{stat
 use Rattle.figures.proofs.bound.weighted_squared_length.Tie as tie
 
 -- weight times a bounded number, and the bound of the sum with it
-module _ {m : ℕ} {w : List ℕ} (g : WeightsOf m w) (i : ℕ) (l : i < m) {r d : ℕ} (b : Bounded 128000000 r d) where
-  term : Bounded (128000000 * weightOf w i) (weightOf w i * r) (weightOf w i * d)
+module _ {m : ℕ} {w : List ℕ} (g : WeightsOf m w) (i : ℕ) (l : i < m) {r d : ℕ} (b : Bounded lengthLimit r d) where
+  term : Bounded (lengthLimit * weightOf w i) (weightOf w i * r) (weightOf w i * d)
   term = record { is = ap (λ x. weightOf w i * x) (b .is); most = omega (arith, mul-le-mul-left (weightOf w i) (b .most)) }
 
-  sum-most : 128000000 * sumℕ i (weightOf w) + weightOf w i * r ≤ 8388608000000
+  sum-most : lengthLimit * sumℕ i (weightOf w) + weightOf w i * r ≤ lengthLimit * total
   sum-most = omega (arith, term .most, weights-next g i l)
 
 abbrev Inv-loop : tie.InvT-loop
-Inv-loop rows m n w sum₀ i₀ sum i = Partial 128000000 (sumℕ i (weightOf w)) (λ j. weightOf w j * squaredLength n (coordinate rows n j)) m i sum
+Inv-loop rows m n w sum₀ i₀ sum i = Partial lengthLimit (sumℕ i (weightOf w)) (λ j. weightOf w j * squaredLength n (coordinate rows n j)) m i sum
 
 abbrev μ-loop : tie.MeasureT-loop
 μ-loop rows m n w sum₀ i₀ sum i = m - i

@@ -12,7 +12,7 @@ use Rattle.integers.specs.Absolute.{back64}
 use Rattle.geometry.specs.Figures.{scaledCentre}
 use Rattle.geometry.specs.FigureLaws.{centre-at-most}
 use Rattle.geometry.specs.Move.{weightOf}
-use Rattle.geometry.specs.Limits.{total, coordinate, centreLimit}
+use Rattle.geometry.specs.Limits.{total, coordinate, centreLimit, channelLimit}
 use Rattle.geometry.specs.Places.{tabulate, centreList}
 use Rattle.geometry.specs.PlacesLaws.{centreList-more}
 use Rattle.integers.specs.Reading.{back}
@@ -20,7 +20,7 @@ use Rattle.figures.proofs.centre.scaled_centre.Statement.{statement}
 use Rattle.figures.proofs.centre.scaled_centre.Tie as tie
 
 -- one channel more, as the loop has it: the result as the machine reads it, stored in x
-turned : (k : ℕ) (X : ℕ → ℤ) (x : List ℤ) (r : ℤ) → k < 8 → natAbs (X k) ≤ centreLimit total → x ≡ centreList k X → r ≡ X k
+turned : (k : ℕ) (X : ℕ → ℤ) (x : List ℤ) (r : ℤ) → k < channelLimit → natAbs (X k) ≤ centreLimit total → x ≡ centreList k X → r ≡ X k
     → set x k (back w64 r) ≡ centreList (k + 1) X
 turned k X x r l h e f = ap₂ (λ y z. set y k (back w64 z)) e f ∙ ap (set (centreList k X) k) (back64 (X k) (omega arith)) ∙ centreList-more X k l
 

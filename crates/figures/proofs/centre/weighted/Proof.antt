@@ -8,6 +8,7 @@ use native.Mathlib.Omega.{arith}
 use lib.IntN.{pos, natAbs, _*ℤ_}
 use mir.Syntax.{w32, w64}
 use Rattle.integers.specs.Reading.{back, Reads, held, number, kept, fits, product}
+use Rattle.geometry.specs.Limits.{coordinateLimit}
 use Rattle.figures.proofs.centre.weighted.Statement.{statement}
 use Rattle.figures.proofs.centre.weighted.Tie as tie
 
@@ -29,7 +30,7 @@ returns c =
     let e = kept (scaled c) tt .is in
     record {
       is = e;
-      most = subst (λ z. natAbs z ≤ 4000 * c .args .w) (sym e)
+      most = subst (λ z. natAbs z ≤ coordinateLimit * c .args .w) (sym e)
           (omega (arith, product (number (c .args .w) (le-refl (c .args .w))) (held (c .fits .a) (c .pre .1)) .most));
     }
 

@@ -4,16 +4,17 @@ use borrow.Author.Needs.{needs}
 use native.Mathlib.Nat.{le-refl}
 use lib.IntN.{pos, _-ℤ_, _*ℤ_}
 use mir.Syntax.{w32, w64}
-use Rattle.geometry.specs.Limits.{total}
+use Prim.Native.Nat.{_*_}
+use Rattle.geometry.specs.Limits.{total, centreLimit}
 use Rattle.integers.specs.Reading.{back, Reads, held, number, kept, fits, difference, product, square-cast, square-is}
 use Rattle.figures.proofs.distance.scaled_square.Statement.{statement}
 use Rattle.figures.proofs.distance.scaled_square.Tie as tie
 
 module _ (c : tie.Start) where
-  scaled : Reads (pos total *ℤ back w64 (back w32 (c .args .a))) (pos total *ℤ c .args .a) 262144000
+  scaled : Reads (pos total *ℤ back w64 (back w32 (c .args .a))) (pos total *ℤ c .args .a) (centreLimit total)
   scaled = product (number total (le-refl total)) (kept (held (c .fits .a) (c .pre .0)) tt)
 
-  gap : Reads (back w64 (pos total *ℤ back w64 (back w32 (c .args .a))) -ℤ back w64 (c .args .x)) (pos total *ℤ c .args .a -ℤ c .args .x) 524288000
+  gap : Reads (back w64 (pos total *ℤ back w64 (back w32 (c .args .a))) -ℤ back w64 (c .args .x)) (pos total *ℤ c .args .a -ℤ c .args .x) (2 * centreLimit total)
   gap = difference (kept scaled tt) (held (c .fits .x) (c .pre .1))
 
 cast-d : tie.Need-cast-d

@@ -1,11 +1,11 @@
 -- `figures::distance::scaled_squared_distance` meets its contract. The loop's invariant: the sum is that of the squares of the
 -- channels passed, each at most 274,877,906,944,000,000. The measure is what is left of the channels.
-use Prim.Native.Nat.{_-_}
+use Prim.Native.Nat.{_-_, _*_}
 use native.Mathlib.Omega.{arith}
 use lib.IntN.{pos, _-ℤ_, _*ℤ_}
 use Rattle.integers.specs.Sum.{square}
 use Rattle.geometry.specs.Figures.{squaredLength, scaledSquaredDistance}
-use Rattle.geometry.specs.Limits.{total, coordinate}
+use Rattle.geometry.specs.Limits.{total, coordinate, centreLimit}
 use Rattle.geometry.specs.Places.{centreOf}
 use Rattle.integers.specs.Partial.{Partial, partial-none, partial-more, partial-all}
 use Rattle.geometry.specs.TableLaws.{row-held, centre-held}
@@ -14,7 +14,7 @@ use Rattle.figures.proofs.distance.scaled_squared_distance.Statement.{s
 use Rattle.figures.proofs.distance.scaled_squared_distance.Tie as tie
 
 abbrev Inv-loop : tie.InvT-loop
-Inv-loop rows n row x base count sum₀ k₀ sum k = Partial 274877906944000000 k (λ j. square (pos total *ℤ coordinate rows n row j -ℤ centreOf x j)) n k sum
+Inv-loop rows n row x base count sum₀ k₀ sum k = Partial ((2 * centreLimit total) * (2 * centreLimit total)) k (λ j. square (pos total *ℤ coordinate rows n row j -ℤ centreOf x j)) n k sum
 
 abbrev μ-loop : tie.MeasureT-loop
 μ-loop rows n row x base count sum₀ k₀ sum k = n - k

@@ -1,11 +1,11 @@
 -- `figures::distance::squared_distance` meets its contract. The loop's invariant: the sum is that of the squares of the channels
 -- passed, each at most 64,000,000. The measure is what is left of the channels.
-use Prim.Native.Nat.{_-_}
+use Prim.Native.Nat.{_-_, _*_}
 use native.Mathlib.Omega.{arith}
 use lib.IntN.{_-ℤ_}
 use Rattle.integers.specs.Sum.{square}
 use Rattle.geometry.specs.Figures.{squaredLength, squaredDistance}
-use Rattle.geometry.specs.Limits.{coordinate}
+use Rattle.geometry.specs.Limits.{coordinate, coordinateLimit}
 use Rattle.integers.specs.Partial.{Partial, partial-none, partial-more, partial-all}
 use Rattle.geometry.specs.TableLaws.{row-held}
 use Rattle.integers.specs.Reading.{passed, given₂}
@@ -13,7 +13,7 @@ use Rattle.figures.proofs.distance.squared_distance.Statement.{statemen
 use Rattle.figures.proofs.distance.squared_distance.Tie as tie
 
 abbrev Inv-loop : tie.InvT-loop
-Inv-loop rows n i j base other count sum₀ k₀ sum k = Partial 64000000 k (λ t. square (coordinate rows n i t -ℤ coordinate rows n j t)) n k sum
+Inv-loop rows n i j base other count sum₀ k₀ sum k = Partial ((2 * coordinateLimit) * (2 * coordinateLimit)) k (λ t. square (coordinate rows n i t -ℤ coordinate rows n j t)) n k sum
 
 abbrev μ-loop : tie.MeasureT-loop
 μ-loop rows n i j base other count sum₀ k₀ sum k = n - k

@@ -10,7 +10,7 @@ use lib.IntN.{ℤ}
 use Rattle.geometry.specs.Figures.{scaledCentre, squaredDistance, scaledSquaredDistance}
 use Rattle.geometry.specs.Select.{farthest, nearest}
 use Rattle.geometry.specs.Move.{scaledSquaredDistanceOf, farRow, nearRow, difference, separation, weightOf}
-use Rattle.geometry.specs.Limits.{total, coordinate}
+use Rattle.geometry.specs.Limits.{separationLimit, total, coordinate}
 use Rattle.geometry.specs.Places.{centreList, centreOf}
 use Rattle.integers.specs.Reading.{Bounded}
 use Rattle.geometry.specs.Asked.{CentreWithin, Table, WeightsOf}
@@ -49,7 +49,7 @@ module _ {rows x : List ℤ} {m n : ℕ} {ws : List ℕ} (t : Table rows m n) (g
         k .is ∙
         nearest-cong ltb (weightOf ws) (weightOf ws) (score rows n x) (scaledSquaredDistanceOf total m n (coordinate rows n) (weightOf ws)) m (λ i l. refl) (λ i l. score-is i)
 
-    paired : {s : ℕ} → Bounded 512000000 s (squaredDistance n (coordinate rows n (far .row)) (coordinate rows n (near .row)))
+    paired : {s : ℕ} → Bounded separationLimit s (squaredDistance n (coordinate rows n (far .row)) (coordinate rows n (near .row)))
         → Paired rows m n ws
         (record { far = far .row; near = near .row; distance = far .distance; difference = (far .distance - near .distance) / 65536; separation = s })
     unfolding difference separation
