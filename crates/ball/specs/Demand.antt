@@ -1,14 +1,18 @@
--- Demand 3 of document 01, of what the two calls answer.
---     Tight D m n a b           what demand 3 says of the figures b, with the limits that they keep
---     ball-tight                it holds of the figures of any weights of sum D
---     run-keeps                 what a move keeps, a run keeps
---     Kept, run-kept            a run keeps the sum of the weights, and L rises by at least 1 with each move
---     drawing-tight             it holds of every drawing, with any budget
---     drawing-moves             3.4: the moves made are at most L
---     drawing-spent             the moves are at most the budget, and all of it where the weights are not Settled
---     checking-tight            it holds of all weights that the check accepts
---     DrawPromise, CheckPromise what the two calls promise: the definition's answer, and demand 3 where it is accepted
-use Prim.Native.Nat.{ℕ, zero, suc, _+_, _*_, _-_, _≤_, _<_, zero-le}
+-- Demand 3 of document 01, of what the two calls answer, for any total D above 0 and any row limit.
+--     ball-tight                             it holds of the figures of any weights of sum D
+--     run-keeps                              what a move keeps, a run keeps
+--     Kept, run-kept                         a run keeps the sum of the weights, and L rises by at least 1 with each move
+--     within-bound                           what the limits on the rows say of the counts and the coordinates
+--     drawing-accepts, drawing-accepted      a drawing is accepted exactly where the limits hold and the budget is within its own
+--     drawing-is                             an accepted drawing is that of the whole run
+--     drawing-spent                          the moves are at most the budget, and all of it where the weights are not Settled
+--     drawing-total                          the weights of an accepted drawing sum to D
+--     drawing-moves                          3.4: the moves made are at most L
+--     drawing-tight                          demand 3 holds of every accepted drawing, with any budget
+--     checking-accepts, checking-accepted    the check accepts exactly where the limits hold, the list has m places and the sum is D
+--     checking-tight                         demand 3 holds of all weights that the check accepts
+--     draw-promise, check-promise            the definition's answer keeps what the two calls promise
+use Prim.Native.Nat.{ℕ, zero, suc, _+_, _*_, _≤_, _<_, zero-le}
 use mathlib.Core.Path.{_≡_, refl, sym, _∙_, ap, subst}
 use mathlib.Core.Bool.{Bool, true, false, _&&_}
 use mathlib.Core.List.{List}
@@ -19,41 +23,24 @@ use lib.Dec.{leb, eqb, lit<}
 use lib.IntN.{ℤ, pos, natAbs, _-ℤ_, _*ℤ_}
 use lib.ListN.{length}
 use Rattle.integers.specs.Sum.{sumℕ}
-use Rattle.refusal.specs.Number.{outside-limits, budget-too-large, disagreement}
-use Rattle.refusal.specs.Outcome.{refused, choose}
+use Rattle.refusal.specs.Outcome.{refused}
 use Rattle.refusal.specs.declared.Outcome.the-variants.{Accepted}
-use Rattle.geometry.specs.Figures.{squaredLength, scaledCentre, scaledSquaredDistance, scaledLowerBound, largestSquaredDistance}
+use Rattle.geometry.specs.Figures.{scaledCentre, scaledSquaredDistance, scaledLowerBound}
 use Rattle.geometry.specs.Move.{settled, moved, weightOf}
-use Rattle.geometry.specs.Limits.{total, rowLimit, channelLimit, coordinateLimit, centreLimit, distanceLimit, budgetLimit, coordinate, rowsWithin}
+use Rattle.geometry.specs.Limits.{total, rowLimit, channelLimit, coordinateLimit, centreLimit, budgetLimit, coordinate, coordinatesWithin, rowsWithin}
 use Rattle.geometry.specs.Places.{centreList, centreOf, weightsTotal}
 use Rattle.geometry.specs.PlacesLaws.{centreList-at, centreList-most}
-use Rattle.geometry.specs.Asked.{Table}
-use Rattle.geometry.specs.TableLaws.{both, within-table}
+use Rattle.geometry.specs.TableLaws.{both, coordinatesWithin-at, row-end}
 use Rattle.geometry.specs.FigureLaws.{squaredLength-cong, distance-centreList, centre-most}
 use Rattle.geometry.specs.MoveLaws.{moved-length, moved-total, lower-bound-rises, rise-some}
-use Rattle.geometry.specs.Demand.{Rival, rival, holds-every-row, reaches-some-row, floor-below-ball, settled-gap, ball-most}
+use Rattle.geometry.specs.Demand.{rival, holds-every-row, reaches-some-row, floor-below-ball, settled-gap, ball-most}
 use Rattle.ball.specs.Ball.{ballOf}
-use Rattle.ball.specs.Draw.{Run, run, start, runFrom, drawn, notDrawn, drawing}
-use Rattle.ball.specs.Check.{checking, notChecked}
-use Rattle.ball.specs.DrawLaws.{runFrom-spent, run-zero, run-stop, run-step, start-length, start-total, drawing-drawn, checking-checked}
-use Rattle.ball.specs.declared.Ball.{Ball}
+use Rattle.ball.specs.Draw.{Run, run, start, runFrom, drawn, drawing}
+use Rattle.ball.specs.Check.{checking}
+use Rattle.ball.specs.Promise.{Tight, DrawPromise, CheckPromise}
+use Rattle.ball.specs.DrawLaws.{runFrom-spent, run-zero, run-stop, run-step, start-length, start-total, each-answer, drawing-drawn, checking-checked}
 use Rattle.ball.specs.declared.Drawing.{Drawing}
 use Rattle.ball.specs.declared.Checked.{Checked}
-
--- X, M, L and Settled are b's fields; a i k is row i's coordinate in channel k
-pub record Tight (D m n : ℕ) (a : ℕ → ℕ → ℤ) (b : Ball) : Type 0 where
-  -- 3.1: every ball that holds all rows, from any centre Y/q, has D² P at least q² L + |q X - D Y|²
-  pub rival-bound : (Y : ℕ → ℤ) (q P : ℕ) → Rival m n a Y q P
-      → q * q * b .«scaled_lower_bound» + squaredLength n (λ k. pos q *ℤ centreOf (b .«scaled_centre») k -ℤ pos D *ℤ Y k) ≤ D * D * P
-  -- 3.2: s of every row is at most M, s of some row equals M, and L is at most M
-  pub every-row : (i : ℕ) → i < m → scaledSquaredDistance D n (centreOf (b .«scaled_centre»)) (a i) ≤ b .«scaled_squared_radius»
-  pub some-row : (i : ℕ) × (i < m) × (scaledSquaredDistance D n (centreOf (b .«scaled_centre»)) (a i) ≡ b .«scaled_squared_radius»)
-  pub floor : b .«scaled_lower_bound» ≤ b .«scaled_squared_radius»
-  -- 3.3: where Settled, the gap is at most D times the largest squared distance between two rows
-  pub gap : b .settled ≡ true → b .«scaled_squared_radius» - b .«scaled_lower_bound» ≤ D * largestSquaredDistance m n a
-  -- 2.14: X, M and L are within the limits on envelope figures
-  pub centre-limit : (k : ℕ) → natAbs (centreOf (b .«scaled_centre») k) ≤ centreLimit D
-  pub radius-limit : b .«scaled_squared_radius» ≤ distanceLimit D
 
 module _ (D m n : ℕ) (a : ℕ → ℕ → ℤ) (w : ℕ → ℕ) (positive : 0 < D) (some : 0 < m) (sum : sumℕ m w ≡ D)
     (channels : n ≤ channelLimit) (within : (i k : ℕ) → i < m → k < n → natAbs (a i k) ≤ coordinateLimit) where
@@ -122,103 +109,116 @@ module _ (D m n : ℕ) (a : ℕ → ℕ → ℤ) (positive : 0 < D) (some : 0 < 
       run-keeps (λ ws. settled D m n a (weightOf ws)) (moved D m n a) (Kept D m n a) move-kept b 0 (start limit D)
       (record { places = omega (arith, start-length limit D); sum = start-total limit D m some most; risen = zero-le })
 
--- ---- the two calls
+-- ---- the two calls, for any row limit
 
-accepted-draw : (r s : Bool) (limit : ℕ) (x : Drawing)
-    → choose r (λ _. choose s (λ _. x) (λ _. notDrawn limit (refused budget-too-large))) (λ _. notDrawn limit (refused outside-limits)) .outcome ≡ Accepted
-    → (r ≡ true) × (s ≡ true)
-accepted-draw true true limit x h = (refl, refl)
-accepted-draw true false limit x h = let z : _≡_ {A = ℕ} 0 1 = cc in absurd (omega arith)
-accepted-draw false s limit x h = let z : _≡_ {A = ℕ} 0 1 = cc in absurd (omega arith)
+-- what the limits on the rows say of the counts and the coordinates
+pub within-bound : (limit : ℕ) (rows : List ℤ) (m n : ℕ) → rowsWithin limit rows m n ≡ true
+    → (0 < m) × (m ≤ limit) × (n ≤ channelLimit) × ((i k : ℕ) → i < m → k < n → natAbs (coordinate rows n i k) ≤ coordinateLimit)
+unfolding rowsWithin coordinate
+within-bound limit rows m n h =
+    let counts = leb 1 m && leb m limit in
+    let table = leb (m * n) (length rows) && coordinatesWithin (m * n) rows in
+    let parts = both (leb 1 n && leb n channelLimit) (counts && table) h in
+    let row-parts = both counts table (parts .1) in
+    let count-tests = both (leb 1 m) (leb m limit) (row-parts .0) in
+    let coordinates = both (leb (m * n) (length rows)) (coordinatesWithin (m * n) rows) (row-parts .1) .1 in (
+      leb-true 1 m (count-tests .0),
+      leb-true m limit (count-tests .1),
+      leb-true n channelLimit (both (leb 1 n) (leb n channelLimit) (parts .0) .1),
+      λ i k hi hk. coordinatesWithin-at (m * n) rows coordinates (i * n + k) (omega (arith, row-end i m n hi)),
+    )
 
-module _ (D : ℕ) (rows : List ℤ) (m n b : ℕ) (positive : 0 < D) (accepted : drawing D rowLimit rows m n b .outcome ≡ Accepted) where
-  pub drawing-accepted : (rowsWithin rowLimit rows m n ≡ true) × (leb b budgetLimit ≡ true)
-  unfolding drawing
-  drawing-accepted = accepted-draw (rowsWithin rowLimit rows m n) (leb b budgetLimit) rowLimit _ accepted
+-- the figures of weights of sum D for such rows
+weights-tight : (D limit : ℕ) (rows : List ℤ) (m n : ℕ) (ws : List ℕ) → 0 < D → rowsWithin limit rows m n ≡ true → weightsTotal m ws ≡ D
+    → Tight D m n (coordinate rows n) (ballOf D m n (coordinate rows n) (weightOf ws))
+unfolding weightsTotal
+weights-tight D limit rows m n ws positive within sum =
+    let bound = within-bound limit rows m n within in
+    ball-tight D m n (coordinate rows n) (weightOf ws) positive (bound .0) sum (bound .2) (bound .3)
 
-  drawing-is : drawing D rowLimit rows m n b ≡ drawn D m n (coordinate rows n) (runFrom D m n (coordinate rows n) b 0 (start rowLimit D))
-  drawing-is = drawing-drawn D rowLimit rows m n b (drawing-accepted .0) (leb-true b budgetLimit (drawing-accepted .1))
+-- no refusal is an acceptance
+refusal : {A : Type 0} {k : ℕ} → refused k ≡ Accepted → A
+refusal h = let z : _≡_ {A = ℕ} 0 1 = cc in absurd (omega arith)
 
-  table : Table rows m n
-  table = within-table rows m n (drawing-accepted .0)
+module _ (D limit : ℕ) (rows : List ℤ) (m n b : ℕ) where
+  -- where the limits hold, and the budget is within its own, a drawing is accepted; the converse is `drawing-accepted`
+  pub drawing-accepts : rowsWithin limit rows m n ≡ true → b ≤ budgetLimit → drawing D limit rows m n b .outcome ≡ Accepted
+  drawing-accepts h k = ap (λ (r : Drawing). r .outcome) (drawing-drawn D limit rows m n b h k)
 
-  kept : Kept D m n (coordinate rows n) (runFrom D m n (coordinate rows n) b 0 (start rowLimit D) .moves) (runFrom D m n (coordinate rows n) b 0 (start rowLimit D) .weights)
-  kept = run-kept D m n (coordinate rows n) positive (table .some-row) rowLimit b (table .rows-most)
+  module _ (accepted : drawing D limit rows m n b .outcome ≡ Accepted) where
+    -- what acceptance says; the converse is `drawing-accepts`
+    pub drawing-accepted : (rowsWithin limit rows m n ≡ true) × (b ≤ budgetLimit)
+    unfolding drawing
+    drawing-accepted =
+        each-answer (λ (r : Drawing). r .outcome ≡ Accepted → (rowsWithin limit rows m n ≡ true) × (b ≤ budgetLimit))
+        (rowsWithin limit rows m n) (leb b budgetLimit) (λ h k _. (h, leb-true b budgetLimit k)) refusal refusal accepted
 
-  pub drawing-tight : Tight D m n (coordinate rows n) (drawing D rowLimit rows m n b .ball)
-  unfolding weightsTotal
-  drawing-tight =
-      subst (λ (r : Drawing). Tight D m n (coordinate rows n) (r .ball)) (sym drawing-is)
-      (ball-tight D m n (coordinate rows n) (weightOf (runFrom D m n (coordinate rows n) b 0 (start rowLimit D) .weights)) positive
-      (table .some-row) (kept .sum) (table .channels) (table .bound))
+    pub drawing-is : drawing D limit rows m n b ≡ drawn D m n (coordinate rows n) (runFrom D m n (coordinate rows n) b 0 (start limit D))
+    drawing-is = drawing-drawn D limit rows m n b (drawing-accepted .0) (drawing-accepted .1)
 
-  pub drawing-moves : drawing D rowLimit rows m n b .moves ≤ drawing D rowLimit rows m n b .ball .«scaled_lower_bound»
-  unfolding ballOf
-  drawing-moves =
-      subst (λ (r : Drawing). r .moves ≤ r .ball .«scaled_lower_bound») (sym drawing-is) (kept .risen)
+    -- the moves are at most the budget, and all of it where the weights are not Settled
+    pub drawing-spent : (drawing D limit rows m n b .moves ≤ b) × (drawing D limit rows m n b .ball .settled ≡ false → drawing D limit rows m n b .moves ≡ b)
+    unfolding ballOf
+    drawing-spent =
+        let spent = runFrom-spent D m n (coordinate rows n) b 0 (start limit D) in
+        subst (λ (r : Drawing). (r .moves ≤ b) × (r .ball .settled ≡ false → r .moves ≡ b)) (sym drawing-is)
+        (omega (arith, spent .most), λ h. omega (arith, spent .all h))
 
-  -- the moves are at most the budget, and all of it where the weights are not Settled
-  pub drawing-spent : (drawing D rowLimit rows m n b .moves ≤ b) × (drawing D rowLimit rows m n b .ball .settled ≡ false → drawing D rowLimit rows m n b .moves ≡ b)
-  unfolding ballOf
-  drawing-spent =
-      let spent = runFrom-spent D m n (coordinate rows n) b 0 (start rowLimit D) in
-      subst (λ (r : Drawing). (r .moves ≤ b) × (r .ball .settled ≡ false → r .moves ≡ b)) (sym drawing-is)
-      (omega (arith, spent .most), λ h. omega (arith, spent .all h))
+    module _ (positive : 0 < D) where
+      kept : let r = runFrom D m n (coordinate rows n) b 0 (start limit D) in Kept D m n (coordinate rows n) (r .moves) (r .weights)
+      kept =
+          let bound = within-bound limit rows m n (drawing-accepted .0) in
+          run-kept D m n (coordinate rows n) positive (bound .0) limit b (bound .1)
 
-accepted-check : (r s : Bool) (x : Checked)
-    → choose r (λ _. choose s (λ _. x) (λ _. notChecked (refused disagreement))) (λ _. notChecked (refused outside-limits)) .outcome ≡ Accepted
-    → (r ≡ true) × (s ≡ true)
-accepted-check true true x h = (refl, refl)
-accepted-check true false x h = let z : _≡_ {A = ℕ} 0 1 = cc in absurd (omega arith)
-accepted-check false s x h = let z : _≡_ {A = ℕ} 0 1 = cc in absurd (omega arith)
+      pub drawing-total : weightsTotal m (drawing D limit rows m n b .weights) ≡ D
+      drawing-total = subst (λ (r : Drawing). weightsTotal m (r .weights) ≡ D) (sym drawing-is) (kept .sum)
 
-module _ (D : ℕ) (rows : List ℤ) (m n : ℕ) (ws : List ℕ) (positive : 0 < D) (accepted : checking D rowLimit rows m n ws .outcome ≡ Accepted) where
-  -- the check accepts exactly when the limits hold, the list has m places and the sum is D
-  pub checking-accepted : (rowsWithin rowLimit rows m n ≡ true) × (length ws ≡ m) × (weightsTotal m ws ≡ D)
-  unfolding checking
-  checking-accepted =
-      let tests = accepted-check (rowsWithin rowLimit rows m n && eqb (length ws) m) (eqb (weightsTotal m ws) D) _ accepted in
-      let first = both (rowsWithin rowLimit rows m n) (eqb (length ws) m) (tests .0) in
-      (first .0, eqb-true (length ws) m (first .1), eqb-true (weightsTotal m ws) D (tests .1))
+      pub drawing-moves : drawing D limit rows m n b .moves ≤ drawing D limit rows m n b .ball .«scaled_lower_bound»
+      unfolding ballOf
+      drawing-moves = subst (λ (r : Drawing). r .moves ≤ r .ball .«scaled_lower_bound») (sym drawing-is) (kept .risen)
 
-  pub checking-tight : Tight D m n (coordinate rows n) (checking D rowLimit rows m n ws .ball)
-  unfolding weightsTotal
-  checking-tight =
-      let table = within-table rows m n (checking-accepted .0) in
-      subst (λ (r : Checked). Tight D m n (coordinate rows n) (r .ball))
-      (sym (checking-checked D rowLimit rows m n ws (checking-accepted .0) (checking-accepted .1) (checking-accepted .2)))
-      (ball-tight D m n (coordinate rows n) (weightOf ws) positive (table .some-row) (checking-accepted .2) (table .channels) (table .bound))
+      pub drawing-tight : Tight D m n (coordinate rows n) (drawing D limit rows m n b .ball)
+      drawing-tight =
+          subst (λ (r : Drawing). Tight D m n (coordinate rows n) (r .ball)) (sym drawing-is)
+          (weights-tight D limit rows m n (runFrom D m n (coordinate rows n) b 0 (start limit D) .weights) positive (drawing-accepted .0) (kept .sum))
+
+module _ (D limit : ℕ) (rows : List ℤ) (m n : ℕ) (ws : List ℕ) where
+  -- where the limits hold, the list has m places and the sum is D, the check accepts; the converse is `checking-accepted`
+  pub checking-accepts : rowsWithin limit rows m n ≡ true → length ws ≡ m → weightsTotal m ws ≡ D → checking D limit rows m n ws .outcome ≡ Accepted
+  checking-accepts h k l = ap (λ (r : Checked). r .outcome) (checking-checked D limit rows m n ws h k l)
+
+  module _ (accepted : checking D limit rows m n ws .outcome ≡ Accepted) where
+    -- what acceptance says; the converse is `checking-accepts`
+    pub checking-accepted : (rowsWithin limit rows m n ≡ true) × (length ws ≡ m) × (weightsTotal m ws ≡ D)
+    unfolding checking
+    checking-accepted =
+        let within = rowsWithin limit rows m n in
+        let places = eqb (length ws) m in
+        each-answer (λ (r : Checked). r .outcome ≡ Accepted → (within ≡ true) × (length ws ≡ m) × (weightsTotal m ws ≡ D))
+        (within && places) (eqb (weightsTotal m ws) D)
+        (λ h k _. (both within places h .0, eqb-true (length ws) m (both within places h .1), eqb-true (weightsTotal m ws) D k))
+        refusal refusal accepted
+
+    pub checking-tight : 0 < D → Tight D m n (coordinate rows n) (checking D limit rows m n ws .ball)
+    checking-tight positive =
+        subst (λ (r : Checked). Tight D m n (coordinate rows n) (r .ball))
+        (sym (checking-checked D limit rows m n ws (checking-accepted .0) (checking-accepted .1) (checking-accepted .2)))
+        (weights-tight D limit rows m n ws positive (checking-accepted .0) (checking-accepted .2))
 
 -- ---- what the two calls give
 
--- a drawing is the defined one, and where it is accepted demand 3 holds of its figures
-pub record DrawPromise (rows : List ℤ) (m n b : ℕ) (r : Drawing) : Type 0 where
-  pub is : r ≡ drawing total rowLimit rows m n b
-  pub tight : r .outcome ≡ Accepted → Tight total m n (coordinate rows n) (r .ball)
-  pub moves-most : r .outcome ≡ Accepted → r .moves ≤ r .ball .«scaled_lower_bound»
-  pub budget-spent : r .outcome ≡ Accepted → (r .moves ≤ b) × (r .ball .settled ≡ false → r .moves ≡ b)
-
-pub record CheckPromise (rows : List ℤ) (m n : ℕ) (ws : List ℕ) (r : Checked) : Type 0 where
-  pub is : r ≡ checking total rowLimit rows m n ws
-  pub tight : r .outcome ≡ Accepted → Tight total m n (coordinate rows n) (r .ball)
-
 pub draw-promise : (rows : List ℤ) (m n b : ℕ) (r : Drawing) → r ≡ drawing total rowLimit rows m n b → DrawPromise rows m n b r
 draw-promise rows m n b r e =
-    let accepted : r .outcome ≡ Accepted → drawing total rowLimit rows m n b .outcome ≡ Accepted = λ h. ap (λ (x : Drawing). x .outcome) (sym e) ∙ h in
+    subst (DrawPromise rows m n b) (sym e)
     record {
-      is = e;
-      tight = λ h.
-          subst (λ (x : Drawing). Tight total m n (coordinate rows n) (x .ball)) (sym e) (drawing-tight total rows m n b (lit< tt) (accepted h));
-      moves-most = λ h.
-          subst (λ (x : Drawing). x .moves ≤ x .ball .«scaled_lower_bound») (sym e) (drawing-moves total rows m n b (lit< tt) (accepted h));
-      budget-spent = λ h.
-          subst (λ (x : Drawing). (x .moves ≤ b) × (x .ball .settled ≡ false → x .moves ≡ b)) (sym e) (drawing-spent total rows m n b (lit< tt) (accepted h));
+      is = refl;
+      tight = λ h. drawing-tight total rowLimit rows m n b h (lit< tt);
+      moves-most = λ h. drawing-moves total rowLimit rows m n b h (lit< tt);
+      budget-spent = drawing-spent total rowLimit rows m n b;
+      moves-limit = λ h. le-trans (drawing-spent total rowLimit rows m n b h .0) (drawing-accepted total rowLimit rows m n b h .1);
     }
 
 pub check-promise : (rows : List ℤ) (m n : ℕ) (ws : List ℕ) (r : Checked) → r ≡ checking total rowLimit rows m n ws → CheckPromise rows m n ws r
 check-promise rows m n ws r e =
-    record {
-      is = e;
-      tight = λ h. subst (λ (x : Checked). Tight total m n (coordinate rows n) (x .ball)) (sym e)
-          (checking-tight total rows m n ws (lit< tt) (ap (λ (x : Checked). x .outcome) (sym e) ∙ h));
-    }
+    subst (CheckPromise rows m n ws) (sym e)
+    record { is = refl; tight = λ h. checking-tight total rowLimit rows m n ws h (lit< tt) }

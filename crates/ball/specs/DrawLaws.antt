@@ -4,8 +4,9 @@
 --     goes-on, stops                                 the test for another move
 --     is-settled, not-settled                        whether the weights of a list are Settled
 --     runFrom-end, runFrom-move                      the moves of document 01 where no other move is made, and where one is
---     start-length, start-total                      the places of the first weights and their sum
+--     start-length, start-total, start-rest          the places of the first weights, their sum, and those past the first row
 --     weightsTotal-zero, weightsTotal-next           the sum of the first weights, one more at a time
+--     each-answer                                    what holds of each answer of a call with two tests
 --     drawing-limits, -budget, -drawn                the three answers of a drawing
 --     checking-limits, -places, -sum, -checked       the four answers of a check
 use Prim.Native.Nat.{ℕ, zero, suc, _+_, _-_, _≤_, _<_}
@@ -13,16 +14,18 @@ use mathlib.Core.Path.{_≡_, refl, sym, _∙_, ap, subst}
 use mathlib.Core.Bool.{Bool, true, false, _&&_}
 use mathlib.Core.List.{List}
 use mathlib.Core.Logic.{_⊎_, inl, inr}
+use native.Mathlib.Decide.{decLt}
 use native.Mathlib.Numerals.{add-one}
 use native.Mathlib.Omega.{arith}
 use borrow.Author.Tests.{ltb-true, ltb-false, le-leb, lt-leb, eq-eqb, ne-eqb}
 use lib.Dec.{ltb}
 use lib.IntN.{ℤ}
-use lib.ListN.{length, replicate, length-set, length-replicate, getD-replicate}
+use lib.ListN.{length, replicate, length-set, length-replicate, getD-replicate, List·getD-eq-default}
+use lib.Seq.{getD-set-other}
 use Rattle.integers.specs.Sum.{sumℕ}
 use Rattle.integers.specs.SumLaws.{sumℕ-set, sumℕ-zero, sumℕ-cong}
 use Rattle.refusal.specs.Number.{outside-limits, budget-too-large, disagreement}
-use Rattle.refusal.specs.Outcome.{refused}
+use Rattle.refusal.specs.Outcome.{refused, choose}
 use Rattle.refusal.specs.declared.Outcome.the-variants.{Accepted}
 use Rattle.geometry.specs.Move.{difference, separation, settled, moved, weightOf}
 use Rattle.geometry.specs.Limits.{budgetLimit, coordinate, rowsWithin}
@@ -139,6 +142,15 @@ start-total limit D m some most =
     let none = sumℕ-cong m (λ i l. zero-at limit i (omega arith)) ∙ sumℕ-zero m in
     omega (arith, zero-at limit 0 (omega arith))
 
+-- all but the first place is 0
+pub start-rest : (limit D i : ℕ) → 0 < i → weightOf (start limit D) i ≡ 0
+unfolding start zeros
+start-rest limit D i past = getD-set-other (replicate limit 0) 0 i D 0 (λ h. omega arith) ∙ go (decLt i limit)
+  where
+    go : Dec (i < limit) → weightOf (zeros limit) i ≡ 0
+    go (yes l) = zero-at limit i l
+    go (no l) = List·getD-eq-default (zeros limit) 0 (omega (arith, length-replicate {A = ℕ} limit 0))
+
 -- ---- the figures of weights
 
 pub weightsTotal-zero : (ws : List ℕ) → weightsTotal 0 ws ≡ 0
@@ -150,6 +162,13 @@ unfolding weightsTotal sumℕ
 weightsTotal-next i ws = ap (λ k. weightsTotal k ws) (add-one i)
 
 -- ---- the answers
+
+-- what holds of each of the three answers of a call with two tests holds of the call
+pub each-answer : {A : Type 0} (P : A → Type 0) (r s : Bool) {x y z : A} → (r ≡ true → s ≡ true → P x) → P y → P z
+    → P (choose r (λ _. choose s (λ _. x) (λ _. y)) (λ _. z))
+each-answer P true true hx hy hz = hx refl refl
+each-answer P true false hx hy hz = hy
+each-answer P false s hx hy hz = hz
 
 module _ (D limit : ℕ) (rows : List ℤ) (m n b : ℕ) where
   pub drawing-limits : rowsWithin limit rows m n ≡ false → drawing D limit rows m n b ≡ notDrawn limit (refused outside-limits)

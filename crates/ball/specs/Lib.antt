@@ -1,7 +1,9 @@
--- The drawing and the check, in reading order; then what the run of moves gives, the laws, and what the two calls promise.
+-- The drawing, the check and what the two calls promise, in reading order; then what the run of moves gives, and the laws.
 pub mod Ball
 pub mod Draw
 pub mod Check
+pub mod Promise
 pub mod Ran
 pub mod DrawLaws
 pub mod Demand
+pub mod DrawnWeights

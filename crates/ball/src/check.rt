@@ -5,7 +5,7 @@ ghost use Rattle.geometry.specs.Limits.{rowLimit};
 ghost use lib.ListN.{length};
 ghost use Rattle.geometry.specs.Places.{weightsTotal};
 ghost use Rattle.ball.specs.Check.{notChecked};
-ghost use Rattle.ball.specs.Demand.{CheckPromise};
+ghost use Rattle.ball.specs.Promise.{CheckPromise};
 use crate::Checked;
 use crate::ball_of;
 use crate::no_ball;

@@ -11,7 +11,7 @@ ghost use Rattle.ball.specs.Draw.{start, runFrom, drawn, notDrawn};
 ghost use Rattle.geometry.specs.Asked.{Table, WeightsOf};
 ghost use Rattle.moves.specs.Given.{Paired};
 ghost use Rattle.ball.specs.Ran.{Ran};
-ghost use Rattle.ball.specs.Demand.{DrawPromise};
+ghost use Rattle.ball.specs.Promise.{DrawPromise};
 use crate::Ball;
 use crate::Drawing;
 use crate::Ended;

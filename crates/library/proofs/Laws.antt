@@ -14,11 +14,11 @@ use native.Mathlib.Omega.{arith}
 use native.Mathlib.Nat.{le-antisymm, le-of-suc-le-suc, not-suc-le-zero}
 use native.Mathlib.Numerals.{add-one}
 use borrow.Author.Tests.{leb-true}
-use lib.Dec.{leb, eqb, lit<}
+use lib.Dec.{leb, eqb}
 use lib.IntN.{ℤ}
 use lib.ListN.{length, getD, set, take, drop, length-set}
 use mir.Val.{boolByte}
-use Rattle.refusal.specs.Outcome.{numberOf, choose}
+use Rattle.refusal.specs.Outcome.{numberOf}
 use Rattle.refusal.specs.declared.Outcome.{Outcome}
 use Rattle.refusal.specs.declared.Outcome.the-variants.{Accepted, Refused}
 use Rattle.geometry.specs.Limits.{total, rowLimit, channelLimit, budgetLimit, rowsWithin}
@@ -26,6 +26,7 @@ use Rattle.geometry.specs.Places.{weightsTotal}
 use Rattle.geometry.specs.TableLaws.{both, within-table}
 use Rattle.ball.specs.Draw.{drawing}
 use Rattle.ball.specs.Check.{checking}
+use Rattle.ball.specs.DrawLaws.{each-answer}
 use Rattle.ball.specs.Demand.{drawing-accepted, checking-accepted}
 use Rattle.ball.specs.declared.Drawing.{Drawing}
 use Rattle.ball.specs.declared.Checked.{Checked}
@@ -90,27 +91,19 @@ room-accepted true Accepted only h = (refl, refl)
 room-accepted false Accepted only h = nonzero h
 room-accepted room (Refused r) only h = let z : _≡_ {A = ℕ} 0 1 = cc (only h) in absurd (omega arith)
 
--- of a call with two refusals, only the accepted answer has the number 0
-module _ {A : Type 0} (outcome : A → Outcome) (x y z : A) (accepted : outcome x ≡ Accepted) (second : numberOf (outcome y) ≡ 0 → ⊥)
-    (first : numberOf (outcome z) ≡ 0 → ⊥) where
-  choose-zero : (r s : Bool) → numberOf (outcome (choose r (λ _. choose s (λ _. x) (λ _. y)) (λ _. z))) ≡ 0
-      → outcome (choose r (λ _. choose s (λ _. x) (λ _. y)) (λ _. z)) ≡ Accepted
-  choose-zero true true h = accepted
-  choose-zero true false h = absurd (second h)
-  choose-zero false s h = absurd (first h)
-
 drawing-zero : (D limit : ℕ) (rows : List ℤ) (m n b : ℕ) → numberOf (drawing D limit rows m n b .outcome) ≡ 0
     → drawing D limit rows m n b .outcome ≡ Accepted
 unfolding drawing
 drawing-zero D limit rows m n b =
-    choose-zero (λ (d : Drawing). d .outcome) _ _ _ refl nonzero nonzero (rowsWithin limit rows m n) (leb b budgetLimit)
+    each-answer (λ (d : Drawing). numberOf (d .outcome) ≡ 0 → d .outcome ≡ Accepted) (rowsWithin limit rows m n) (leb b budgetLimit)
+    (λ _ _ _. refl) nonzero nonzero
 
 checking-zero : (D limit : ℕ) (rows : List ℤ) (m n : ℕ) (ws : List ℕ) → numberOf (checking D limit rows m n ws .outcome) ≡ 0
     → checking D limit rows m n ws .outcome ≡ Accepted
 unfolding checking
 checking-zero D limit rows m n ws =
-    choose-zero (λ (k : Checked). k .outcome) _ _ _ refl nonzero nonzero (rowsWithin limit rows m n && eqb (length ws) m)
-    (eqb (weightsTotal m ws) D)
+    each-answer (λ (k : Checked). numberOf (k .outcome) ≡ 0 → k .outcome ≡ Accepted) (rowsWithin limit rows m n && eqb (length ws) m)
+    (eqb (weightsTotal m ws) D) (λ _ _ _. refl) nonzero nonzero
 
 -- ---- a call on lent slices
 
@@ -167,7 +160,7 @@ pub draw-room : (rows : List ℤ) (m n b c w : ℕ) (h : Known draw-export (draw
 draw-room rows m n b c w h z =
     let both-hold = accepted h (drawing-zero total rowLimit rows m n b) z in
     let room = both (leb n c) (leb m w) (both-hold .0) in
-    let table = within-table rows m n (drawing-accepted total rows m n b (lit< tt) (both-hold .1) .0) in
+    let table = within-table rows m n (drawing-accepted total rowLimit rows m n b (both-hold .1) .0) in
     ((leb-true n c (room .0), table .channels), (leb-true m w (room .1), table .rows-most))
 
 -- the places of an accepted check
@@ -175,5 +168,5 @@ pub check-room : (rows : List ℤ) (m n : ℕ) (ws : List ℕ) (c : ℕ) (h : Kn
     → h .number ≡ 0 → (n ≤ c) × (n ≤ channelLimit)
 check-room rows m n ws c h z =
     let both-hold = accepted h (checking-zero total rowLimit rows m n ws) z in
-    let table = within-table rows m n (checking-accepted total rows m n ws (lit< tt) (both-hold .1) .0) in
+    let table = within-table rows m n (checking-accepted total rowLimit rows m n ws (both-hold .1) .0) in
     (leb-true n c (both-hold .0), table .channels)
