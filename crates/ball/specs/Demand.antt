@@ -2,7 +2,6 @@
 --     ball-tight                             it holds of the figures of any weights of sum D
 --     run-keeps                              what a move keeps, a run keeps
 --     Kept, run-kept                         a run keeps the sum of the weights, and L rises by at least 1 with each move
---     within-bound                           what the limits on the rows say of the counts and the coordinates
 --     drawing-accepts, drawing-accepted      a drawing is accepted exactly where the limits hold and the budget is within its own
 --     drawing-is                             an accepted drawing is that of the whole run
 --     drawing-spent                          the moves are at most the budget, and all of it where the weights are not Settled
@@ -27,10 +26,10 @@ use Rattle.refusal.specs.Outcome.{refused}
 use Rattle.refusal.specs.declared.Outcome.the-variants.{Accepted}
 use Rattle.geometry.specs.Figures.{scaledCentre, scaledSquaredDistance, scaledLowerBound}
 use Rattle.geometry.specs.Move.{settled, moved, weightOf}
-use Rattle.geometry.specs.Limits.{total, rowLimit, channelLimit, coordinateLimit, centreLimit, budgetLimit, coordinate, coordinatesWithin, rowsWithin}
+use Rattle.geometry.specs.Limits.{total, rowLimit, channelLimit, coordinateLimit, centreLimit, budgetLimit, coordinate, rowsWithin}
 use Rattle.geometry.specs.Places.{centreList, centreOf, weightsTotal}
 use Rattle.geometry.specs.PlacesLaws.{centreList-at, centreList-most}
-use Rattle.geometry.specs.TableLaws.{both, coordinatesWithin-at, row-end}
+use Rattle.geometry.specs.TableLaws.{both, within-limits}
 use Rattle.geometry.specs.FigureLaws.{squaredLength-cong, distance-centreList, centre-most}
 use Rattle.geometry.specs.MoveLaws.{moved-length, moved-total, lower-bound-rises, rise-some}
 use Rattle.geometry.specs.Demand.{rival, holds-every-row, reaches-some-row, floor-below-ball, settled-gap, ball-most}
@@ -111,30 +110,13 @@ module _ (D m n : ℕ) (a : ℕ → ℕ → ℤ) (positive : 0 < D) (some : 0 < 
 
 -- ---- the two calls, for any row limit
 
--- what the limits on the rows say of the counts and the coordinates
-pub within-bound : (limit : ℕ) (rows : List ℤ) (m n : ℕ) → rowsWithin limit rows m n ≡ true
-    → (0 < m) × (m ≤ limit) × (n ≤ channelLimit) × ((i k : ℕ) → i < m → k < n → natAbs (coordinate rows n i k) ≤ coordinateLimit)
-unfolding rowsWithin coordinate
-within-bound limit rows m n h =
-    let counts = leb 1 m && leb m limit in
-    let table = leb (m * n) (length rows) && coordinatesWithin (m * n) rows in
-    let parts = both (leb 1 n && leb n channelLimit) (counts && table) h in
-    let row-parts = both counts table (parts .1) in
-    let count-tests = both (leb 1 m) (leb m limit) (row-parts .0) in
-    let coordinates = both (leb (m * n) (length rows)) (coordinatesWithin (m * n) rows) (row-parts .1) .1 in (
-      leb-true 1 m (count-tests .0),
-      leb-true m limit (count-tests .1),
-      leb-true n channelLimit (both (leb 1 n) (leb n channelLimit) (parts .0) .1),
-      λ i k hi hk. coordinatesWithin-at (m * n) rows coordinates (i * n + k) (omega (arith, row-end i m n hi)),
-    )
-
 -- the figures of weights of sum D for such rows
 weights-tight : (D limit : ℕ) (rows : List ℤ) (m n : ℕ) (ws : List ℕ) → 0 < D → rowsWithin limit rows m n ≡ true → weightsTotal m ws ≡ D
     → Tight D m n (coordinate rows n) (ballOf D m n (coordinate rows n) (weightOf ws))
 unfolding weightsTotal
 weights-tight D limit rows m n ws positive within sum =
-    let bound = within-bound limit rows m n within in
-    ball-tight D m n (coordinate rows n) (weightOf ws) positive (bound .0) sum (bound .2) (bound .3)
+    let table = within-limits limit rows m n within in
+    ball-tight D m n (coordinate rows n) (weightOf ws) positive (table .some-row) sum (table .channels) (table .bound)
 
 -- no refusal is an acceptance
 refusal : {A : Type 0} {k : ℕ} → refused k ≡ Accepted → A
@@ -167,8 +149,8 @@ module _ (D limit : ℕ) (rows : List ℤ) (m n b : ℕ) where
     module _ (positive : 0 < D) where
       kept : let r = runFrom D m n (coordinate rows n) b 0 (start limit D) in Kept D m n (coordinate rows n) (r .moves) (r .weights)
       kept =
-          let bound = within-bound limit rows m n (drawing-accepted .0) in
-          run-kept D m n (coordinate rows n) positive (bound .0) limit b (bound .1)
+          let table = within-limits limit rows m n (drawing-accepted .0) in
+          run-kept D m n (coordinate rows n) positive (table .some-row) limit b (table .rows-most)
 
       pub drawing-total : weightsTotal m (drawing D limit rows m n b .weights) ≡ D
       drawing-total = subst (λ (r : Drawing). weightsTotal m (r .weights) ≡ D) (sym drawing-is) (kept .sum)

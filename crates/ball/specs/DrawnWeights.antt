@@ -22,7 +22,8 @@ use Rattle.ball.specs.Ball.{ballOf}
 use Rattle.ball.specs.Draw.{start, runFrom, drawing}
 use Rattle.ball.specs.Check.{checking}
 use Rattle.ball.specs.DrawLaws.{start-length, start-rest, each-answer, checking-checked}
-use Rattle.ball.specs.Demand.{run-keeps, within-bound, drawing-accepted, drawing-is, drawing-total}
+use Rattle.geometry.specs.TableLaws.{within-limits}
+use Rattle.ball.specs.Demand.{run-keeps, drawing-accepted, drawing-is, drawing-total}
 use Rattle.ball.specs.declared.Ball.{Ball}
 use Rattle.ball.specs.declared.Drawing.{Drawing}
 use Rattle.ball.specs.declared.Checked.{Checked}
@@ -58,7 +59,7 @@ module _ (D limit : ℕ) (rows : List ℤ) (m n b : ℕ) where
     pub drawing-rest : (i : ℕ) → m ≤ i → weightOf (drawing D limit rows m n b .weights) i ≡ 0
     drawing-rest i past =
         subst (λ (r : Drawing). weightOf (r .weights) i ≡ 0) (sym (drawing-is D limit rows m n b accepted))
-        (run-rest D m n (coordinate rows n) limit b (within-bound limit rows m n within .0) i past)
+        (run-rest D m n (coordinate rows n) limit b (within-limits limit rows m n within .some-row) i past)
 
     pub drawing-checks : 0 < D → checking D limit rows m n (take m (drawing D limit rows m n b .weights))
         ≡ record { outcome = Accepted; ball = drawing D limit rows m n b .ball }
@@ -76,7 +77,7 @@ module _ (D limit : ℕ) (rows : List ℤ) (m n b : ℕ) where
         answer x = record { outcome = Accepted; ball = x }
 
         places : length (take m ws) ≡ m
-        places = length-take-le m ws (omega (arith, drawing-length, within-bound limit rows m n within .1))
+        places = length-take-le m ws (omega (arith, drawing-length, within-limits limit rows m n within .rows-most))
 
         at : (i : ℕ) → Dec (i < m) → weightOf (take m ws) i ≡ weightOf ws i
         at i (yes l) = getD-take m ws i 0 l

@@ -1,7 +1,8 @@
 -- What the functions below the public calls ask of their arguments, and give. No public call asks anything.
 --     CentreWithin x            every coordinate is within the limit on X
 --     RowAt rows n i            row i of the table lies in the list and its coordinates are within limits
---     Table rows m n            n, m, the places and the coordinates are within limits
+--     TableWithin l rows m n    n, m, the places and the coordinates are within limits, for a row limit l
+--     Table rows m n            the same for the row limit that the contracts fix
 --     WeightsOf m ws            a list of at least m weights of sum `total`
 use Prim.Native.Nat.{ℕ, _+_, _*_, _≤_, _<_}
 use mathlib.Core.Path.{_≡_}
@@ -19,13 +20,16 @@ pub record RowAt (rows : List ℤ) (n i : ℕ) : Type 0 where
   pub places : i * n + n ≤ length rows
   pub bound : (k : ℕ) → k < n → natAbs (coordinate rows n i k) ≤ coordinateLimit
 
-pub record Table (rows : List ℤ) (m n : ℕ) : Type 0 where
+pub record TableWithin (limit : ℕ) (rows : List ℤ) (m n : ℕ) : Type 0 where
   pub some-channel : 1 ≤ n
   pub channels : n ≤ channelLimit
   pub some-row : 1 ≤ m
-  pub rows-most : m ≤ rowLimit
+  pub rows-most : m ≤ limit
   pub places : m * n ≤ length rows
   pub bound : (i k : ℕ) → i < m → k < n → natAbs (coordinate rows n i k) ≤ coordinateLimit
+
+abbrev pub Table : List ℤ → ℕ → ℕ → Type 0
+Table rows m n = TableWithin rowLimit rows m n
 
 pub record WeightsOf (m : ℕ) (ws : List ℕ) : Type 0 where
   pub places : m ≤ length ws

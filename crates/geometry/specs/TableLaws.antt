@@ -2,7 +2,7 @@
 --     both                            both parts of a test that holds
 --     coordinatesWithin-at            the test of the coordinates at each place
 --     row-end                         a row's places end within the table
---     within-table                    the test of the limits, as the record
+--     within-limits, within-table     the test of the limits, as the record
 --     table-row                       a row of such a table
 --     weight-most                     a weight is at most the total
 --     weights-passed, weights-next    the weights of the first rows are within the total
@@ -26,7 +26,7 @@ use Rattle.integers.specs.Reading.{back, Reads, held}
 use Rattle.geometry.specs.Limits.{total, rowLimit, channelLimit, coordinateLimit, centreLimit, coordinate, coordinatesWithin, rowsWithin}
 use Rattle.geometry.specs.Move.{weightOf}
 use Rattle.geometry.specs.Places.{weightsTotal, centreOf}
-use Rattle.geometry.specs.Asked.{CentreWithin, RowAt, Table, WeightsOf}
+use Rattle.geometry.specs.Asked.{CentreWithin, RowAt, TableWithin, Table, WeightsOf}
 
 -- both parts of a test that holds
 pub both : (a b : Bool) → (a && b) ≡ true → (a ≡ true) × (b ≡ true)
@@ -51,26 +51,28 @@ coordinatesWithin-at (suc c) rows h j l =
 pub row-end : (i m n : ℕ) → i < m → i * n + n ≤ m * n
 row-end i m n h = omega (arith, suc-mul i n, mul-le-mul-right n h)
 
-module _ (rows : List ℤ) (m n : ℕ) where
-  pub within-table : rowsWithin rowLimit rows m n ≡ true → Table rows m n
-  unfolding rowsWithin coordinate
-  within-table h =
-      let channels = leb 1 n && leb n channelLimit in
-      let counts = leb 1 m && leb m rowLimit in
-      let table = leb (m * n) (length rows) && coordinatesWithin (m * n) rows in
-      let parts = both channels (counts && table) h in
-      let row-parts = both counts table (parts .1) in
-      let channel-tests = both (leb 1 n) (leb n channelLimit) (parts .0) in
-      let count-tests = both (leb 1 m) (leb m rowLimit) (row-parts .0) in
-      let table-tests = both (leb (m * n) (length rows)) (coordinatesWithin (m * n) rows) (row-parts .1) in
-      record {
-        some-channel = leb-true 1 n (channel-tests .0);
-        channels = leb-true n channelLimit (channel-tests .1);
-        some-row = leb-true 1 m (count-tests .0);
-        rows-most = leb-true m rowLimit (count-tests .1);
-        places = leb-true (m * n) (length rows) (table-tests .0);
-        bound = λ i k hi hk. coordinatesWithin-at (m * n) rows (table-tests .1) (i * n + k) (omega (arith, row-end i m n hi));
-      }
+pub within-limits : (limit : ℕ) (rows : List ℤ) (m n : ℕ) → rowsWithin limit rows m n ≡ true → TableWithin limit rows m n
+unfolding rowsWithin coordinate
+within-limits limit rows m n h =
+    let channels = leb 1 n && leb n channelLimit in
+    let counts = leb 1 m && leb m limit in
+    let table = leb (m * n) (length rows) && coordinatesWithin (m * n) rows in
+    let parts = both channels (counts && table) h in
+    let row-parts = both counts table (parts .1) in
+    let channel-tests = both (leb 1 n) (leb n channelLimit) (parts .0) in
+    let count-tests = both (leb 1 m) (leb m limit) (row-parts .0) in
+    let table-tests = both (leb (m * n) (length rows)) (coordinatesWithin (m * n) rows) (row-parts .1) in
+    record {
+      some-channel = leb-true 1 n (channel-tests .0);
+      channels = leb-true n channelLimit (channel-tests .1);
+      some-row = leb-true 1 m (count-tests .0);
+      rows-most = leb-true m limit (count-tests .1);
+      places = leb-true (m * n) (length rows) (table-tests .0);
+      bound = λ i k hi hk. coordinatesWithin-at (m * n) rows (table-tests .1) (i * n + k) (omega (arith, row-end i m n hi));
+    }
+
+pub within-table : (rows : List ℤ) (m n : ℕ) → rowsWithin rowLimit rows m n ≡ true → Table rows m n
+within-table = within-limits rowLimit
 
 module _ {rows : List ℤ} {m n : ℕ} (t : Table rows m n) where
   pub table-row : (i : ℕ) → i < m → RowAt rows n i
