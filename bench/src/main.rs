@@ -1,5 +1,6 @@
 //! The proved library timed against plain Rust: the same input, the same moves, the same run. The
-//! rounds of both alternate, and the median round counts.
+//! rounds of both alternate. The times are those of the median round, and the ratio of proved to
+//! plain is given of the medians and of the minima.
 
 mod plain;
 
@@ -25,9 +26,12 @@ struct Work {
 type Outcome = (plain::Figures, [i64; CHANNELS], [u32; ROWS]);
 
 fn main() {
+    if let Some(model) = processor_model() {
+        println!("{model}");
+    }
     println!(
-        "{:<24}{:>12}{:>12}{:>8}{:>10}",
-        "name", "proved ms", "plain ms", "ratio", "moves"
+        "{:<24}{:>12}{:>12}{:>10}{:>10}{:>10}",
+        "name", "proved ms", "plain ms", "medians", "minima", "moves"
     );
     let mut random = Random(1);
     for (m, n) in [(256, 8), (256, 2), (20, 4)] {
@@ -42,7 +46,14 @@ fn main() {
     measure("check 256x8", &work, proved_check, plain_check);
 }
 
-/// Prints one line: the median round of each, per run through all the work.
+/// The line of the processor's model, where the system tells it.
+fn processor_model() -> Option<String> {
+    let text = std::fs::read_to_string("/proc/cpuinfo").ok()?;
+    let line = text.lines().find(|line| line.starts_with("model name"))?;
+    Some(line.to_string())
+}
+
+/// Prints one line: the median round of each, per run through all the work, and both ratios.
 fn measure(
     name: &str,
     work: &[Work],
@@ -67,9 +78,13 @@ fn measure(
             });
         }
     }
-    let [proved, plain] = times.map(|list| median(list) * 1_000.0);
-    let ratio = proved / plain;
-    println!("{name:<24}{proved:>12.4}{plain:>12.4}{ratio:>8.2}{moves:>10}");
+    for list in &mut times {
+        list.sort_by(f64::total_cmp);
+    }
+    let [proved, plain] = times.each_ref().map(|list| list[ROUNDS / 2] * 1_000.0);
+    let of_medians = proved / plain;
+    let of_minima = times[0][0] / times[1][0];
+    println!("{name:<24}{proved:>12.4}{plain:>12.4}{of_medians:>10.2}{of_minima:>10.2}{moves:>10}");
 }
 
 /// The time of one run through all the work, over a number of runs.
@@ -81,11 +96,6 @@ fn seconds(work: &[Work], call: &impl Fn(&Work) -> Outcome, repeats: usize) -> f
         }
     }
     start.elapsed().as_secs_f64() / repeats as f64
-}
-
-fn median(mut list: Vec<f64>) -> f64 {
-    list.sort_by(f64::total_cmp);
-    list[list.len() / 2]
 }
 
 impl Work {

@@ -1,4 +1,4 @@
-//! Safe calls of the proved library: the smallest ball round reference readings, drawn in whole
+//! Safe calls of the proved library: a tight ball round reference readings, drawn in whole
 //! numbers, and the check of weights that anybody has chosen.
 //!
 //! There are m rows (1 to 256) of n channels (1 to 8); each coordinate is a whole number from

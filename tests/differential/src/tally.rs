@@ -1,6 +1,7 @@
 //! What a comparison has run through.
 
 use outside::cases::{Answer, Case};
+use outside::demands::{Tried, TriedBySource};
 use std::collections::BTreeMap;
 use std::fmt::Debug;
 
@@ -12,8 +13,12 @@ pub struct Tally {
     pub draws: u64,
     pub checks: u64,
     pub moves: u64,
-    pub rivals: u64,
-    pub close_rivals: u64,
+    pub solved_rivals: Tried,
+    pub other_rivals: Tried,
+    /// Settled drawings with M above 0.
+    pub settled_draws: u64,
+    /// Those of them with a rival from the other solver within a thousandth.
+    pub matched_draws: u64,
     /// How often each outcome and each kind of input was met, by name.
     pub reached: BTreeMap<String, u64>,
 }
@@ -51,6 +56,17 @@ impl Tally {
         self.reach(format!("{call}: {outcome}"));
     }
 
+    /// The rivals that an accepted answer was tested against.
+    pub fn count_rivals(&mut self, case: &Case, answer: &Answer, tried: TriedBySource) {
+        self.solved_rivals += tried.solved;
+        self.other_rivals += tried.others;
+        let drawn = matches!(case, Case::Draw(..));
+        if drawn && answer.settled && answer.scaled_squared_radius > 0 {
+            self.settled_draws += 1;
+            self.matched_draws += u64::from(tried.solved.close > 0);
+        }
+    }
+
     pub fn count_kind(&mut self, group: &str, kind: impl Debug) {
         self.reach(format!("{group}: {kind:?}"));
     }
@@ -67,19 +83,34 @@ impl Tally {
         println!("draws compared: {}", self.draws);
         println!("checks compared: {}", self.checks);
         println!("moves in all: {}", self.moves);
-        println!("rivals tried: {}", self.rivals);
-        println!("rivals within a thousandth: {}", self.close_rivals);
+        let rivals = [
+            ("the other solver", self.solved_rivals),
+            ("elsewhere", self.other_rivals),
+        ];
+        for (source, Tried { rivals, close }) in rivals {
+            println!("rivals from {source}: {rivals}, within a thousandth: {close}");
+        }
+        println!(
+            "Settled drawings with M above 0: {}, with a rival from the other solver within a \
+             thousandth: {}",
+            self.settled_draws, self.matched_draws
+        );
         for (name, count) in &self.reached {
             println!("{name}: {count}");
         }
     }
 
-    /// Stops the tests where an outcome, or one of the named kinds, was never met.
+    /// Stops the tests where an outcome, or one of the named kinds, was never met, or where a
+    /// Settled drawing with M above 0 had no rival from the other solver within a thousandth.
     pub fn require(&self, kinds: impl Iterator<Item = String>) {
         let outcomes = OUTCOMES.iter().map(|name| name.to_string());
         for name in outcomes.chain(kinds) {
             assert!(self.reached.contains_key(&name), "never met: {name}");
         }
-        assert!(self.close_rivals > 0, "no rival was near-optimal");
+        assert!(self.settled_draws > 0, "no drawing Settled with M above 0");
+        assert_eq!(
+            self.matched_draws, self.settled_draws,
+            "a Settled drawing had no near-optimal rival from the other solver"
+        );
     }
 }

@@ -68,9 +68,7 @@ fn compare_whole(random: &mut Random, tally: &mut Tally, demands: &Demands, case
     let room = random.pick(&[Room::Exact, Room::Longer]);
     let answer = compare_and_count(random, tally, case, room);
     if answer.number == 0 {
-        let (rivals, close) = demands.test(&answer);
-        tally.rivals += rivals;
-        tally.close_rivals += close;
+        tally.count_rivals(case, &answer, demands.test(&answer));
     }
     answer
 }

@@ -1,5 +1,5 @@
-//! Bad input, input at the limits and the starred trial figures of document 01, each by a test of
-//! its own.
+//! Bad input, input at the limits, the starred trial figures of document 01 and drawings directed
+//! at its rules of the move, each by a test of its own.
 
 use differential::compare::{self, Lent, Room};
 use outside::cases::{Answer, Case};
@@ -72,6 +72,15 @@ named!(trials, outside::known::trials:
     record_budget_1
     one_more_is_moved
     held_to_the_weight
+);
+
+named!(directed, outside::known::directed:
+    far_tie_to_the_lowest
+    near_row_has_weight
+    before_a_half
+    half_goes_down
+    before_above_a_half
+    above_a_half_goes_up
 );
 
 /// Refused input is refused by the same number when the lent room is too short as well.

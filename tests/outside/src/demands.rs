@@ -6,6 +6,7 @@
 use crate::cases::Answer;
 use crate::random::Random;
 use crate::rules::{self, COORDINATE_LIMIT, TOTAL, Vector};
+use std::ops::AddAssign;
 
 const LARGEST_DENOMINATOR: i128 = 1 << 20;
 
@@ -16,37 +17,54 @@ struct Rival {
     squared_radius: i128,
 }
 
+/// How many rivals an answer was tested against, and how many of them it beats by less than a
+/// thousandth.
+#[derive(Clone, Copy, Debug, Default, PartialEq, Eq)]
+pub struct Tried {
+    pub rivals: u64,
+    pub close: u64,
+}
+
+/// The rivals by where their centres come from.
+#[derive(Clone, Copy, Debug, Default, PartialEq, Eq)]
+pub struct TriedBySource {
+    /// From the other solver.
+    pub solved: Tried,
+    /// The answer's own centre, the middle of the two furthest rows, and random ones.
+    pub others: Tried,
+}
+
 /// The rows of a set, with what every answer about them is tested against.
 pub struct Demands {
     rows: Vec<Vector>,
     largest_squared_distance: i128,
-    rivals: Vec<Rival>,
+    solved: Vec<Rival>,
+    others: Vec<Rival>,
 }
 
 impl Demands {
     pub fn new(random: &mut Random, rows: Vec<Vector>) -> Demands {
         let (largest_squared_distance, one, other) = furthest_rows(&rows);
         let middle = (0..rows[0].len()).map(|place| rows[one][place] + rows[other][place]);
-        let mut rivals = vec![Rival::new(&rows, middle.collect(), 2)];
-        rivals.extend(near_optimal(random, &rows));
-        rivals.extend((0..2).map(|_| random_rival(random, &rows)));
+        let mut others = vec![Rival::new(&rows, middle.collect(), 2)];
+        let solved = near_optimal(random, &rows);
+        others.extend((0..2).map(|_| random_rival(random, &rows)));
         Demands {
             rows,
             largest_squared_distance,
-            rivals,
+            solved,
+            others,
         }
     }
 
-    /// Stops the tests where the figures fail demand 3. Gives the number of rivals tried, and of
-    /// those that the figures beat by less than a thousandth.
-    pub fn test(&self, answer: &Answer) -> (u64, u64) {
+    /// Stops the tests where the figures fail demand 3.
+    pub fn test(&self, answer: &Answer) -> TriedBySource {
         self.test_ball(answer);
         let own = Rival::new(&self.rows, answer.scaled_centre.clone(), TOTAL);
-        let mut close = 0;
-        for rival in self.rivals.iter().chain([&own]) {
-            close += u64::from(rival.test(answer));
+        TriedBySource {
+            solved: Tried::of(self.solved.iter(), answer),
+            others: Tried::of(self.others.iter().chain([&own]), answer),
         }
-        (self.rivals.len() as u64 + 1, close)
     }
 
     fn test_ball(&self, answer: &Answer) {
@@ -65,6 +83,24 @@ impl Demands {
             i128::from(answer.moves) <= answer.scaled_lower_bound,
             "more moves than L"
         );
+    }
+}
+
+impl Tried {
+    fn of<'a>(rivals: impl Iterator<Item = &'a Rival>, answer: &Answer) -> Tried {
+        let mut tried = Tried::default();
+        for rival in rivals {
+            tried.rivals += 1;
+            tried.close += u64::from(rival.test(answer));
+        }
+        tried
+    }
+}
+
+impl AddAssign for Tried {
+    fn add_assign(&mut self, more: Tried) {
+        self.rivals += more.rivals;
+        self.close += more.close;
     }
 }
 

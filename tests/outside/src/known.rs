@@ -1,4 +1,5 @@
-//! The cases that document 01 and the list of bad input name, with the answers these give.
+//! The cases that document 01 and the list of bad input name, and cases directed at its rules of
+//! the move, with the answers that these give.
 
 use crate::cases::{Answer, Case};
 use crate::rules::{BUDGET_LIMIT, CHANNEL_LIMIT, COORDINATE_LIMIT, ROW_LIMIT};
@@ -273,6 +274,86 @@ const DRAWN_TRIALS: [Drawn; 6] = [
     },
 ];
 
+/// Drawings whose answer turns on one rule of the move. The figures are worked out from the rules
+/// apart from this implementation; rows are counted from 0.
+const DIRECTED: [Drawn; 6] = [
+    // Rows 1 and 2 are equally far. Had the highest of them gained, X would be -98,304.
+    Drawn {
+        name: "far_tie_to_the_lowest",
+        places: &[0, 3, -3],
+        size: (3, 1),
+        budget: 1,
+        settled: false,
+        moves: 1,
+        radius_and_lower_bound: (86_973_087_744, 9_663_676_416),
+        centre: &[98_304],
+        weights: &[32_768, 32_768, 0],
+    },
+    // After the move row 1 has the smallest s, 0, but no weight. Taken as the near row, it would
+    // keep the drawing from Settled.
+    Drawn {
+        name: "near_row_has_weight",
+        places: &[0, 5, 10],
+        size: (3, 1),
+        budget: 10_000,
+        settled: true,
+        moves: 1,
+        radius_and_lower_bound: (107_374_182_400, 107_374_182_400),
+        centre: &[327_680],
+        weights: &[32_768, 0, 32_768],
+    },
+    // The second move: far row 2, near row 0, g 65,536, d² 5, g/(2d²) 6,553.6.
+    Drawn {
+        name: "before_a_half",
+        places: &[0, 0, 0, 4, 2, 1],
+        size: (3, 2),
+        budget: 2,
+        settled: false,
+        moves: 2,
+        radius_and_lower_bound: (19_112_735_540, 17_394_617_548),
+        centre: &[13_108, 137_626],
+        weights: &[26_214, 32_768, 6_554],
+    },
+    // The third move: far row 0, near row 1, g 52,432, d² 16, g/(2d²) 1,638.5. The half goes
+    // down, so that t is 1,638 and not 1,639.
+    Drawn {
+        name: "half_goes_down",
+        places: &[0, 0, 0, 4, 2, 1],
+        size: (3, 2),
+        budget: 3,
+        settled: false,
+        moves: 3,
+        radius_and_lower_bound: (18_210_734_740, 17_437_572_460),
+        centre: &[13_108, 131_074],
+        weights: &[27_852, 31_130, 6_554],
+    },
+    // The first move: rows 1 and 2 are equally far, g 327,680, d² 5, t 32,768.
+    Drawn {
+        name: "before_above_a_half",
+        places: &[0, 0, 1, 2, 2, 1],
+        size: (3, 2),
+        budget: 1,
+        settled: false,
+        moves: 1,
+        radius_and_lower_bound: (9_663_676_416, 5_368_709_120),
+        centre: &[32_768, 65_536],
+        weights: &[32_768, 32_768, 0],
+    },
+    // The second move: far row 2, near row 0, g 65,536, d² 5, g/(2d²) 6,553.6. It goes to the
+    // nearest whole number, so that t is 6,554 and not the whole part 6,553.
+    Drawn {
+        name: "above_a_half_goes_up",
+        places: &[0, 0, 1, 2, 2, 1],
+        size: (3, 2),
+        budget: 2,
+        settled: false,
+        moves: 2,
+        radius_and_lower_bound: (7_301_575_476, 5_583_457_484),
+        centre: &[45_876, 72_090],
+        weights: &[26_214, 32_768, 6_554],
+    },
+];
+
 const CHECKED_TRIALS: [Unsettled; 2] = [
     Unsettled {
         name: "one_more_is_moved",
@@ -302,4 +383,9 @@ pub fn trials() -> Vec<Known> {
     drawn
         .chain(CHECKED_TRIALS.iter().map(Unsettled::known))
         .collect()
+}
+
+/// Drawings directed at one rule of the move each. They are not among the stored cases.
+pub fn directed() -> Vec<Known> {
+    DIRECTED.iter().map(Drawn::known).collect()
 }

@@ -6,7 +6,7 @@
 //! - `sets`: reference sets of many shapes and sizes, whole and damaged.
 //! - `cases`: arguments of the two calls, with budgets and weights of many kinds.
 //! - `demands`: what demand 3 says of the figures, tested in whole numbers.
-//! - `known`: the cases that document 01 and the list of bad input name.
+//! - `known`: the cases that document 01 and the list of bad input name, and directed ones.
 //! - `stored`: a set of cases as the input and the output of a program.
 
 pub mod cases;

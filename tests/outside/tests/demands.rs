@@ -1,7 +1,7 @@
 //! The tests of demand 3 pass the outside implementation's figures, and stop wrong ones.
 
 use outside::cases::{self, Answer, Case};
-use outside::demands::Demands;
+use outside::demands::{Demands, TriedBySource};
 use outside::random::Random;
 use outside::rules;
 use outside::sets;
@@ -24,13 +24,21 @@ fn figures_by_the_rules_hold() {
 }
 
 /// The rows 0, 10 and 4 with their drawing, changed as given, held to demand 3.
-fn test_changed(change: impl Fn(&mut Answer)) {
+fn test_changed(change: impl Fn(&mut Answer)) -> TriedBySource {
     let places = [0, 10, 4];
     let rows = rules::rows_within_limits(&places, 3, 1).expect("within limits");
     let drawing = rules::draw(&places, 3, 1, 10_000).expect("within limits");
     let mut answer = Answer::from(drawing);
     change(&mut answer);
-    Demands::new(&mut Random::new(8), rows).test(&answer);
+    Demands::new(&mut Random::new(8), rows).test(&answer)
+}
+
+/// The centre 5 is the best: the answer, the middle and the other solver all have it.
+#[test]
+fn rivals_are_counted_by_source() {
+    let tried = test_changed(|_| ());
+    assert_eq!((tried.solved.rivals, tried.solved.close), (7, 7));
+    assert_eq!((tried.others.rivals, tried.others.close), (4, 2));
 }
 
 #[test]

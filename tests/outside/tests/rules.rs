@@ -12,6 +12,11 @@ fn trial_figures() {
 }
 
 #[test]
+fn directed_figures() {
+    hold(known::directed());
+}
+
+#[test]
 fn input_at_the_limits_is_accepted() {
     hold(known::at_the_limits());
 }
@@ -46,6 +51,20 @@ fn amount_is_held_to_the_near_weight() {
 fn ties_go_to_the_lowest_row() {
     let pair = pair_of(&[0, 0, 5, 5, 0], &[0, 30_000, 0, 0, 35_536]);
     assert_eq!((pair.far, pair.near), (2, 1));
+}
+
+/// The rows and weights before the last move of `half_goes_down` and of `above_a_half_goes_up`.
+#[test]
+fn amount_is_rounded_with_a_half_down() {
+    let down = ([0, 0, 0, 4, 2, 1], [26_214, 32_768, 6_554]);
+    let up = ([0, 0, 1, 2, 2, 1], [32_768, 32_768, 0]);
+    let amount = |(places, weights): ([i32; 6], [i128; 3])| {
+        let rows = rules::rows_within_limits(&places, 3, 2).expect("within limits");
+        let pair = rules::pair(&rows, &weights);
+        (pair.g, pair.squared_distance, pair.amount(&weights))
+    };
+    assert_eq!(amount(down), (52_432, 16, 1_638));
+    assert_eq!(amount(up), (65_536, 5, 6_554));
 }
 
 /// The sum is kept and L rises by t·(g - t·d²), at least 1.
