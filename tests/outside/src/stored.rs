@@ -50,7 +50,12 @@ const SMALL_PLACES: usize = 100;
 /// The known cases, seeded small ones of every shape and kind of weights, damaged ones, and full
 /// sets.
 pub fn stored_cases(random: &mut Random) -> Vec<Case> {
-    let known = [known::trials(), known::at_the_limits(), known::bad_input()];
+    let known = [
+        known::trials(),
+        known::directed(),
+        known::at_the_limits(),
+        known::bad_input(),
+    ];
     let mut list: Vec<Case> = known
         .into_iter()
         .flatten()
