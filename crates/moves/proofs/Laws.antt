@@ -3,17 +3,25 @@
 --     pass-new, pass-old         after one row more (row 0 at the start is one), if that row takes the place and if not
 --     pass-end                   after the last row
 --     far-new, far-old           the far row after one row more, by the test of the two distances
---     near-light, near-new, near-old     the near row after one row more, by its weight and the test of `nearer`
-use Prim.Native.Nat.{ℕ, _+_, _≤_, _<_}
-use mathlib.Core.Path.{_≡_, sym, _∙_, ap, ap₂, subst}
-use mathlib.Core.Bool.{true, false, _&&_, _||_}
+--     near-light                 a row without weight is not the near row
+--     Unmet, Met, Near           what the pass for the near row holds, before and after the first row of weight above 0
+--     near-start, near-skip, near-take, near-keep, near-end     at the start, after each kind of row, and at the end
+use Prim.Native.Nat.{ℕ, zero, suc, _+_, _≤_, _<_}
+use mathlib.Core.Path.{_≡_, refl, sym, _∙_, ap, ap₂, subst}
+use mathlib.Core.Logic.{_⊎_, inl, inr}
+use mathlib.Core.Bool.{_&&_, _||_}
 use mathlib.Core.List.{List}
+use native.Mathlib.Nat.{eq-zero-or-pos}
+use native.Mathlib.Numerals.{add-one}
 use native.Mathlib.Omega.{arith}
-use borrow.Author.Tests.{lt-ltb, le-ltb}
+use borrow.Author.Count.{below-more}
+use borrow.Author.Tests.{lt-ltb, le-ltb, eq-eqb, ne-eqb}
 use lib.Dec.{ltb, eqb}
 use lib.IntN.{ℤ}
+use Rattle.integers.specs.Sum.{sumℕ}
+use Rattle.integers.specs.SumLaws.{sumℕ-positive}
 use Rattle.geometry.specs.Select.{farthest, replaces, nearest}
-use Rattle.geometry.specs.SelectLaws.{farthest-taken, farthest-kept, nearest-taken, nearest-kept}
+use Rattle.geometry.specs.SelectLaws.{farthest-taken, farthest-kept, nearest-one, nearest-taken, nearest-kept}
 use Rattle.geometry.specs.Limits.{total, distanceLimit}
 use Rattle.integers.specs.Reading.{Bounded}
 use Rattle.moves.specs.Given.{Found, score}
@@ -74,18 +82,87 @@ unfolding replaces
 near-light w s i h =
     nearest-kept ltb w s i (ap (λ t. t && (eqb (w (nearest ltb w s i)) 0 || ltb (s i) (s (nearest ltb w s i)))) (le-ltb 0 (w i) h))
 
-module _ (w : ℕ → ℕ) {rows x : List ℤ} {m n row distance i d : ℕ}
-    (f : Pass rows m n x (nearest ltb w (score rows n x)) row distance i) (b : Bounded (distanceLimit total) d (score rows n x i)) (h : 0 < w i) where
-  near-test : replaces ltb w (score rows n x) (nearest ltb w (score rows n x) i) i ≡ (eqb (w row) 0 || ltb d distance)
-  unfolding replaces
-  near-test =
-      let s = score rows n x in
-      let near = nearest ltb w s i in
-      ap (λ t. t && (eqb (w near) 0 || ltb (s i) (s near))) (lt-ltb 0 (w i) h) ∙
-      ap₂ _||_ (ap (λ j. eqb (w j) 0) (sym (f .found .is))) (ap₂ ltb (sym (b .is)) (sym (kept-is f)))
+-- ---- the pass for the near row
 
-  pub near-new : (eqb (w row) 0 || ltb d distance) ≡ true → nearest ltb w (score rows n x) (i + 1) ≡ i
-  near-new t = nearest-taken ltb w (score rows n x) i (near-test ∙ t)
+-- what the pass keeps before the first row of weight above 0, and after it
+pub record Unmet (w : ℕ → ℕ) (row distance i : ℕ) : Type 0 where
+  pub none : (j : ℕ) → j < i → w j ≡ 0
+  pub row-is : row ≡ 0
+  pub above : distance ≡ 18446744073709551615
 
-  pub near-old : (eqb (w row) 0 || ltb d distance) ≡ false → nearest ltb w (score rows n x) (i + 1) ≡ nearest ltb w (score rows n x) i
-  near-old t = nearest-kept ltb w (score rows n x) i (near-test ∙ t)
+pub record Met (w : ℕ → ℕ) (rows : List ℤ) (m n : ℕ) (x : List ℤ) (row distance i : ℕ) : Type 0 where
+  pub weighted : 0 < w row
+  pub pass : Pass rows m n x (nearest ltb w (score rows n x)) row distance i
+
+pub record Near (w : ℕ → ℕ) (rows : List ℤ) (m n : ℕ) (x : List ℤ) (row distance i : ℕ) : Type 0 where
+  pub most : i ≤ m
+  pub so-far : Unmet w row distance i ⊎ Met w rows m n x row distance i
+
+near-none : (w s : ℕ → ℕ) (i : ℕ) → ((j : ℕ) → j < i → w j ≡ 0) → nearest ltb w s i ≡ 0
+unfolding nearest
+near-none w s zero h = refl
+near-none w s (suc i) h =
+    ap (nearest ltb w s) (sym (add-one i)) ∙ near-light w s i (omega (arith, h i (omega arith))) ∙ near-none w s i (λ j l. h j (omega arith))
+
+pub near-start : (w : ℕ → ℕ) (rows : List ℤ) (m n : ℕ) (x : List ℤ) → Near w rows m n x 0 18446744073709551615 0
+near-start w rows m n x =
+    record { most = omega arith; so-far = inl record { none = λ j l. absurd (omega arith); row-is = refl; above = refl } }
+
+module _ (w : ℕ → ℕ) {rows x : List ℤ} {m n row distance i : ℕ} where
+  -- a row without weight is passed over
+  pub near-skip : {row' distance' : ℕ} → i < m → Near w rows m n x row distance i → w i ≤ 0 → row' ≡ row → distance' ≡ distance
+      → Near w rows m n x row' distance' (i + 1)
+  near-skip {row'} {distance'} l f light p q = record { most = omega arith; so-far = go (f .so-far) }
+    where
+      go : Unmet w row distance i ⊎ Met w rows m n x row distance i → Unmet w row' distance' (i + 1) ⊎ Met w rows m n x row' distance' (i + 1)
+      go (inl u) = inl record { none = below-more (λ j. w j ≡ 0) i (u .none) (omega arith); row-is = p ∙ u .row-is; above = q ∙ u .above }
+      go (inr k) =
+          inr record { weighted = subst (λ r. 0 < w r) (sym p) (k .weighted); pass = pass-old l (k .pass) (near-light w (score rows n x) i light) p q }
+
+  module _ {d : ℕ} (l : i < m) (f : Near w rows m n x row distance i) (b : Bounded (distanceLimit total) d (score rows n x i)) (h : 0 < w i) where
+    -- the definition's test at row i, where the row kept so far is `kept`
+    test : {kept : ℕ} → nearest ltb w (score rows n x) i ≡ kept
+        → replaces ltb w (score rows n x) (nearest ltb w (score rows n x) i) i ≡ (eqb (w kept) 0 || ltb (score rows n x i) (score rows n x kept))
+    unfolding replaces
+    test e = ap₂ _&&_ (lt-ltb 0 (w i) h) (ap₂ _||_ (ap (λ j. eqb (w j) 0) e) (ap (λ j. ltb (score rows n x i) (score rows n x j)) e))
+
+    -- and where that row has weight, the code's test
+    against : Met w rows m n x row distance i → replaces ltb w (score rows n x) (nearest ltb w (score rows n x) i) i ≡ ltb d distance
+    against k =
+        let g = k .pass .found in
+        test (sym (g .is)) ∙ ap₂ _||_ (ne-eqb (w row) 0 (omega (arith, k .weighted))) (ap₂ ltb (sym (b .is)) (sym (g .distance-is)))
+
+    taken : d < distance → nearest ltb w (score rows n x) (i + 1) ≡ i
+    taken lower = go (f .so-far) (eq-zero-or-pos i)
+      where
+        go : Unmet w row distance i ⊎ Met w rows m n x row distance i → (i ≡ 0) ⊎ (0 < i) → nearest ltb w (score rows n x) (i + 1) ≡ i
+        go (inl u) (inl e) = ap (λ k. nearest ltb w (score rows n x) (k + 1)) e ∙ nearest-one ltb w (score rows n x) ∙ sym e
+        go (inl u) (inr p) =
+            nearest-taken ltb w (score rows n x) i
+            (test (near-none w (score rows n x) i (u .none)) ∙ ap (λ t. t || ltb (score rows n x i) (score rows n x 0)) (eq-eqb (w 0) 0 (u .none 0 p)))
+        go (inr k) _ =
+            nearest-taken ltb w (score rows n x) i
+            (against k ∙ lt-ltb d distance lower)
+
+    pub near-take : {row' distance' : ℕ} → d < distance → row' ≡ i → distance' ≡ d → Near w rows m n x row' distance' (i + 1)
+    near-take lower p q =
+        record { most = omega arith; so-far = inr record { weighted = subst (λ r. 0 < w r) (sym p) h; pass = pass-new l b (taken lower) p q } }
+
+    pub near-keep : {row' distance' : ℕ} → distance ≤ d → row' ≡ row → distance' ≡ distance → Near w rows m n x row' distance' (i + 1)
+    near-keep {row'} {distance'} higher p q = record { most = omega arith; so-far = inr (go (f .so-far)) }
+      where
+        go : Unmet w row distance i ⊎ Met w rows m n x row distance i → Met w rows m n x row' distance' (i + 1)
+        go (inl u) = absurd (omega (arith, u .above, b .most))
+        go (inr k) =
+            record {
+              weighted = subst (λ r. 0 < w r) (sym p) (k .weighted);
+              pass = pass-old l (k .pass) (nearest-kept ltb w (score rows n x) i (against k ∙ le-ltb d distance higher)) p q;
+            }
+
+  -- some row has weight, since the weights sum to the total
+  pub near-end : m ≤ i → Near w rows m n x row distance i → sumℕ m w ≡ total → Found rows m n x (nearest ltb w (score rows n x) m) (selected row distance)
+  near-end done f sum = go (f .so-far)
+    where
+      go : Unmet w row distance i ⊎ Met w rows m n x row distance i → Found rows m n x (nearest ltb w (score rows n x) m) (selected row distance)
+      go (inl u) = let p = sumℕ-positive w m (omega arith) in absurd (omega (arith, u .none (p .0) (omega (arith, p .1)), p .2))
+      go (inr k) = pass-end done (k .pass)

@@ -1,13 +1,9 @@
 // The far and the near row, each by one pass over the rows in order, so that ties go to the lowest row.
-ghost use mathlib.Core.Path.{_≡_};
-ghost use Prim.Native.Nat.{_≤_, _<_};
-ghost use mathlib.Core.Bool.{_&&_, _||_};
-ghost use lib.Dec.{ltb, eqb};
+ghost use lib.Dec.{ltb};
 ghost use Rattle.geometry.specs.Select.{farthest, nearest};
 ghost use Rattle.geometry.specs.Move.{weightOf};
-ghost use Rattle.geometry.specs.Asked.{CentreWithin, Table};
+ghost use Rattle.geometry.specs.Asked.{CentreWithin, Table, WeightsOf};
 ghost use Rattle.moves.specs.Given.{Found, score};
-ghost use lib.ListN.{length};
 use crate::Selected;
 use figures::distance::scaled_squared_distance;
 use figures::limits::CHANNELS;
@@ -31,28 +27,18 @@ pub fn farthest_row(rows: &[i32], m: usize, n: usize, x: &[i64; CHANNELS]) -> Se
     Selected { row, distance }
 }
 
-// Whether a row of weight above 0 and this distance takes the place of the row kept so far.
-fn nearer(kept_weight: u32, kept_distance: u64, distance: u64) -> bool
-    ensures { λ r. ⌜ r ≡ (eqb «kept_weight» 0 || ltb distance «kept_distance») ⌝ }
-{
-    if kept_weight == 0 {
-        return true;
-    }
-    distance < kept_distance
-}
-
-// The row with the smallest s among the rows of weight above 0.
+// The row with the smallest s among the rows of weight above 0. The distance kept before the first of them is above every s.
 pub fn nearest_row(rows: &[i32], m: usize, n: usize, w: &[u32], x: &[i64; CHANNELS]) -> Selected
-    requires { ⌜ Table (now rows) m n × (CentreWithin (now x) × (m ≤ length (now w))) ⌝ }
+    requires { ⌜ Table (now rows) m n × (CentreWithin (now x) × WeightsOf m (now w)) ⌝ }
     ensures { λ r. ⌜ Found (now (rows .entry)) m n (now (x .entry)) (nearest ltb (weightOf (now (w .entry))) (score (now (rows .entry)) n (now (x .entry))) m) r ⌝ }
 {
     let mut row = 0;
-    let mut distance = scaled_squared_distance(rows, n, 0, x);
-    let mut i = 1;
+    let mut distance: u64 = 18446744073709551615;
+    let mut i = 0;
     while i < m {
         if 0 < w[i] {
             let d = scaled_squared_distance(rows, n, i, x);
-            if nearer(w[row], distance, d) {
+            if d < distance {
                 row = i;
                 distance = d;
             }

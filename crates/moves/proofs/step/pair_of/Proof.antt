@@ -80,7 +80,7 @@ farthest-row-requires c κs =
 nearest-row-requires : tie.Need-nearest-row-requires
 nearest-row-requires c κs =
     let p = c .before .before .pre in
-    (p .0, (centre (p .0) (p .1 .0) (p .1 .1), p .1 .0 .places))
+    (p .0, (centre (p .0) (p .1 .0) (p .1 .1), p .1 .0))
 
 sub-difference : tie.Need-sub-difference
 sub-difference c =
