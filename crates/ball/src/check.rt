@@ -16,14 +16,14 @@ use moves::step::pair_of;
 use refusal::Outcome;
 
 // The sum of the first m weights.
-fn weights_total(w: &[u32], m: usize) -> u64
-    requires { ⌜ (m ≤ rowLimit) × (m ≤ length (now w)) ⌝ }
-    ensures { λ r. ⌜ r ≡ weightsTotal m (now (w .entry)) ⌝ }
+fn weights_total(weights: &[u32], m: usize) -> u64
+    requires { ⌜ (m ≤ rowLimit) × (m ≤ length (now weights)) ⌝ }
+    ensures { λ r. ⌜ r ≡ weightsTotal m (now (weights .entry)) ⌝ }
 {
     let mut sum: u64 = 0;
     let mut i = 0;
     while i < m {
-        sum += w[i] as u64;
+        sum += weights[i] as u64;
         i += 1;
     }
     sum

@@ -49,11 +49,18 @@ struct Ended {
 }
 
 // The figures of weights whose X and pair of rows are known.
-fn ball_of(rows: &[i32], m: usize, n: usize, w: &[u32], centre: [i64; CHANNELS], pair: Pair) -> Ball
-    requires { ⌜ Table (now rows) m n × (WeightsOf m (now w) × ((centre ≡ centreList n (scaledCentre (coordinate (now rows) n) (weightOf (now w)) m)) × Paired (now rows) m n (now w) pair)) ⌝ }
-    ensures { λ r. ⌜ r ≡ ballOf total m n (coordinate (now (rows .entry)) n) (weightOf (now (w .entry))) ⌝ }
+fn ball_of(
+    rows: &[i32],
+    m: usize,
+    n: usize,
+    weights: &[u32],
+    centre: [i64; CHANNELS],
+    pair: Pair,
+) -> Ball
+    requires { ⌜ Table (now rows) m n × (WeightsOf m (now weights) × ((centre ≡ centreList n (scaledCentre (coordinate (now rows) n) (weightOf (now weights)) m)) × Paired (now rows) m n (now weights) pair)) ⌝ }
+    ensures { λ r. ⌜ r ≡ ballOf total m n (coordinate (now (rows .entry)) n) (weightOf (now (weights .entry))) ⌝ }
 {
-    let bound = lower_bound(rows, m, n, w, &centre);
+    let bound = lower_bound(rows, m, n, weights, &centre);
     Ball {
         scaled_centre: centre,
         scaled_squared_radius: pair.distance,

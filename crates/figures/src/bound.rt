@@ -37,46 +37,52 @@ fn squared_length(rows: &[i32], n: usize, row: usize) -> u64
 }
 
 // The square of one coordinate of X.
-fn square_of_centre(x: i64) -> u64
-    requires { ⌜ natAbs x ≤ centreLimit total ⌝ }
-    ensures { λ r. ⌜ Bounded (centreLimit total * centreLimit total) r (square x) ⌝ }
+fn square_of_centre(centre: i64) -> u64
+    requires { ⌜ natAbs centre ≤ centreLimit total ⌝ }
+    ensures { λ r. ⌜ Bounded (centreLimit total * centreLimit total) r (square centre) ⌝ }
 {
-    (x * x) as u64
+    (centre * centre) as u64
 }
 
 // The squared length of X.
-fn squared_length_of_centre(x: &[i64; CHANNELS], n: usize) -> u64
-    requires { ⌜ CentreWithin (now x) × (n ≤ channelLimit) ⌝ }
-    ensures { λ r. ⌜ Bounded (channelLimit * centreLimit total * centreLimit total) r (squaredLength n (centreOf (now (x .entry)))) ⌝ }
+fn squared_length_of_centre(centre: &[i64; CHANNELS], n: usize) -> u64
+    requires { ⌜ CentreWithin (now centre) × (n ≤ channelLimit) ⌝ }
+    ensures { λ r. ⌜ Bounded (channelLimit * centreLimit total * centreLimit total) r (squaredLength n (centreOf (now (centre .entry)))) ⌝ }
 {
     let mut sum: u64 = 0;
     let mut k = 0;
     while k < n {
-        sum += square_of_centre(x[k]);
+        sum += square_of_centre(centre[k]);
         k += 1;
     }
     sum
 }
 
 // The sum of weight times the row's squared length.
-fn weighted_squared_length(rows: &[i32], m: usize, n: usize, w: &[u32]) -> u64
-    requires { ⌜ Table (now rows) m n × WeightsOf m (now w) ⌝ }
-    ensures { λ r. ⌜ Bounded (lengthLimit * total) r (weightedSquaredLength m n (coordinate (now (rows .entry)) n) (weightOf (now (w .entry)))) ⌝ }
+fn weighted_squared_length(rows: &[i32], m: usize, n: usize, weights: &[u32]) -> u64
+    requires { ⌜ Table (now rows) m n × WeightsOf m (now weights) ⌝ }
+    ensures { λ r. ⌜ Bounded (lengthLimit * total) r (weightedSquaredLength m n (coordinate (now (rows .entry)) n) (weightOf (now (weights .entry)))) ⌝ }
 {
     let mut sum: u64 = 0;
     let mut i = 0;
     while i < m {
-        sum += (w[i] as u64) * squared_length(rows, n, i);
+        sum += (weights[i] as u64) * squared_length(rows, n, i);
         i += 1;
     }
     sum
 }
 
 // L of the weights whose X is x.
-pub fn lower_bound(rows: &[i32], m: usize, n: usize, w: &[u32], x: &[i64; CHANNELS]) -> u64
-    requires { ⌜ Table (now rows) m n × (WeightsOf m (now w) × (now x ≡ centreList n (scaledCentre (coordinate (now rows) n) (weightOf (now w)) m))) ⌝ }
-    ensures { λ r. ⌜ r ≡ scaledLowerBound total m n (coordinate (now (rows .entry)) n) (weightOf (now (w .entry))) ⌝ }
+pub fn lower_bound(
+    rows: &[i32],
+    m: usize,
+    n: usize,
+    weights: &[u32],
+    centre: &[i64; CHANNELS],
+) -> u64
+    requires { ⌜ Table (now rows) m n × (WeightsOf m (now weights) × (now centre ≡ centreList n (scaledCentre (coordinate (now rows) n) (weightOf (now weights)) m))) ⌝ }
+    ensures { λ r. ⌜ r ≡ scaledLowerBound total m n (coordinate (now (rows .entry)) n) (weightOf (now (weights .entry))) ⌝ }
 {
-    let first = (TOTAL as u64) * weighted_squared_length(rows, m, n, w);
-    first - squared_length_of_centre(x, n)
+    let first = (TOTAL as u64) * weighted_squared_length(rows, m, n, weights);
+    first - squared_length_of_centre(centre, n)
 }

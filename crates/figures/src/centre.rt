@@ -11,23 +11,23 @@ ghost use Rattle.figures.specs.Given.{Weighted};
 use crate::limits::CHANNELS;
 
 // A weight times a coordinate.
-fn weighted(w: u32, a: i32) -> i64
-    requires { ⌜ (w ≤ total) × (natAbs a ≤ coordinateLimit) ⌝ }
-    ensures { λ r. ⌜ Weighted w a r ⌝ }
+fn weighted(weight: u32, a: i32) -> i64
+    requires { ⌜ (weight ≤ total) × (natAbs a ≤ coordinateLimit) ⌝ }
+    ensures { λ r. ⌜ Weighted weight a r ⌝ }
 {
-    (w as i64) * (a as i64)
+    (weight as i64) * (a as i64)
 }
 
 // X of channel k.
-fn centre_of_channel(rows: &[i32], m: usize, n: usize, w: &[u32], k: usize) -> i64
-    requires { ⌜ Table (now rows) m n × (WeightsOf m (now w) × (k < n)) ⌝ }
-    ensures { λ r. ⌜ r ≡ scaledCentre (coordinate (now (rows .entry)) n) (weightOf (now (w .entry))) m k ⌝ }
+fn centre_of_channel(rows: &[i32], m: usize, n: usize, weights: &[u32], k: usize) -> i64
+    requires { ⌜ Table (now rows) m n × (WeightsOf m (now weights) × (k < n)) ⌝ }
+    ensures { λ r. ⌜ r ≡ scaledCentre (coordinate (now (rows .entry)) n) (weightOf (now (weights .entry))) m k ⌝ }
 {
     let mut sum: i64 = 0;
     let mut at = k;
     let mut i = 0;
     while i < m {
-        sum += weighted(w[i], rows[at]);
+        sum += weighted(weights[i], rows[at]);
         at += n;
         i += 1;
     }
@@ -35,15 +35,15 @@ fn centre_of_channel(rows: &[i32], m: usize, n: usize, w: &[u32], k: usize) -> i
 }
 
 // X in its eight places.
-pub fn scaled_centre(rows: &[i32], m: usize, n: usize, w: &[u32]) -> [i64; CHANNELS]
-    requires { ⌜ Table (now rows) m n × WeightsOf m (now w) ⌝ }
-    ensures { λ r. ⌜ r ≡ centreList n (scaledCentre (coordinate (now (rows .entry)) n) (weightOf (now (w .entry))) m) ⌝ }
+pub fn scaled_centre(rows: &[i32], m: usize, n: usize, weights: &[u32]) -> [i64; CHANNELS]
+    requires { ⌜ Table (now rows) m n × WeightsOf m (now weights) ⌝ }
+    ensures { λ r. ⌜ r ≡ centreList n (scaledCentre (coordinate (now (rows .entry)) n) (weightOf (now (weights .entry))) m) ⌝ }
 {
-    let mut x = [0i64; CHANNELS];
+    let mut centre = [0i64; CHANNELS];
     let mut k = 0;
     while k < n {
-        x[k] = centre_of_channel(rows, m, n, w, k);
+        centre[k] = centre_of_channel(rows, m, n, weights, k);
         k += 1;
     }
-    x
+    centre
 }

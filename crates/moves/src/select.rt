@@ -9,15 +9,15 @@ use figures::distance::scaled_squared_distance;
 use figures::limits::CHANNELS;
 
 // The row with the largest s of all rows.
-pub fn farthest_row(rows: &[i32], m: usize, n: usize, x: &[i64; CHANNELS]) -> Selected
-    requires { ⌜ Table (now rows) m n × CentreWithin (now x) ⌝ }
-    ensures { λ r. ⌜ Found (now (rows .entry)) m n (now (x .entry)) (farthest ltb (score (now (rows .entry)) n (now (x .entry))) m) r ⌝ }
+pub fn farthest_row(rows: &[i32], m: usize, n: usize, centre: &[i64; CHANNELS]) -> Selected
+    requires { ⌜ Table (now rows) m n × CentreWithin (now centre) ⌝ }
+    ensures { λ r. ⌜ Found (now (rows .entry)) m n (now (centre .entry)) (farthest ltb (score (now (rows .entry)) n (now (centre .entry))) m) r ⌝ }
 {
     let mut row = 0;
-    let mut distance = scaled_squared_distance(rows, n, 0, x);
+    let mut distance = scaled_squared_distance(rows, n, 0, centre);
     let mut i = 1;
     while i < m {
-        let d = scaled_squared_distance(rows, n, i, x);
+        let d = scaled_squared_distance(rows, n, i, centre);
         if distance < d {
             row = i;
             distance = d;
@@ -28,16 +28,22 @@ pub fn farthest_row(rows: &[i32], m: usize, n: usize, x: &[i64; CHANNELS]) -> Se
 }
 
 // The row with the smallest s among the rows of weight above 0. The distance kept before the first of them is above every s.
-pub fn nearest_row(rows: &[i32], m: usize, n: usize, w: &[u32], x: &[i64; CHANNELS]) -> Selected
-    requires { ⌜ Table (now rows) m n × (CentreWithin (now x) × WeightsOf m (now w)) ⌝ }
-    ensures { λ r. ⌜ Found (now (rows .entry)) m n (now (x .entry)) (nearest ltb (weightOf (now (w .entry))) (score (now (rows .entry)) n (now (x .entry))) m) r ⌝ }
+pub fn nearest_row(
+    rows: &[i32],
+    m: usize,
+    n: usize,
+    weights: &[u32],
+    centre: &[i64; CHANNELS],
+) -> Selected
+    requires { ⌜ Table (now rows) m n × (CentreWithin (now centre) × WeightsOf m (now weights)) ⌝ }
+    ensures { λ r. ⌜ Found (now (rows .entry)) m n (now (centre .entry)) (nearest ltb (weightOf (now (weights .entry))) (score (now (rows .entry)) n (now (centre .entry))) m) r ⌝ }
 {
     let mut row = 0;
     let mut distance: u64 = 18446744073709551615;
     let mut i = 0;
     while i < m {
-        if 0 < w[i] {
-            let d = scaled_squared_distance(rows, n, i, x);
+        if 0 < weights[i] {
+            let d = scaled_squared_distance(rows, n, i, centre);
             if d < distance {
                 row = i;
                 distance = d;

@@ -19,12 +19,12 @@ use figures::limits::TOTAL;
 use figures::limits::channels;
 
 // The far and the near row of the weights whose X is x, with g and d².
-pub fn pair_of(rows: &[i32], m: usize, n: usize, w: &[u32], x: &[i64; CHANNELS]) -> Pair
-    requires { ⌜ Table (now rows) m n × (WeightsOf m (now w) × (now x ≡ centreList n (scaledCentre (coordinate (now rows) n) (weightOf (now w)) m))) ⌝ }
-    ensures { λ r. ⌜ Paired (now (rows .entry)) m n (now (w .entry)) r ⌝ }
+pub fn pair_of(rows: &[i32], m: usize, n: usize, weights: &[u32], centre: &[i64; CHANNELS]) -> Pair
+    requires { ⌜ Table (now rows) m n × (WeightsOf m (now weights) × (now centre ≡ centreList n (scaledCentre (coordinate (now rows) n) (weightOf (now weights)) m))) ⌝ }
+    ensures { λ r. ⌜ Paired (now (rows .entry)) m n (now (weights .entry)) r ⌝ }
 {
-    let far = farthest_row(rows, m, n, x);
-    let near = nearest_row(rows, m, n, w, x);
+    let far = farthest_row(rows, m, n, centre);
+    let near = nearest_row(rows, m, n, weights, centre);
     let far_row = far.row;
     let near_row = near.row;
     let difference = (far.distance - near.distance) / (TOTAL as u64);
@@ -73,32 +73,32 @@ pub fn one_move(
 }
 
 // t times the difference of two coordinates, added to a coordinate of X.
-fn shifted(x: i64, t: u32, gains: i32, loses: i32) -> i64
-    requires { ⌜ (natAbs x ≤ centreLimit total) × ((t ≤ total) × ((natAbs gains ≤ coordinateLimit) × (natAbs loses ≤ coordinateLimit))) ⌝ }
-    ensures { λ r. ⌜ r ≡ x +ℤ pos t *ℤ (gains -ℤ loses) ⌝ }
+fn shifted(centre: i64, t: u32, gains: i32, loses: i32) -> i64
+    requires { ⌜ (natAbs centre ≤ centreLimit total) × ((t ≤ total) × ((natAbs gains ≤ coordinateLimit) × (natAbs loses ≤ coordinateLimit))) ⌝ }
+    ensures { λ r. ⌜ r ≡ centre +ℤ pos t *ℤ (gains -ℤ loses) ⌝ }
 {
-    x + (t as i64) * ((gains as i64) - (loses as i64))
+    centre + (t as i64) * ((gains as i64) - (loses as i64))
 }
 
 // X after t has moved from one row to another (formula 31).
 pub fn shift_centre(
-    x: [i64; CHANNELS],
+    centre: [i64; CHANNELS],
     rows: &[i32],
     n: usize,
     from: usize,
     to: usize,
     t: u32,
 ) -> [i64; CHANNELS]
-    requires { ⌜ RowAt (now rows) n from × (RowAt (now rows) n to × (CentreWithin x × (t ≤ total))) ⌝ }
-    ensures { λ r. ⌜ r ≡ shiftCentre (now (rows .entry)) n from to t x ⌝ }
+    requires { ⌜ RowAt (now rows) n from × (RowAt (now rows) n to × (CentreWithin centre × (t ≤ total))) ⌝ }
+    ensures { λ r. ⌜ r ≡ shiftCentre (now (rows .entry)) n from to t centre ⌝ }
 {
     let mut changed = [0i64; CHANNELS];
-    let lower = from * n;
-    let higher = to * n;
+    let from_base = from * n;
+    let to_base = to * n;
     let count = channels(n);
     let mut k = 0;
     while k < count {
-        changed[k] = shifted(x[k], t, rows[higher + k], rows[lower + k]);
+        changed[k] = shifted(centre[k], t, rows[to_base + k], rows[from_base + k]);
         k += 1;
     }
     changed

@@ -16,7 +16,7 @@ abbrev μ-loop : tie.MeasureT-loop
 μ-loop w m sum₀ i₀ sum i = m - i
 
 loop-holds : tie.Need-loop-holds Inv-loop μ-loop
-loop-holds c = omega (arith, weightsTotal-zero (c .args .w .now))
+loop-holds c = omega (arith, weightsTotal-zero (c .args .weights .now))
 
 mul-sum : tie.Need-mul-sum Inv-loop μ-loop
 mul-sum c = search needs
@@ -39,12 +39,12 @@ loop-less c = search needs
 loop-again : tie.Need-loop-again Inv-loop μ-loop
 loop-again c =
     let i = c .before .before .loop .i in
-    omega (arith, c .shared-slice-known .given i, weightsTotal-next i (c .before .before .before .args .w .now))
+    omega (arith, c .shared-slice-known .given i, weightsTotal-next i (c .before .before .before .args .weights .now))
 
 returns : tie.Need-returns Inv-loop μ-loop
 returns c =
     let all : c .before .loop .i ≡ c .before .before .args .m = omega arith in
-    c .before .loop .inv .1 .0 ∙ ap (λ i. weightsTotal i (c .before .before .args .w .now)) all
+    c .before .loop .inv .1 .0 ∙ ap (λ i. weightsTotal i (c .before .before .args .weights .now)) all
 
 pub weights-total-spec : {M : Type 1} → statement M
 weights-total-spec =

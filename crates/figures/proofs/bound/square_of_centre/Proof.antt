@@ -6,8 +6,8 @@ use Rattle.geometry.specs.Limits.{centreLimit, total}
 use Rattle.figures.proofs.bound.square_of_centre.Statement.{statement}
 use Rattle.figures.proofs.bound.square_of_centre.Tie as tie
 
-coordinate : (c : tie.Start) → Reads (back w64 (c .args .x)) (c .args .x) (centreLimit total)
-coordinate c = held (c .fits .x) (c .pre)
+coordinate : (c : tie.Start) → Reads (back w64 (c .args .centre)) (c .args .centre) (centreLimit total)
+coordinate c = held (c .fits .centre) (c .pre)
 
 mul-result : tie.Need-mul-result
 mul-result c = fits (product (coordinate c) (coordinate c)) tt

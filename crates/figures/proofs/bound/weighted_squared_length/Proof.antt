@@ -67,8 +67,8 @@ loop-again : tie.Need-loop-again Inv-loop μ-loop
 loop-again c =
     let s = c .before .before .before .before .before in
     let l = c .before .before .before .loop in
-    rw (sumℕ-next (weightOf (s .args .w .now)) (l .i))
-    (partial-more (weightOf (s .args .w .now) (l .i)) (l .inv) (omega arith)
+    rw (sumℕ-next (weightOf (s .args .weights .now)) (l .i))
+    (partial-more (weightOf (s .args .weights .now) (l .i)) (l .inv) (omega arith)
     (term (s .pre .1) (l .i) (omega arith) (c .squared-length .ensures)))
 
 returns : tie.Need-returns Inv-loop μ-loop

@@ -121,7 +121,7 @@ unfolding scaledCentre
 returns c =
     let a = c .before .before .before .args in
     let e : c .before .loop .i ≡ a .m = omega arith in
-    c .before .loop .inv .read .is ∙ ap (λ i. sumℤ i (term (a .rows .now) (a .n) (a .w .now) (a .k))) e
+    c .before .loop .inv .read .is ∙ ap (λ i. sumℤ i (term (a .rows .now) (a .n) (a .weights .now) (a .k))) e
 
 pub centre-of-channel-spec : {M : Type 1} → statement M
 centre-of-channel-spec =

@@ -37,11 +37,11 @@ loop-holds c = (omega arith, refl)
 centre-of-channel-requires : tie.Need-centre-of-channel-requires Inv-loop μ-loop
 centre-of-channel-requires c κs = search needs
 
-mul-x : tie.Need-mul-x Inv-loop μ-loop
-mul-x c = omega arith
+mul-centre : tie.Need-mul-centre Inv-loop μ-loop
+mul-centre c = omega arith
 
-array-set-from-x : tie.Need-array-set-from-x Inv-loop μ-loop
-array-set-from-x c = omega arith
+array-set-from-centre : tie.Need-array-set-from-centre Inv-loop μ-loop
+array-set-from-centre c = omega arith
 
 add-k : tie.Need-add-k Inv-loop μ-loop
 add-k c = omega arith
@@ -53,9 +53,9 @@ loop-again : tie.Need-loop-again Inv-loop μ-loop
 loop-again c =
     let s = c .before .before .before .before in
     let l = c .before .before .loop in
-    let X = scaledCentre (coordinate (s .args .rows .now) (s .args .n)) (weightOf (s .args .w .now)) (s .args .m) in (
+    let X = scaledCentre (coordinate (s .args .rows .now) (s .args .n)) (weightOf (s .args .weights .now)) (s .args .m) in (
       omega arith,
-      turned (l .k) X (l .x) (c .centre-of-channel .result) (omega arith)
+      turned (l .k) X (l .centre) (c .centre-of-channel .result) (omega arith)
           (centre-at-most (s .pre .0) (s .pre .1) (l .k) (omega arith)) (l .inv .1) (c .centre-of-channel .ensures),
     )
 
@@ -63,7 +63,7 @@ returns : tie.Need-returns Inv-loop μ-loop
 returns c =
     let a = c .before .before .before .args in
     let e : c .before .loop .k ≡ a .n = omega arith in
-    c .before .loop .inv .1 ∙ ap (λ k. centreList k (scaledCentre (coordinate (a .rows .now) (a .n)) (weightOf (a .w .now)) (a .m))) e
+    c .before .loop .inv .1 ∙ ap (λ k. centreList k (scaledCentre (coordinate (a .rows .now) (a .n)) (weightOf (a .weights .now)) (a .m))) e
 
 pub scaled-centre-spec : {M : Type 1} → statement M
 scaled-centre-spec =
@@ -73,8 +73,8 @@ scaled-centre-spec =
     μ-loop
     loop-holds
     centre-of-channel-requires
-    mul-x
-    array-set-from-x
+    mul-centre
+    array-set-from-centre
     add-k
     loop-less
     loop-again

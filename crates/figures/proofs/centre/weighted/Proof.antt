@@ -13,8 +13,8 @@ use Rattle.figures.proofs.centre.weighted.Statement.{statement}
 use Rattle.figures.proofs.centre.weighted.Tie as tie
 
 module _ (c : tie.Start) where
-  scaled : Reads (back w64 (pos (c .args .w)) *ℤ back w64 (back w32 (c .args .a))) (pos (c .args .w) *ℤ c .args .a) 262144000
-  scaled = product (kept (number (c .args .w) (c .pre .0)) tt) (kept (held (c .fits .a) (c .pre .1)) tt)
+  scaled : Reads (back w64 (pos (c .args .weight)) *ℤ back w64 (back w32 (c .args .a))) (pos (c .args .weight) *ℤ c .args .a) 262144000
+  scaled = product (kept (number (c .args .weight) (c .pre .0)) tt) (kept (held (c .fits .a) (c .pre .1)) tt)
 
 cast-result : tie.Need-cast-result
 cast-result c = search needs
@@ -30,8 +30,8 @@ returns c =
     let e = kept (scaled c) tt .is in
     record {
       is = e;
-      most = subst (λ z. natAbs z ≤ coordinateLimit * c .args .w) (sym e)
-          (omega (arith, product (number (c .args .w) (le-refl (c .args .w))) (held (c .fits .a) (c .pre .1)) .most));
+      most = subst (λ z. natAbs z ≤ coordinateLimit * c .args .weight) (sym e)
+          (omega (arith, product (number (c .args .weight) (le-refl (c .args .weight))) (held (c .fits .a) (c .pre .1)) .most));
     }
 
 pub weighted-spec : {M : Type 1} → statement M

@@ -41,7 +41,7 @@ loop-again : tie.Need-loop-again Inv-loop μ-loop
 loop-again c =
     let l = c .before .before .loop-test .taken in
     let f = c .before .before .before .loop .inv in
-    let w = weightOf (c .before .before .before .before .before .args .w .now) in
+    let w = weightOf (c .before .before .before .before .before .args .weights .now) in
     ⊎-elim
     (λ o. near-take w l f (o .1 .ensures) (o .0 .taken) (o .2 .taken) (o .3) (o .4))
     (⊎-elim

@@ -22,16 +22,16 @@ abbrev place : List ℤ → ℕ → ℕ → ℕ → ℕ → List ℤ → ℕ →
 place rows n from to t x k = centreOf x k +ℤ pos t *ℤ (coordinate rows n to k -ℤ coordinate rows n from k)
 
 abbrev Inv-loop : tie.InvT-loop
-Inv-loop rows n from to t x changed₀ lower higher count k₀ changed k = (k ≤ n) × (changed ≡ centreList k (place rows n from to t x))
+Inv-loop rows n from to t x changed₀ from-base to-base count k₀ changed k = (k ≤ n) × (changed ≡ centreList k (place rows n from to t x))
 
 abbrev μ-loop : tie.MeasureT-loop
-μ-loop rows n from to t x changed₀ lower higher count k₀ changed k = n - k
+μ-loop rows n from to t x changed₀ from-base to-base count k₀ changed k = n - k
 
-mul-lower : tie.Need-mul-lower Inv-loop μ-loop
-mul-lower c = omega arith
+mul-from-base : tie.Need-mul-from-base Inv-loop μ-loop
+mul-from-base c = omega arith
 
-mul-higher : tie.Need-mul-higher Inv-loop μ-loop
-mul-higher c = omega arith
+mul-to-base : tie.Need-mul-to-base Inv-loop μ-loop
+mul-to-base c = omega arith
 
 channels-requires : tie.Need-channels-requires Inv-loop μ-loop
 channels-requires c κs = omega arith
@@ -109,8 +109,8 @@ shift-centre-spec =
     (tie.spec
     Inv-loop
     μ-loop
-    mul-lower
-    mul-higher
+    mul-from-base
+    mul-to-base
     channels-requires
     loop-holds
     mul-shifted

@@ -32,10 +32,10 @@ mul-result : tie.Need-mul-result
 mul-result c = fits (part c) tt
 
 add-result : tie.Need-add-result
-add-result c = fits (addition (held (c .fits .x) (c .pre .0)) (kept (part c) tt)) tt
+add-result c = fits (addition (held (c .fits .centre) (c .pre .0)) (kept (part c) tt)) tt
 
 returns : tie.Need-returns
-returns c = kept (addition (held (c .fits .x) (c .pre .0)) (kept (part c) tt)) tt .is
+returns c = kept (addition (held (c .fits .centre) (c .pre .0)) (kept (part c) tt)) tt .is
 
 pub shifted-spec : {M : Type 1} → statement M
 shifted-spec =
