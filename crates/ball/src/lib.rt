@@ -1,12 +1,10 @@
 // The ball round the reference rows of a sampling point (document 01): drawing it by moves, and checking anybody's weights.
 // A table holds m rows of n channels, row by row. Rows and channels count from 0 in the code.
 ghost use mathlib.Core.Path.{_≡_};
-ghost use Rattle.geometry.specs.Figures.{scaledCentre};
 ghost use Rattle.geometry.specs.Move.{weightOf};
 ghost use Rattle.geometry.specs.Limits.{total, coordinate};
-ghost use Rattle.geometry.specs.Places.{centreList};
 ghost use Rattle.ball.specs.Ball.{ballOf, noBall};
-ghost use Rattle.geometry.specs.Asked.{Table, WeightsOf};
+ghost use Rattle.geometry.specs.Asked.{Table, WeightsOf, CentreOf};
 ghost use Rattle.moves.specs.Given.{Paired};
 
 pub mod check;
@@ -57,7 +55,7 @@ fn ball_of(
     centre: [i64; CHANNELS],
     pair: Pair,
 ) -> Ball
-    requires { ⌜ Table (now rows) m n × (WeightsOf m (now weights) × ((centre ≡ centreList n (scaledCentre (coordinate (now rows) n) (weightOf (now weights)) m)) × Paired (now rows) m n (now weights) pair)) ⌝ }
+    requires { ⌜ Table (now rows) m n × (WeightsOf m (now weights) × (CentreOf (now rows) m n (now weights) centre × Paired (now rows) m n (now weights) pair)) ⌝ }
     ensures { λ r. ⌜ r ≡ ballOf total m n (coordinate (now (rows .entry)) n) (weightOf (now (weights .entry))) ⌝ }
 {
     let bound = lower_bound(rows, m, n, weights, &centre);

@@ -3,12 +3,12 @@ ghost use mathlib.Core.Path.{_≡_};
 ghost use Prim.Native.Nat.{_*_, _≤_};
 ghost use lib.IntN.{natAbs};
 ghost use Rattle.integers.specs.Sum.{square};
-ghost use Rattle.geometry.specs.Figures.{squaredLength, scaledCentre, weightedSquaredLength, scaledLowerBound};
+ghost use Rattle.geometry.specs.Figures.{squaredLength, weightedSquaredLength, scaledLowerBound};
 ghost use Rattle.geometry.specs.Move.{weightOf};
 ghost use Rattle.geometry.specs.Limits.{total, channelLimit, coordinate, coordinateLimit, centreLimit, lengthLimit};
-ghost use Rattle.geometry.specs.Places.{centreList, centreOf};
+ghost use Rattle.geometry.specs.Places.{centreOf};
 ghost use Rattle.integers.specs.Reading.{Bounded};
-ghost use Rattle.geometry.specs.Asked.{CentreWithin, RowAt, Table, WeightsOf};
+ghost use Rattle.geometry.specs.Asked.{CentreWithin, RowAt, Table, WeightsOf, CentreOf};
 use crate::limits::CHANNELS;
 use crate::limits::TOTAL;
 
@@ -80,7 +80,7 @@ pub fn lower_bound(
     weights: &[u32],
     centre: &[i64; CHANNELS],
 ) -> u64
-    requires { ⌜ Table (now rows) m n × (WeightsOf m (now weights) × (now centre ≡ centreList n (scaledCentre (coordinate (now rows) n) (weightOf (now weights)) m))) ⌝ }
+    requires { ⌜ Table (now rows) m n × (WeightsOf m (now weights) × CentreOf (now rows) m n (now weights) (now centre)) ⌝ }
     ensures { λ r. ⌜ r ≡ scaledLowerBound total m n (coordinate (now (rows .entry)) n) (weightOf (now (weights .entry))) ⌝ }
 {
     let first = (TOTAL as u64) * weighted_squared_length(rows, m, n, weights);

@@ -4,12 +4,15 @@
 --     TableWithin l rows m n    n, m, the places and the coordinates are within limits, for a row limit l
 --     Table rows m n            the same for the row limit that the contracts fix
 --     WeightsOf m ws            a list of at least m weights of sum `total`
+--     CentreOf rows m n ws x    x is X of the weights, in its eight places
 use Prim.Native.Nat.{ℕ, _+_, _*_, _≤_, _<_}
 use mathlib.Core.Path.{_≡_}
 use mathlib.Core.List.{List}
 use lib.IntN.{ℤ, pos, natAbs}
 use lib.ListN.{length, getD}
-use Rattle.geometry.specs.Places.{weightsTotal}
+use Rattle.geometry.specs.Places.{centreList, weightsTotal}
+use Rattle.geometry.specs.Figures.{scaledCentre}
+use Rattle.geometry.specs.Move.{weightOf}
 use Rattle.geometry.specs.Limits.{total, rowLimit, channelLimit, coordinateLimit, centreLimit, coordinate}
 
 pub record CentreWithin (x : List ℤ) : Type 0 where
@@ -34,3 +37,6 @@ Table rows m n = TableWithin rowLimit rows m n
 pub record WeightsOf (m : ℕ) (ws : List ℕ) : Type 0 where
   pub places : m ≤ length ws
   pub sum : weightsTotal m ws ≡ total
+
+abbrev pub CentreOf : List ℤ → ℕ → ℕ → List ℕ → List ℤ → Type 0
+CentreOf rows m n ws x = x ≡ centreList n (scaledCentre (coordinate rows n) (weightOf ws) m)
