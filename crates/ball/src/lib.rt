@@ -4,7 +4,7 @@ ghost use mathlib.Core.Path.{_≡_};
 ghost use Rattle.geometry.specs.Move.{weightOf};
 ghost use Rattle.geometry.specs.Limits.{total, coordinate};
 ghost use Rattle.ball.specs.Ball.{ballOf, noBall};
-ghost use Rattle.geometry.specs.Asked.{Table, WeightsOf, CentreOf};
+ghost use Rattle.geometry.specs.Asked.{Table, WeightsOf, IsCentre};
 ghost use Rattle.moves.specs.Given.{Paired};
 
 pub mod check;
@@ -55,7 +55,7 @@ fn ball_of(
     centre: [i64; CHANNELS],
     pair: Pair,
 ) -> Ball
-    requires { ⌜ Table (now rows) m n × (WeightsOf m (now weights) × (CentreOf (now rows) m n (now weights) centre × Paired (now rows) m n (now weights) pair)) ⌝ }
+    requires { ⌜ Table (now rows) m n × (WeightsOf m (now weights) × (IsCentre (now rows) m n (now weights) centre × Paired (now rows) m n (now weights) pair)) ⌝ }
     ensures { λ r. ⌜ r ≡ ballOf total m n (coordinate (now (rows .entry)) n) (weightOf (now (weights .entry))) ⌝ }
 {
     let bound = lower_bound(rows, m, n, weights, &centre);

@@ -8,7 +8,7 @@ ghost use Rattle.geometry.specs.Move.{weightOf};
 ghost use Rattle.geometry.specs.Limits.{total, channelLimit, coordinate, coordinateLimit, centreLimit, lengthLimit};
 ghost use Rattle.geometry.specs.Places.{centreOf};
 ghost use Rattle.integers.specs.Reading.{Bounded};
-ghost use Rattle.geometry.specs.Asked.{CentreWithin, RowAt, Table, WeightsOf, CentreOf};
+ghost use Rattle.geometry.specs.Asked.{CentreWithin, RowAt, Table, WeightsOf, IsCentre};
 use crate::limits::CHANNELS;
 use crate::limits::TOTAL;
 
@@ -72,7 +72,7 @@ fn weighted_squared_length(rows: &[i32], m: usize, n: usize, weights: &[u32]) ->
     sum
 }
 
-// L of the weights whose X is x.
+// L of the weights whose X is `centre`.
 pub fn lower_bound(
     rows: &[i32],
     m: usize,
@@ -80,7 +80,7 @@ pub fn lower_bound(
     weights: &[u32],
     centre: &[i64; CHANNELS],
 ) -> u64
-    requires { ⌜ Table (now rows) m n × (WeightsOf m (now weights) × CentreOf (now rows) m n (now weights) (now centre)) ⌝ }
+    requires { ⌜ Table (now rows) m n × (WeightsOf m (now weights) × IsCentre (now rows) m n (now weights) (now centre)) ⌝ }
     ensures { λ r. ⌜ r ≡ scaledLowerBound total m n (coordinate (now (rows .entry)) n) (weightOf (now (weights .entry))) ⌝ }
 {
     let first = (TOTAL as u64) * weighted_squared_length(rows, m, n, weights);

@@ -5,7 +5,7 @@ ghost use lib.IntN.{natAbs};
 ghost use Rattle.geometry.specs.Figures.{scaledCentre};
 ghost use Rattle.geometry.specs.Move.{weightOf};
 ghost use Rattle.geometry.specs.Limits.{total, coordinate, coordinateLimit};
-ghost use Rattle.geometry.specs.Asked.{Table, WeightsOf, CentreOf};
+ghost use Rattle.geometry.specs.Asked.{Table, WeightsOf, IsCentre};
 ghost use Rattle.figures.specs.Given.{Weighted};
 use crate::limits::CHANNELS;
 
@@ -36,7 +36,7 @@ fn centre_of_channel(rows: &[i32], m: usize, n: usize, weights: &[u32], k: usize
 // X in its eight places.
 pub fn scaled_centre(rows: &[i32], m: usize, n: usize, weights: &[u32]) -> [i64; CHANNELS]
     requires { ⌜ Table (now rows) m n × WeightsOf m (now weights) ⌝ }
-    ensures { λ r. ⌜ CentreOf (now (rows .entry)) m n (now (weights .entry)) r ⌝ }
+    ensures { λ r. ⌜ IsCentre (now (rows .entry)) m n (now (weights .entry)) r ⌝ }
 {
     let mut centre = [0i64; CHANNELS];
     let mut k = 0;

@@ -29,13 +29,13 @@ pub fn channels(n: usize) -> usize
     if n < CHANNELS { n } else { CHANNELS }
 }
 
-fn coordinate_within(z: i32) -> bool
-    ensures { λ r. ⌜ r ≡ leb (natAbs z) coordinateLimit ⌝ }
+fn coordinate_within(coordinate: i32) -> bool
+    ensures { λ r. ⌜ r ≡ leb (natAbs coordinate) coordinateLimit ⌝ }
 {
-    if z < -COORDINATE {
+    if coordinate < -COORDINATE {
         return false;
     }
-    z <= COORDINATE
+    coordinate <= COORDINATE
 }
 
 // Whether the first `count` places are within the coordinate limit.
@@ -45,8 +45,8 @@ fn coordinates_within(rows: &[i32], count: usize) -> bool
 {
     let mut i = 0;
     while i < count {
-        let z = rows[i];
-        if !coordinate_within(z) {
+        let coordinate = rows[i];
+        if !coordinate_within(coordinate) {
             return false;
         }
         i += 1;

@@ -4,7 +4,7 @@
 --     TableWithin l rows m n    n, m, the places and the coordinates are within limits, for a row limit l
 --     Table rows m n            the same for the row limit that the contracts fix
 --     WeightsOf m ws            a list of at least m weights of sum `total`
---     CentreOf rows m n ws x    x is X of the weights, in its eight places
+--     IsCentre rows m n ws x    x is X of the weights, in its eight places, by equation
 use Prim.Native.Nat.{ℕ, _+_, _*_, _≤_, _<_}
 use mathlib.Core.Path.{_≡_}
 use mathlib.Core.List.{List}
@@ -38,5 +38,5 @@ pub record WeightsOf (m : ℕ) (ws : List ℕ) : Type 0 where
   pub places : m ≤ length ws
   pub sum : weightsTotal m ws ≡ total
 
-abbrev pub CentreOf : List ℤ → ℕ → ℕ → List ℕ → List ℤ → Type 0
-CentreOf rows m n ws x = x ≡ centreList n (scaledCentre (coordinate rows n) (weightOf ws) m)
+abbrev pub IsCentre : List ℤ → ℕ → ℕ → List ℕ → List ℤ → Type 0
+IsCentre rows m n ws x = x ≡ centreList n (scaledCentre (coordinate rows n) (weightOf ws) m)

@@ -33,7 +33,7 @@ unfoldable pub largest : ℕ → (ℕ → ℕ) → ℕ
 largest zero f = 0
 largest (suc m) f = max (largest m f) (f m)
 
--- The ball M is the largest s. The squared radius is M/D². It is not the source's -2Q, which is the floor: rows stick out of that
+-- The ball M is the largest s. The squared radius is M/D². It is not the source's -2Q, which is the floor: rows may lie outside that
 unfoldable pub scaledSquaredRadius : ℕ → ℕ → ℕ → (ℕ → ℕ → ℤ) → (ℕ → ℤ) → ℕ
 scaledSquaredRadius D m n a X = largest m (λ i. scaledSquaredDistance D n X (a i))
 

@@ -5,7 +5,7 @@ ghost use lib.IntN.{natAbs, pos, _+ℤ_, _-ℤ_, _*ℤ_};
 ghost use Rattle.geometry.specs.Move.{cappedStep, weightOf, transfer, moved};
 ghost use Rattle.geometry.specs.Limits.{total, coordinateLimit, centreLimit, separationLimit, differenceLimit, coordinate};
 ghost use Rattle.integers.specs.Reading.{Bounded};
-ghost use Rattle.geometry.specs.Asked.{CentreWithin, RowAt, Table, WeightsOf, CentreOf};
+ghost use Rattle.geometry.specs.Asked.{CentreWithin, RowAt, Table, WeightsOf, IsCentre};
 ghost use Rattle.moves.specs.Given.{Paired, shiftCentre};
 use crate::Pair;
 use crate::select::farthest_row;
@@ -16,9 +16,9 @@ use figures::limits::ROWS;
 use figures::limits::TOTAL;
 use figures::limits::channels;
 
-// The far and the near row of the weights whose X is x, with g and d².
+// The far and the near row of the weights whose X is `centre`, with g and d².
 pub fn pair_of(rows: &[i32], m: usize, n: usize, weights: &[u32], centre: &[i64; CHANNELS]) -> Pair
-    requires { ⌜ Table (now rows) m n × (WeightsOf m (now weights) × CentreOf (now rows) m n (now weights) (now centre)) ⌝ }
+    requires { ⌜ Table (now rows) m n × (WeightsOf m (now weights) × IsCentre (now rows) m n (now weights) (now centre)) ⌝ }
     ensures { λ r. ⌜ Paired (now (rows .entry)) m n (now (weights .entry)) r ⌝ }
 {
     let far = farthest_row(rows, m, n, centre);

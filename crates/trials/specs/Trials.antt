@@ -43,11 +43,11 @@ whole : ℕ → ℕ → Drawing → List ℤ
 whole m n r = outline r ++ take n (r .ball .«scaled_centre») ++ numbers (take m (r .weights))
 
 -- g, and t, of one channel's rows under some weights
-gain : List ℤ → List ℕ → ℕ
-gain rows ws = difference total (length rows) 1 (coordinate rows 1) (weightOf ws)
+differenceUnder : List ℤ → List ℕ → ℕ
+differenceUnder rows ws = difference total (length rows) 1 (coordinate rows 1) (weightOf ws)
 
-shift : List ℤ → List ℕ → ℕ
-shift rows ws = transfer total (length rows) 1 (coordinate rows 1) (weightOf ws)
+transferUnder : List ℤ → List ℕ → ℕ
+transferUnder rows ws = transfer total (length rows) 1 (coordinate rows 1) (weightOf ws)
 
 right-triangle : List ℤ
 right-triangle = numbers (0 ∷ 0 ∷ 6 ∷ 0 ∷ 0 ∷ 8 ∷ [])
@@ -57,7 +57,7 @@ trials =
     -- Rows 0, 10: one move, t = 32,768, M = L = 107,374,182,400
     record {
       computed =
-          numbers (shift (numbers (0 ∷ 10 ∷ [])) (65536 ∷ 0 ∷ []) ∷ []) ++ outline (draw 1 (numbers (0 ∷ 10 ∷ [])) 2 10000);
+          numbers (transferUnder (numbers (0 ∷ 10 ∷ [])) (65536 ∷ 0 ∷ []) ∷ []) ++ outline (draw 1 (numbers (0 ∷ 10 ∷ [])) 2 10000);
       stated = numbers (32768 ∷ 1 ∷ 107374182400 ∷ 107374182400 ∷ 1 ∷ []);
     }
     -- Rows 0, 1: M = 1,073,741,824, gap 0
@@ -85,16 +85,16 @@ trials =
     }
     -- Rows 0, 10, weights 32,767 and 32,769: g = 200, t = 1
     ∷ record {
-      computed = numbers (gain (numbers (0 ∷ 10 ∷ [])) (32767 ∷ 32769 ∷ []) ∷ shift (numbers (0 ∷ 10 ∷ [])) (32767 ∷ 32769 ∷ []) ∷ []);
+      computed = numbers (differenceUnder (numbers (0 ∷ 10 ∷ [])) (32767 ∷ 32769 ∷ []) ∷ transferUnder (numbers (0 ∷ 10 ∷ [])) (32767 ∷ 32769 ∷ []) ∷ []);
       stated = numbers (200 ∷ 1 ∷ []);
     }
     -- Rows 0, 1, 2, weights 32,768, 1, 32,767: g = 65,538, t held to 1
     ∷ record {
-      computed = numbers (gain (numbers (0 ∷ 1 ∷ 2 ∷ [])) (32768 ∷ 1 ∷ 32767 ∷ []) ∷ shift (numbers (0 ∷ 1 ∷ 2 ∷ [])) (32768 ∷ 1 ∷ 32767 ∷ []) ∷ []);
+      computed = numbers (differenceUnder (numbers (0 ∷ 1 ∷ 2 ∷ [])) (32768 ∷ 1 ∷ 32767 ∷ []) ∷ transferUnder (numbers (0 ∷ 1 ∷ 2 ∷ [])) (32768 ∷ 1 ∷ 32767 ∷ []) ∷ []);
       stated = numbers (65538 ∷ 1 ∷ []);
     }
     ∷ []
 
 pub trials-agree : map (λ (t : Trial). t .computed) trials ≡ map (λ (t : Trial). t .stated) trials
-unfolding trials numbers flag draw outline whole gain shift right-triangle sumℤ sumℕ square squaredLength squaredDistance scaledCentre scaledSquaredDistance largest scaledSquaredRadius weightedSquaredLength scaledLowerBound farthest replaces nearest scaledSquaredDistanceOf farRow nearRow difference separation settled transfer moveWeight moved coordinate coordinatesWithin rowsWithin tabulate centreList ballOf run start runFrom drawing
+unfolding trials numbers flag draw outline whole differenceUnder transferUnder right-triangle sumℤ sumℕ square squaredLength squaredDistance scaledCentre scaledSquaredDistance largest scaledSquaredRadius weightedSquaredLength scaledLowerBound farthest replaces nearest scaledSquaredDistanceOf farRow nearRow difference separation settled transfer moveWeight moved coordinate coordinatesWithin rowsWithin tabulate centreList ballOf run start runFrom drawing
 trials-agree = refl

@@ -13,6 +13,8 @@ pub struct Tally {
     pub draws: u64,
     pub checks: u64,
     pub moves: u64,
+    /// The most moves of one drawing.
+    pub most_moves: u32,
     pub solved_rivals: Tried,
     pub other_rivals: Tried,
     /// Settled drawings with M above 0.
@@ -48,6 +50,7 @@ impl Tally {
             Case::Check(..) => self.checks += 1,
         }
         self.moves += u64::from(answer.moves);
+        self.most_moves = self.most_moves.max(answer.moves);
         let outcome = match (answer.number, answer.settled) {
             (0, true) => "Settled".to_string(),
             (0, false) => unsettled.to_string(),
@@ -82,7 +85,10 @@ impl Tally {
         );
         println!("draws compared: {}", self.draws);
         println!("checks compared: {}", self.checks);
-        println!("moves in all: {}", self.moves);
+        println!(
+            "moves in all: {}, most of one drawing: {}",
+            self.moves, self.most_moves
+        );
         let rivals = [
             ("the other solver", self.solved_rivals),
             ("elsewhere", self.other_rivals),

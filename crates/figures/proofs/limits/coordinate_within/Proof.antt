@@ -30,12 +30,12 @@ sub-if1 : tie.Need-sub-if1
 sub-if1 c = search needs
 
 returns : tie.Need-returns
-returns c = low (c .before .args .z) (subst (λ x. ltZ x (negℤ (pos coordinateLimit)) ≡ true) (toZ-ofZ (c .before .fits .z)) (c .if1 .taken))
+returns c = low (c .before .args .coordinate) (subst (λ x. ltZ x (negℤ (pos coordinateLimit)) ≡ true) (toZ-ofZ (c .before .fits .coordinate)) (c .if1 .taken))
 
 returns-2 : tie.Need-returns-2
 returns-2 c =
-    let z = c .before .args .z in
-    let e = toZ-ofZ (c .before .fits .z) in
+    let z = c .before .args .coordinate in
+    let e = toZ-ofZ (c .before .fits .coordinate) in
     subst (λ x. leZ x (pos coordinateLimit) ≡ leb (natAbs z) coordinateLimit) (sym e)
     (other z (subst (λ x. ltZ x (negℤ (pos coordinateLimit)) ≡ false) e (c .if1 .left)))
 

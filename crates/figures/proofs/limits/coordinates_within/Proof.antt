@@ -47,11 +47,11 @@ loop-holds : tie.Need-loop-holds Inv-loop μ-loop
 unfolding coordinatesWithin
 loop-holds c = (omega arith, refl)
 
-mul-z : tie.Need-mul-z Inv-loop μ-loop
-mul-z c = omega arith
+mul-coordinate : tie.Need-mul-coordinate Inv-loop μ-loop
+mul-coordinate c = omega arith
 
-shared-slice-copy-out-z : tie.Need-shared-slice-copy-out-z Inv-loop μ-loop
-shared-slice-copy-out-z c = omega arith
+shared-slice-copy-out-coordinate : tie.Need-shared-slice-copy-out-coordinate Inv-loop μ-loop
+shared-slice-copy-out-coordinate c = omega arith
 
 coordinate-within-requires : tie.Need-coordinate-within-requires Inv-loop μ-loop
 coordinate-within-requires c κs = tt
@@ -61,7 +61,7 @@ test : (c : tie.After-coordinate-within Inv-loop μ-loop)
     → fine (c .before .before .before .before .args .rows .now) (c .before .before .before .loop .i) ≡ c .coordinate-within .result
 test c =
     let z = getD (c .before .before .before .before .args .rows .now) (c .before .before .before .loop .i) (pos 0) in
-    ap (λ x. leb (natAbs x) coordinateLimit) (sym (toZ-ofZ (sfits-of {w = w32} {z = z} (c .before .z .given)))) ∙ sym (c .coordinate-within .ensures)
+    ap (λ x. leb (natAbs x) coordinateLimit) (sym (toZ-ofZ (sfits-of {w = w32} {z = z} (c .before .coordinate .given)))) ∙ sym (c .coordinate-within .ensures)
 
 returns : tie.Need-returns Inv-loop μ-loop
 returns c =
@@ -92,8 +92,8 @@ coordinates-within-spec =
     Inv-loop
     μ-loop
     loop-holds
-    mul-z
-    shared-slice-copy-out-z
+    mul-coordinate
+    shared-slice-copy-out-coordinate
     coordinate-within-requires
     returns
     add-i
