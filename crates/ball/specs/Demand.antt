@@ -29,7 +29,8 @@ use Rattle.geometry.specs.Move.{settled, moved, weightOf}
 use Rattle.geometry.specs.Limits.{total, rowLimit, channelLimit, coordinateLimit, centreLimit, budgetLimit, coordinate, rowsWithin}
 use Rattle.geometry.specs.Places.{centreList, centreOf, weightsTotal}
 use Rattle.geometry.specs.PlacesLaws.{centreList-at, centreList-most}
-use Rattle.geometry.specs.TableLaws.{both, within-limits}
+use Rattle.integers.specs.Tests.{both}
+use Rattle.geometry.specs.TableLaws.{within-limits}
 use Rattle.geometry.specs.FigureLaws.{squaredLength-cong, distance-centreList, centre-most}
 use Rattle.geometry.specs.MoveLaws.{moved-length, moved-total, lower-bound-rises, rise-some}
 use Rattle.geometry.specs.Demand.{rival, holds-every-row, reaches-some-row, floor-below-ball, settled-gap, ball-most}

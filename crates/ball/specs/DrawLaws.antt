@@ -30,7 +30,7 @@ use Rattle.refusal.specs.declared.Outcome.the-variants.{Accepted}
 use Rattle.geometry.specs.Move.{difference, separation, settled, moved, weightOf}
 use Rattle.geometry.specs.Limits.{budgetLimit, coordinate, rowsWithin}
 use Rattle.geometry.specs.Places.{weightsTotal}
-use Rattle.geometry.specs.TableLaws.{both}
+use Rattle.integers.specs.Tests.{both}
 use Rattle.ball.specs.Ball.{ballOf}
 use Rattle.ball.specs.Draw.{Run, run, start, runFrom, drawn, notDrawn, drawing}
 use Rattle.ball.specs.Check.{notChecked, checking}

@@ -6,6 +6,12 @@ ghost use lib.ListN.{length, take};
 use ball::Ball;
 use ball::Checked;
 use ball::Drawing;
+use case_io::byte_at;
+use case_io::four_bytes;
+use case_io::least;
+use case_io::print_number;
+use case_io::raised;
+use case_io::two_bytes;
 use figures::limits::CHANNELS;
 use figures::limits::ROWS;
 use libc::STDIN_FILENO;
@@ -22,24 +28,6 @@ const WEIGHTS: usize = 512;
 // The limit on X.
 const CENTRE_MOST: i64 = 262_144_000;
 
-fn byte_at(text: &[u8], at: usize) -> u8 {
-    if at < text.len() { text[at] } else { 0 }
-}
-
-// A number of two bytes, the lowest first.
-fn two_bytes(text: &[u8], at: usize) -> u32
-    requires { ⌜ at < 1000000 ⌝ }
-    ensures { λ r. ⌜ r < 65536 ⌝ }
-{
-    byte_at(text, at) as u32 + 256 * (byte_at(text, at + 1) as u32)
-}
-
-fn four_bytes(text: &[u8], at: usize) -> u32
-    requires { ⌜ at < 900000 ⌝ }
-{
-    two_bytes(text, at) + 65536 * two_bytes(text, at + 2)
-}
-
 // The signed number that two bytes hold.
 fn signed(bits: u32) -> i32
     requires { ⌜ bits < 65536 ⌝ }
@@ -49,12 +37,6 @@ fn signed(bits: u32) -> i32
     } else {
         -((65536 - bits) as i32)
     }
-}
-
-fn least(a: usize, b: usize) -> usize
-    ensures { λ r. ⌜ (r ≤ a) × (r ≤ b) ⌝ }
-{
-    if a < b { a } else { b }
 }
 
 // Reads the places that a case lends as rows, and answers how many.
@@ -89,19 +71,6 @@ fn read_weights(text: &[u8], at: usize, count: usize, weights: &mut [u32]) -> us
     end
 }
 
-// A coordinate of X with its limit added; 0 for one outside the limit, which no call hands out.
-fn lifted(x: i64) -> u64
-    ensures { λ r. ⌜ r < 4294967296 ⌝ }
-{
-    if x < -CENTRE_MOST {
-        return 0;
-    }
-    if CENTRE_MOST < x {
-        return 0;
-    }
-    (x + CENTRE_MOST) as u64
-}
-
 // The sum of place times (X there + limit), as the sum of the sums from each place on.
 fn centre_digest(centre: [i64; CHANNELS]) -> u64 {
     let mut sum: u64 = 0;
@@ -109,7 +78,7 @@ fn centre_digest(centre: [i64; CHANNELS]) -> u64 {
     let mut k = CHANNELS;
     while 0 < k {
         k -= 1;
-        tail += lifted(centre[k]);
+        tail += raised(centre[k], CENTRE_MOST);
         sum += tail;
     }
     sum
@@ -132,11 +101,6 @@ fn weights_digest(weights: [u32; ROWS]) -> u64 {
         sum += tail;
     }
     sum
-}
-
-fn print_number(number: u64, end: u8) {
-    io::print_decimal(STDOUT_FILENO, number);
-    io::write_all(STDOUT_FILENO, &[end]);
 }
 
 // The line of a case.

@@ -15,6 +15,9 @@ pub const ROWS: usize = 256;
 // the most channels
 pub const CHANNELS: usize = 8;
 
+// the most places of a table
+pub const PLACES: usize = ROWS * CHANNELS;
+
 // how far a coordinate may be from 0
 pub const COORDINATE: i32 = 4000;
 

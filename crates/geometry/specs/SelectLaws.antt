@@ -24,7 +24,7 @@ use borrow.Author.Tests.{ltb-true, ltb-false, lt-ltb, le-ltb, ne-eqb, eqb-false}
 use lib.Dec.{ltb, eqb}
 use Rattle.geometry.specs.Select.{farthest, replaces, nearest}
 use Rattle.geometry.specs.Figures.{largest}
-use Rattle.geometry.specs.TableLaws.{both}
+use Rattle.integers.specs.Tests.{clash, both}
 
 pub record Strict {A : Type 0} (less : A → A → Bool) : Type 0 where
   pub one-way : (x y : A) → less x y ≡ true → less y x ≡ false
@@ -38,9 +38,6 @@ ltb-strict =
     }
 
 -- ---- tests
-
-clash : {P : Type 0} {b : Bool} → b ≡ true → b ≡ false → P
-clash h k = let z : _≡_ {A = ℕ} 0 1 = cc in absurd (omega arith)
 
 -- a test is false if it cannot be true, and true if it cannot be false
 refuted : (b : Bool) → (b ≡ true → ⊥) → b ≡ false

@@ -1,5 +1,4 @@
 -- Laws of what the functions ask of their arguments.
---     both                            both parts of a test that holds
 --     coordinatesWithin-at            the test of the coordinates at each place
 --     row-end                         a row's places end within the table
 --     within-limits, within-table     the test of the limits, as the record
@@ -8,9 +7,9 @@
 --     weights-passed, weights-next    the weights of the first rows are within the total
 --     row-held, centre-held           an element of a row and of X, as a callee is passed it
 use Prim.Native.Nat.{ℕ, zero, suc, _+_, _*_, _≤_, _<_}
-use mathlib.Core.Path.{_≡_, refl}
+use mathlib.Core.Path.{_≡_}
 use mathlib.Core.Logic.{_⊎_, inl, inr}
-use mathlib.Core.Bool.{Bool, true, false, _&&_}
+use mathlib.Core.Bool.{Bool, true, _&&_}
 use mathlib.Core.List.{List}
 use native.Mathlib.Omega.{arith}
 use native.Mathlib.Nat.{mul-le-mul-right, suc-mul}
@@ -19,6 +18,7 @@ use lib.Dec.{leb}
 use lib.IntN.{ℤ, pos, natAbs}
 use mir.Syntax.{w32, w64}
 use lib.ListN.{length, getD}
+use Rattle.integers.specs.Tests.{both}
 use Rattle.integers.specs.Sum.{sumℕ}
 use Rattle.integers.specs.SumLaws.{last-or-below, sumℕ-term, sumℕ-next, sumℕ-part}
 use Rattle.integers.specs.Absolute.{fits32, fits64}
@@ -27,11 +27,6 @@ use Rattle.geometry.specs.Limits.{total, rowLimit, channelLimit, coordin
 use Rattle.geometry.specs.Move.{weightOf}
 use Rattle.geometry.specs.Places.{weightsTotal, centreOf}
 use Rattle.geometry.specs.Asked.{CentreWithin, RowAt, TableWithin, Table, WeightsOf}
-
--- both parts of a test that holds
-pub both : (a b : Bool) → (a && b) ≡ true → (a ≡ true) × (b ≡ true)
-both true b h = (refl, h)
-both false b h = absurd (let z : _≡_ {A = ℕ} 0 1 = cc in omega arith)
 
 pub coordinatesWithin-at : (c : ℕ) (rows : List ℤ) → coordinatesWithin c rows ≡ true → (j : ℕ) → j < c
     → natAbs (getD rows j (pos 0)) ≤ coordinateLimit

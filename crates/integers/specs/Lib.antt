@@ -1,4 +1,5 @@
 -- Whole numbers, in reading order: the definitions that other crates' definitions use, then their laws.
+pub mod Tests
 pub mod Sum
 pub mod Ring
 pub mod Solver

@@ -1,29 +1,26 @@
 -- What the proofs of the exported calls share.
---     Filling, filling-none, -next, -done              a lent slice as it is filled place by place
---     filled-refused                                   one that a refused call leaves
 --     as-number                                        a test in numbers
 --     drawing-zero, checking-zero                      only an accepted drawing or check has the number 0
 --     Export, draw-export, check-export                how a call's answer becomes one in numbers
 --     Known, answer-is, unwritten, written             what such a call answers and leaves in the lent slices
 --     draw-room, check-room                            the places of an accepted drawing and check
-use Prim.Native.Nat.{ℕ, zero, suc, _+_, _≤_, _<_, zero-le}
+use Prim.Native.Nat.{ℕ, suc, _≤_}
 use mathlib.Core.Path.{_≡_, refl, sym, ap, ap₂, _∙_}
 use mathlib.Core.Bool.{Bool, true, false, cond, _&&_}
-use mathlib.Core.List.{List, [], _∷_, _++_}
+use mathlib.Core.List.{List}
 use native.Mathlib.Omega.{arith}
-use native.Mathlib.Nat.{le-antisymm, le-of-suc-le-suc, not-suc-le-zero}
-use native.Mathlib.Numerals.{add-one}
 use borrow.Author.Tests.{leb-true}
 use lib.Dec.{leb, eqb}
 use lib.IntN.{ℤ}
-use lib.ListN.{length, getD, set, take, drop, length-set}
+use lib.ListN.{length}
 use mir.Val.{boolByte}
 use Rattle.refusal.specs.Outcome.{numberOf}
 use Rattle.refusal.specs.declared.Outcome.{Outcome}
 use Rattle.refusal.specs.declared.Outcome.the-variants.{Accepted, Refused}
 use Rattle.geometry.specs.Limits.{total, rowLimit, channelLimit, budgetLimit, rowsWithin}
 use Rattle.geometry.specs.Places.{weightsTotal}
-use Rattle.geometry.specs.TableLaws.{both, within-table}
+use Rattle.integers.specs.Tests.{both}
+use Rattle.geometry.specs.TableLaws.{within-table}
 use Rattle.ball.specs.Draw.{drawing}
 use Rattle.ball.specs.Check.{checking}
 use Rattle.ball.specs.DrawLaws.{each-answer}
@@ -32,47 +29,8 @@ use Rattle.ball.specs.declared.Drawing.{Drawing}
 use Rattle.ball.specs.declared.Checked.{Checked}
 use Rattle.library.specs.declared.DrawingAnswer.{DrawingAnswer}
 use Rattle.library.specs.declared.CheckAnswer.{CheckAnswer}
-use Rattle.library.specs.Export.{withRoom, drawingInNumbers, checkInNumbers, filled}
-
--- ---- lent slices
-
--- before turn i of a loop that copies count places: the first i are the source's, the others as they were lent
-pub record Filling {A : Type 0} (lent₀ source : List A) (count : ℕ) (lent : List A) (i : ℕ) : Type 0 where
-  pub within : i ≤ count
-  pub so-far : lent ≡ filled 0 i source lent₀
-  pub same-length : length lent ≡ length lent₀
-
-module _ {A : Type 0} (lent₀ source : List A) (count : ℕ) where
-  pub filling-none : Filling lent₀ source count lent₀ 0
-  unfolding filled
-  filling-none = record { within = zero-le; so-far = refl; same-length = refl }
-
-  next : (i : ℕ) (lent source : List A) (z : A) → i < length lent → i < length source
-      → set (take i source ++ drop i lent) i (getD source i z) ≡ take (suc i) source ++ drop (suc i) lent
-  next i [] source z h k = absurd (not-suc-le-zero h)
-  next i (x ∷ xs) [] z h k = absurd (not-suc-le-zero k)
-  next zero (x ∷ xs) (y ∷ ys) z h k = refl
-  next (suc i) (x ∷ xs) (y ∷ ys) z h k = ap (λ (l : List A). y ∷ l) (next i xs ys z (le-of-suc-le-suc h) (le-of-suc-le-suc k))
-
-  pub filling-next : (lent : List A) (i : ℕ) (v z : A) → (count ≤ length lent₀) × (count ≤ length source) → i < count
-      → Filling lent₀ source count lent i → v ≡ getD source i z → Filling lent₀ source count (set lent i v) (i + 1)
-  unfolding filled
-  filling-next lent i v z asked h f e =
-      record {
-        within = omega arith;
-        so-far =
-            ap₂ (λ l x. set l i x) (f .so-far) e ∙ next i lent₀ source z (omega arith) (omega arith)
-            ∙ ap (λ j. take j source ++ drop j lent₀) (sym (add-one i));
-        same-length = length-set lent i v ∙ f .same-length;
-      }
-
-  pub filling-done : (lent : List A) (i : ℕ) → count ≤ i → Filling lent₀ source count lent i → lent ≡ filled 0 count source lent₀
-  filling-done lent i h f = f .so-far ∙ ap (λ j. filled 0 j source lent₀) (le-antisymm (f .within) h)
-
-filled-refused : {A : Type 0} (number count : ℕ) (source lent : List A) → (number ≡ 0 → ⊥) → lent ≡ filled number count source lent
-unfolding filled
-filled-refused zero count source lent h = absurd (h refl)
-filled-refused (suc number) count source lent h = refl
+use Rattle.lists.specs.Filled.{filled, filled-refused}
+use Rattle.library.specs.Export.{withRoom, drawingInNumbers, checkInNumbers}
 
 -- ---- answers in numbers
 

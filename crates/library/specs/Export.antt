@@ -1,16 +1,13 @@
--- What the exported calls answer in numbers, and what a lent slice holds at the end.
+-- What the exported drawing and check answer in numbers.
 --     withRoom room o                    the outcome of a call that fills lent slices: 13, tested last, where they are too short
 --     figure o f                         a figure of an answer with the outcome o
 --     drawingInNumbers o d               a drawing in numbers, with the outcome o
 --     checkInNumbers o k                 a check in numbers, with the outcome o
 --     drawAnswer d m n c w               the answer to a drawing that is lent c places for X and w for the weights
 --     checkAnswer k n c                  the answer to a check that is lent c places for X
---     filled number count source lent    a lent slice after a call that answers with this number
-use Prim.Native.Nat.{ℕ, zero, suc}
+use Prim.Native.Nat.{ℕ}
 use mathlib.Core.Bool.{Bool, cond, _&&_}
-use mathlib.Core.List.{List, _++_}
 use lib.Dec.{leb}
-use lib.ListN.{take, drop}
 use Rattle.refusal.specs.Number.{buffer-short}
 use Rattle.refusal.specs.Outcome.{refused, numberOf, lineOf}
 use Rattle.refusal.specs.declared.Outcome.{Outcome}
@@ -58,8 +55,3 @@ drawAnswer d m n centrePlaces weightsPlaces =
 
 abbrev pub checkAnswer : Checked → ℕ → ℕ → CheckAnswer
 checkAnswer k n centrePlaces = checkInNumbers (withRoom (leb n centrePlaces) (k .outcome)) k
-
--- where accepted, the first places are the source's and the others as they were lent; else every place is
-unfoldable pub filled : {A : Type 0} → ℕ → ℕ → List A → List A → List A
-filled zero count source lent = take count source ++ drop count lent
-filled (suc number) count source lent = lent

@@ -1,2 +1,3 @@
--- What the exported calls answer, and what they leave in the lent places.
+-- What the exported calls answer: the ball, then the reference text.
 pub mod Export
+pub mod ReferenceText

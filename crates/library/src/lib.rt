@@ -1,5 +1,7 @@
-// The drawing and the check for C and Rust, on numbers, lent slices and small structs of numbers. X and the weights are
+// The calls for C and Rust, on numbers, lent slices and small structs of numbers. X and the weights are
 // written to slices of the caller's, so that these structs stay as they are where the row limit changes.
+pub mod reference_text;
+
 ghost use Prim.Native.Nat.{_≤_};
 ghost use mathlib.Core.Path.{_≡_};
 ghost use mathlib.Core.Bool.{_&&_};
@@ -8,7 +10,8 @@ ghost use lib.ListN.{length};
 ghost use Rattle.geometry.specs.Limits.{total, rowLimit};
 ghost use Rattle.ball.specs.Draw.{drawing};
 ghost use Rattle.ball.specs.Check.{checking};
-ghost use Rattle.library.specs.Export.{withRoom, drawingInNumbers, checkInNumbers, drawAnswer, checkAnswer, filled};
+ghost use Rattle.library.specs.Export.{withRoom, drawingInNumbers, checkInNumbers, drawAnswer, checkAnswer};
+ghost use Rattle.lists.specs.Filled.{filled};
 use ball::Checked;
 use ball::Drawing;
 use refusal::Outcome;

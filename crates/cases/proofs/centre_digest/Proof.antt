@@ -17,14 +17,14 @@ loop-holds c = omega arith
 sub-k : tie.Need-sub-k Inv-loop μ-loop
 sub-k c = omega arith
 
-mul-lifted : tie.Need-mul-lifted Inv-loop μ-loop
-mul-lifted c = omega arith
+mul-raised : tie.Need-mul-raised Inv-loop μ-loop
+mul-raised c = omega arith
 
-array-copy-out-lifted : tie.Need-array-copy-out-lifted Inv-loop μ-loop
-array-copy-out-lifted c = omega arith
+array-copy-out-raised : tie.Need-array-copy-out-raised Inv-loop μ-loop
+array-copy-out-raised c = omega arith
 
-lifted-requires : tie.Need-lifted-requires Inv-loop μ-loop
-lifted-requires c κs = tt
+raised-requires : tie.Need-raised-requires Inv-loop μ-loop
+raised-requires c κs = omega arith
 
 add-tail : tie.Need-add-tail Inv-loop μ-loop
 add-tail c = omega arith
@@ -49,9 +49,9 @@ centre-digest-spec =
     μ-loop
     loop-holds
     sub-k
-    mul-lifted
-    array-copy-out-lifted
-    lifted-requires
+    mul-raised
+    array-copy-out-raised
+    raised-requires
     add-tail
     add-sum
     loop-less

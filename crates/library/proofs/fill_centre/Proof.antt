@@ -3,7 +3,7 @@ use Prim.Native.Nat.{_-_}
 use native.Mathlib.Omega.{arith}
 use lib.IntN.{pos}
 use mir.Facts.{toZ-ofZ}
-use Rattle.library.proofs.Laws.{Filling, filling-none, filling-next, filling-done}
+use Rattle.lists.specs.Filled.{Filling, filling-none, filling-next, filling-done}
 use Rattle.library.proofs.fill_centre.Statement.{statement}
 use Rattle.library.proofs.fill_centre.Tie as tie
 

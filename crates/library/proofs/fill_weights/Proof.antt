@@ -2,7 +2,7 @@
 use Prim.Native.Nat.{_-_}
 use mathlib.Core.Path.{refl}
 use native.Mathlib.Omega.{arith}
-use Rattle.library.proofs.Laws.{Filling, filling-none, filling-next, filling-done}
+use Rattle.lists.specs.Filled.{Filling, filling-none, filling-next, filling-done}
 use Rattle.library.proofs.fill_weights.Statement.{statement}
 use Rattle.library.proofs.fill_weights.Tie as tie
 

@@ -1,0 +1,3 @@
+-- How the code reads a heading field by field, and what its answer says of the line.
+pub mod HeadingSteps
+pub mod Headed

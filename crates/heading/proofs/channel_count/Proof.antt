@@ -1,0 +1,63 @@
+-- What is kept of a number tells how many channels it states, and each way out gives that number.
+use mathlib.Core.Path.{_≡_, sym, ap, _∙_}
+use mathlib.Core.Bool.{Bool, false, cond}
+use native.Mathlib.Omega.{arith}
+use borrow.Author.Needs.{needs}
+use borrow.Author.Tests.{le-leb, lt-leb}
+use lib.Dec.{lit<}
+use denote.Ref.{now}
+use Rattle.geometry.specs.Limits.{channelLimit}
+use Rattle.text.specs.declared.number.Plain.the-variants as written
+use Rattle.heading.specs.Heading.{channelCount}
+use Rattle.heading.proofs.HeadingSteps.{counted, counted-read}
+use Rattle.heading.proofs.channel_count.Statement.{statement}
+use Rattle.heading.proofs.channel_count.Tie as tie
+
+plain-number-requires : tie.Need-plain-number-requires
+plain-number-requires c κs = search needs
+
+enum-told : tie.Need-enum-told
+enum-told c = search needs
+
+enum-known-number : tie.Need-enum-known-number
+enum-known-number c = search needs
+
+told : (c : tie.After-plain-number) → counted channelLimit (c .plain-number .result) ≡ channelCount channelLimit (now (c .before .before .args .field))
+told c = ap (counted channelLimit) (c .plain-number .ensures) ∙ counted-read channelLimit (now (c .before .before .args .field)) (lit< tt)
+
+-- the number of a field that is one, by its sign
+signed : (c : tie.After-number) (negative : Bool) → c .number .given .0 .0 ≡ negative
+    → counted channelLimit (written.Number negative (c .number .given .0 .1 .0)) ≡ channelCount channelLimit (now (c .before .before .before .before .args .field))
+signed c negative h =
+    ap (λ t. counted channelLimit (written.Number t (c .number .given .0 .1 .0))) (sym h)
+    ∙ ap (counted channelLimit) (sym (c .number .given .1)) ∙ told (c .before .before)
+
+returns : tie.Need-returns
+returns c = signed (c .before .before) _ (c .if1 .taken)
+
+returns-2 : tie.Need-returns-2
+returns-2 c =
+    let at-number = c .before .before .before in
+    let magnitude = at-number .number .given .0 .1 .0 in
+    sym (ap (λ t. cond t magnitude 0) (lt-leb magnitude channelLimit (omega arith))) ∙ signed at-number false (c .before .if1 .left)
+
+returns-3 : tie.Need-returns-3
+returns-3 c = ap (counted channelLimit) (sym (c .enum-told .given .1)) ∙ told (c .before .before)
+
+returns-4 : tie.Need-returns-4
+returns-4 c =
+    let at-number = c .before .before .before in
+    let magnitude = at-number .number .given .0 .1 .0 in
+    sym (ap (λ t. cond t magnitude 0) (le-leb magnitude channelLimit (omega arith))) ∙ signed at-number false (c .before .if1 .left)
+
+pub channel-count-spec : {M : Type 1} → statement M
+channel-count-spec =
+    tie.close
+    (tie.spec
+    plain-number-requires
+    enum-told
+    enum-known-number
+    returns
+    returns-2
+    returns-3
+    returns-4)

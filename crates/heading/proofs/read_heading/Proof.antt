@@ -1,0 +1,138 @@
+-- The line is its first field, its second and the others, and each way out is what the definition says of them.
+use Prim.Native.Nat.{_+_, _-_}
+use mathlib.Core.Path.{_≡_, sym, ap, _∙_}
+use mathlib.Core.List.{_∷_}
+use borrow.Author.Needs.{needs}
+use borrow.Author.Tests.{not-true, not-false}
+use lib.ListN.{take, drop}
+use lib.Seq.{length-take-le}
+use denote.Ref.{now}
+use Rattle.geometry.specs.Limits.{channelLimit}
+use Rattle.text.specs.Parts.{comma, cut, partsFrom}
+use Rattle.text.specs.PartsLaws.{parts-none, parts-from, first-part-from}
+use Rattle.channel.specs.Channel.{channelTypes}
+use Rattle.heading.specs.Answers.{headingRead, tagsRead}
+use Rattle.heading.proofs.HeadingSteps.{count-most, heading-other-word, heading-short, heading-no-count, heading-tags}
+use Rattle.heading.proofs.read_heading.Statement.{statement}
+use Rattle.heading.proofs.read_heading.Tie as tie
+
+field-end-requires : tie.Need-field-end-requires
+field-end-requires c κs = search needs
+
+slice-aggregate-same-bytes : tie.Need-slice-aggregate-same-bytes
+slice-aggregate-same-bytes c = sym (length-take-le _ _ (c .before .field-end .ensures .high))
+
+same-bytes-requires : tie.Need-same-bytes-requires
+same-bytes-requires c κs = search needs
+
+no-heading-requires : tie.Need-no-heading-requires
+no-heading-requires c κs = search needs
+
+first : (c : tie.After-field-end)
+    → let line = now (c .before .before .before .args .line) in
+    let end = c .field-end .result in
+    cut comma line ≡ take end line ∷ partsFrom comma line (end + 1)
+first c = first-part-from comma (now (c .before .before .before .args .line)) (c .field-end .result) (c .field-end .ensures)
+
+returns : tie.Need-returns
+returns c =
+    let at-same = c .before .before in
+    let at-end = at-same .before .before in
+    c .no-heading .ensures
+    ∙ sym (ap headingRead (heading-other-word (now (at-end .before .before .before .args .word)) channelLimit channelTypes _ (first at-end)
+    (sym (at-same .same-bytes .ensures) ∙ not-true _ (c .before .if1 .taken))))
+
+add-at : tie.Need-add-at
+add-at c = search needs
+
+no-heading-requires-2 : tie.Need-no-heading-requires-2
+no-heading-requires-2 c κs = search needs
+
+returns-2 : tie.Need-returns-2
+returns-2 c =
+    let at-end = c .before .before .before .before .before in
+    let line = now (at-end .before .before .before .args .line) in
+    let end = at-end .field-end .result in
+    c .no-heading2 .ensures
+    ∙ sym (ap headingRead (heading-short (now (at-end .before .before .before .args .word)) channelLimit channelTypes _
+    (first at-end ∙ ap (λ l. take end line ∷ l) (parts-none comma line (end + 1) (c .before .if2 .taken)))))
+
+field-end-requires-2 : tie.Need-field-end-requires-2
+field-end-requires-2 c κs = search needs
+
+sub-channel-count : tie.Need-sub-channel-count
+sub-channel-count c = search needs
+
+part-channel-count-start : tie.Need-part-channel-count-start
+part-channel-count-start c = search needs
+
+part-channel-count-end : tie.Need-part-channel-count-end
+part-channel-count-end c = search needs
+
+channel-count-requires : tie.Need-channel-count-requires
+channel-count-requires c κs = search needs
+
+no-heading-requires-3 : tie.Need-no-heading-requires-3
+no-heading-requires-3 c κs = search needs
+
+fields : (c : tie.After-field-end2)
+    → let at-end = c .before .before .before .before .before in
+    let line = now (at-end .before .before .before .args .line) in
+    let at = at-end .field-end .result + 1 in
+    let end = c .field-end2 .result in
+    cut comma line ≡ take (at-end .field-end .result) line ∷ take (end - at) (drop at line) ∷ partsFrom comma line (end + 1)
+fields c =
+    let at-end = c .before .before .before .before .before in
+    let line = now (at-end .before .before .before .args .line) in
+    first at-end
+    ∙ ap (λ l. take (at-end .field-end .result) line ∷ l)
+    (parts-from comma line (at-end .field-end .result + 1) (c .field-end2 .result) (c .before .if2 .left) (c .field-end2 .ensures))
+
+returns-3 : tie.Need-returns-3
+returns-3 c =
+    let at-count = c .before .before in
+    let at-second = at-count .before .before in
+    c .no-heading3 .ensures
+    ∙ sym (ap headingRead (heading-no-count (now (at-second .before .before .before .before .before .before .before .before .args .word)) channelLimit channelTypes _ (fields at-second)
+    (sym (at-count .channel-count .ensures) ∙ c .before .if3 .taken)))
+
+add-read-tags : tie.Need-add-read-tags
+add-read-tags c = search needs
+
+read-tags-requires : tie.Need-read-tags-requires
+read-tags-requires c κs = rw (c .before .channel-count .ensures) (count-most channelLimit _)
+
+returns-4 : tie.Need-returns-4
+returns-4 c =
+    let at-count = c .before .before in
+    let at-second = at-count .before .before in
+    let at-same = at-second .before .before .before in
+    let line = now (at-same .before .before .before .before .before .args .line) in
+    c .read-tags .ensures
+    ∙ ap (λ n. tagsRead channelTypes n (partsFrom comma line (at-second .field-end2 .result + 1))) (at-count .channel-count .ensures)
+    ∙ sym (heading-tags (now (at-same .before .before .before .before .before .args .word)) channelLimit channelTypes _ (fields at-second)
+    (sym (at-same .same-bytes .ensures) ∙ not-false _ (at-second .before .before .if1 .left))
+    (λ z. c .before .if3 .left (at-count .channel-count .ensures ∙ z)))
+
+pub read-heading-spec : {M : Type 1} → statement M
+read-heading-spec =
+    tie.close
+    (tie.spec
+    field-end-requires
+    slice-aggregate-same-bytes
+    same-bytes-requires
+    no-heading-requires
+    returns
+    add-at
+    no-heading-requires-2
+    returns-2
+    field-end-requires-2
+    sub-channel-count
+    part-channel-count-start
+    part-channel-count-end
+    channel-count-requires
+    no-heading-requires-3
+    returns-3
+    add-read-tags
+    read-tags-requires
+    returns-4)

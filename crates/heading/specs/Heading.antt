@@ -1,0 +1,59 @@
+-- Document 01, "Texts": the heading of a reference text or a record, a word, n and n tags, for any word, table of types and limit
+-- on n: read, printed, and what may stand in it.
+--     channelCount limit field         the number of channels that the field states, 0 where it states none from 1 to the limit
+--     codesOf types tags               the codes of the tags, if each is known
+--     headingFields word .. fields     the codes of a heading with these fields, if they are those of one
+--     headingOf word limit types line  the codes of a heading, if the line is one
+--     tagOf types code                 the tag of a code
+--     printHeading word types codes    the line of a heading
+--     CodesWithin limit types codes    the codes that a heading may state
+use Prim.Native.Nat.{ℕ, zero, suc, _≤_, _<_}
+use mathlib.Core.Path.{_≡_}
+use mathlib.Core.Bool.{true, cond, _&&_}
+use mathlib.Core.List.{List, [], _∷_, map}
+use mathlib.Core.Option.{Option, none, some, Option·map}
+use lib.Dec.{eqb, leb}
+use lib.IntN.{ℤ, pos, negsuc}
+use lib.ListN.{length, getD}
+use Rattle.text.specs.Parts.{comma, cut, join, same}
+use Rattle.text.specs.Number.{plain, print}
+use Rattle.channel.specs.Channel.{ChannelType, codeOf, typeOf, known}
+
+abbrev pub countWithin : ℕ → Option ℤ → ℕ
+countWithin limit none = 0
+countWithin limit (some (pos n)) = cond (leb n limit) n 0
+countWithin limit (some (negsuc k)) = 0
+
+unfoldable pub channelCount : ℕ → List ℕ → ℕ
+channelCount limit field = countWithin limit (plain field)
+
+-- no type has the code 0
+abbrev pub andCode : ℕ → Option (List ℕ) → Option (List ℕ)
+andCode zero codes = none
+andCode (suc k) codes = Option·map (λ (l : List ℕ). suc k ∷ l) codes
+
+unfoldable pub codesOf : List ChannelType → List (List ℕ) → Option (List ℕ)
+codesOf types [] = some []
+codesOf types (tag ∷ tags) = andCode (codeOf types tag) (codesOf types tags)
+
+-- the fields of a heading: the word, n, and as many tags, n being 1 or more
+unfoldable pub headingFields : List ℕ → ℕ → List ChannelType → List (List ℕ) → Option (List ℕ)
+headingFields word limit types [] = none
+headingFields word limit types (first ∷ []) = none
+headingFields word limit types (first ∷ count ∷ tags) =
+    cond (same first word && (leb 1 (channelCount limit count) && eqb (channelCount limit count) (length tags)))
+    (codesOf types tags) none
+
+unfoldable pub headingOf : List ℕ → ℕ → List ChannelType → List ℕ → Option (List ℕ)
+headingOf word limit types line = headingFields word limit types (cut comma line)
+
+abbrev pub tagOf : List ChannelType → ℕ → List ℕ
+tagOf types code = typeOf types code .tag
+
+unfoldable pub printHeading : List ℕ → List ChannelType → List ℕ → List ℕ
+printHeading word types codes = join comma (word ∷ print (pos (length codes)) ∷ map (tagOf types) codes)
+
+pub record CodesWithin (limit : ℕ) (types : List ChannelType) (codes : List ℕ) : Type 0 where
+  pub some-channel : 1 ≤ length codes
+  pub channels : length codes ≤ limit
+  pub each-known : (k : ℕ) → k < length codes → known types (getD codes k 0) ≡ true

@@ -1,0 +1,2 @@
+-- How the code reads a whole text.
+pub mod ReadSteps

@@ -1,0 +1,279 @@
+-- Laws of the parts between separators.
+--     same-refl, same-eq, same-ne      `same` is equality
+--     same-lengths                     lists of two lengths differ
+--     same-on, same-off, same-done     the bytes from an index on, by the two that stand there, and at the end
+--     cut-some                         there is a first part
+--     join-cut, cut-join               cutting and joining undo one another
+--     cut-free                         no part has a separator
+--     cut-keeps-free, join-free        a byte that stands nowhere still stands nowhere after cutting, and after joining by another byte
+--     free-append                      a byte stands in neither of two lists
+--     parts-whole, parts-none          the parts from 0 are those of the text; past the end there are none
+--     parts-some                       within the text there is one
+--     parts-from                       the first part from an index is up to its end, the others are those from the index after it
+--     index-most, index-append         the first c is within the list or at its end; what follows the list does not move it
+--     end-found                        what a search for c from an index on finds is where the part ends
+--     end-of-first                     a part with one after it ends at its separator, whatever follows the list
+--     first-part                       a list starts with its first part
+--     first-part-from                  a text is its first part and the parts from past its end
+use Prim.Native.Nat.{ℕ, suc, _+_, _-_, _≤_, _<_, zero-le}
+use mathlib.Core.Path.{_≡_, refl, sym, ap, ap₂, _∙_}
+use mathlib.Core.Bool.{Bool, true, false, not, cond, _&&_, and-assoc}
+use mathlib.Core.List.{List, [], _∷_, _++_}
+use native.Mathlib.Numerals.{add-one}
+use native.Mathlib.Omega.{arith}
+use borrow.Author.Tests.{eqb-true, eq-eqb, ne-eqb, le-leb, lt-leb, leb-false, leb-true, not-true}
+use lib.Dec.{eqb, leb}
+use lib.ListN.{length, getD, take, drop, length-take, drop-of-length-le}
+use lib.Seq.{drop-cons, drop-drop, take-length}
+use Rattle.bytes.specs.Bytes.{indexOf, indexAfter, slice}
+use Rattle.integers.specs.Tests.{both, clash}
+use Rattle.text.specs.Parts.{same, extend, cut, join, free, allFree, partEnd, PartEnd, partsFrom}
+
+-- ---- the same bytes
+
+pub same-refl : (l : List ℕ) → same l l ≡ true
+unfolding same
+same-refl [] = refl
+same-refl (b ∷ l) = ap₂ _&&_ (eq-eqb b b refl) (same-refl l)
+
+pub same-eq : (a b : List ℕ) → same a b ≡ true → a ≡ b
+unfolding same
+same-eq [] [] h = refl
+same-eq [] (b ∷ l) h = clash h refl
+same-eq (a ∷ k) [] h = clash h refl
+same-eq (a ∷ k) (b ∷ l) h =
+    let t = both (eqb a b) (same k l) h in
+    ap₂ _∷_ (eqb-true a b (t .0)) (same-eq k l (t .1))
+
+pub same-ne : (a b : List ℕ) → same a b ≡ false → a ≡ b → ⊥
+same-ne a b h e = clash (ap (same a) (sym e) ∙ same-refl a) h
+
+refuted : (t : Bool) → (t ≡ true → ⊥) → t ≡ false
+refuted true h = absurd (h refl)
+refuted false h = refl
+
+pub same-lengths : (a b : List ℕ) → (length a ≡ length b → ⊥) → same a b ≡ false
+same-lengths a b h = refuted (same a b) (λ t. h (ap length (same-eq a b t)))
+
+module _ (a b : List ℕ) (i : ℕ) (lengths : length a ≡ length b) where
+  same-next : i < length a → same (drop i a) (drop i b) ≡ (eqb (getD a i 0) (getD b i 0) && same (drop (i + 1) a) (drop (i + 1) b))
+  unfolding same
+  same-next h =
+      ap₂ same (drop-cons a i 0 h) (drop-cons b i 0 (omega arith))
+      ∙ ap (λ j. eqb (getD a i 0) (getD b i 0) && same (drop j a) (drop j b)) (sym (add-one i))
+
+  pub same-on : i < length a → getD a i 0 ≡ getD b i 0 → same (drop i a) (drop i b) ≡ same (drop (i + 1) a) (drop (i + 1) b)
+  same-on h e = same-next h ∙ ap (λ t. t && same (drop (i + 1) a) (drop (i + 1) b)) (eq-eqb (getD a i 0) (getD b i 0) e)
+
+  pub same-off : i < length a → (getD a i 0 ≡ getD b i 0 → ⊥) → same (drop i a) (drop i b) ≡ false
+  same-off h n = same-next h ∙ ap (λ t. t && same (drop (i + 1) a) (drop (i + 1) b)) (ne-eqb (getD a i 0) (getD b i 0) n)
+
+  pub same-done : length a ≤ i → same (drop i a) (drop i b) ≡ true
+  unfolding same
+  same-done h = ap₂ same (drop-of-length-le a h) (drop-of-length-le b {i = i} (omega arith))
+
+-- ---- cutting
+
+-- the parts after the separator that a list starts with
+rest : ℕ → List ℕ → List (List ℕ)
+rest c [] = []
+rest c (b ∷ l) = cut c l
+
+cut-first : (c : ℕ) (l : List ℕ) → cut c l ≡ take (indexOf c l) l ∷ rest c (drop (indexOf c l) l)
+unfolding cut rest indexOf
+cut-first c [] = refl
+cut-first c (b ∷ l) = go (eqb b c) (cut-first c l)
+  where
+    go : (t : Bool) → cut c l ≡ take (indexOf c l) l ∷ rest c (drop (indexOf c l) l)
+        → cond t ([] ∷ cut c l) (extend b (cut c l))
+        ≡ take (indexAfter t (indexOf c l)) (b ∷ l) ∷ rest c (drop (indexAfter t (indexOf c l)) (b ∷ l))
+    go true e = refl
+    go false e = ap (extend b) e
+
+pub cut-some : (c : ℕ) (l : List ℕ) → (p : List ℕ) × (ps : List (List ℕ)) × (cut c l ≡ p ∷ ps)
+cut-some c l = (take (indexOf c l) l, rest c (drop (indexOf c l) l), cut-first c l)
+
+-- a byte in front of the first part is in front of the parts joined
+join-extend : (c b : ℕ) (part : List ℕ) (ps : List (List ℕ)) → join c (extend b (part ∷ ps)) ≡ b ∷ join c (part ∷ ps)
+unfolding join extend
+join-extend c b part [] = refl
+join-extend c b part (q ∷ ps) = refl
+
+pub join-cut : (c : ℕ) (l : List ℕ) → join c (cut c l) ≡ l
+unfolding cut join
+join-cut c [] = refl
+join-cut c (b ∷ l) = go (eqb b c) refl (cut-some c l) (join-cut c l)
+  where
+    go : (t : Bool) → eqb b c ≡ t → ((p : List ℕ) × (ps : List (List ℕ)) × (cut c l ≡ p ∷ ps)) → join c (cut c l) ≡ l
+        → join c (cond t ([] ∷ cut c l) (extend b (cut c l))) ≡ b ∷ l
+    go true h f e = ap (λ k. join c ([] ∷ k)) (f .2) ∙ ap₂ _∷_ (sym (eqb-true b c h)) (ap (join c) (sym (f .2)) ∙ e)
+    go false h f e =
+        ap (λ k. join c (extend b k)) (f .2) ∙ join-extend c b (f .0) (f .1) ∙ ap (λ k. b ∷ k) (ap (join c) (sym (f .2)) ∙ e)
+
+-- the bytes of a free part: none is the separator
+free-cons : (c b : ℕ) (l : List ℕ) → free c (b ∷ l) ≡ true → (eqb b c ≡ false) × (free c l ≡ true)
+unfolding free
+free-cons c b l h =
+    let t = both (not (eqb b c)) (free c l) h in
+    (not-true (eqb b c) (t .0), t .1)
+
+cut-past : (c b : ℕ) (l : List ℕ) → eqb b c ≡ false → cut c (b ∷ l) ≡ extend b (cut c l)
+unfolding cut
+cut-past c b l h = ap (λ t. cond t ([] ∷ cut c l) (extend b (cut c l))) h
+
+cut-part : (c : ℕ) (p : List ℕ) → free c p ≡ true → cut c p ≡ p ∷ []
+unfolding cut
+cut-part c [] h = refl
+cut-part c (b ∷ p) h =
+    let t = free-cons c b p h in
+    cut-past c b p (t .0) ∙ ap (extend b) (cut-part c p (t .1))
+
+cut-seam : (c : ℕ) (p l : List ℕ) → free c p ≡ true → cut c (p ++ (c ∷ l)) ≡ p ∷ cut c l
+unfolding cut
+cut-seam c [] l h = ap (λ t. cond t ([] ∷ cut c l) (extend c (cut c l))) (eq-eqb c c refl)
+cut-seam c (b ∷ p) l h =
+    let t = free-cons c b p h in
+    cut-past c b (p ++ (c ∷ l)) (t .0) ∙ ap (extend b) (cut-seam c p l (t .1))
+
+pub cut-join : (c : ℕ) (p : List ℕ) (ps : List (List ℕ)) → allFree c (p ∷ ps) ≡ true → cut c (join c (p ∷ ps)) ≡ p ∷ ps
+unfolding join allFree
+cut-join c p [] h = cut-part c p (both (free c p) true h .0)
+cut-join c p (q ∷ ps) h =
+    let t = both (free c p) (allFree c (q ∷ ps)) h in
+    cut-seam c p (join c (q ∷ ps)) (t .0) ∙ ap (λ k. p ∷ k) (cut-join c q ps (t .1))
+
+-- ---- bytes that stand nowhere
+
+extend-free : (d b : ℕ) (ps : List (List ℕ)) → eqb b d ≡ false → allFree d ps ≡ true → allFree d (extend b ps) ≡ true
+unfolding extend allFree free
+extend-free d b [] h e = ap (λ t. not t && true && true) h
+extend-free d b (p ∷ ps) h e = ap (λ t. not t && free d p && allFree d ps) h ∙ e
+
+-- one byte more, which is the separator or is not d
+cut-step : (c d b : ℕ) (l : List ℕ) → (eqb b c ≡ false → eqb b d ≡ false) → allFree d (cut c l) ≡ true → allFree d (cut c (b ∷ l)) ≡ true
+unfolding cut allFree free
+cut-step c d b l h e = go (eqb b c) refl
+  where
+    go : (t : Bool) → eqb b c ≡ t → allFree d (cond t ([] ∷ cut c l) (extend b (cut c l))) ≡ true
+    go true k = e
+    go false k = extend-free d b (cut c l) (h k) e
+
+pub cut-free : (c : ℕ) (l : List ℕ) → allFree c (cut c l) ≡ true
+unfolding cut allFree free
+cut-free c [] = refl
+cut-free c (b ∷ l) = cut-step c c b l (λ h. h) (cut-free c l)
+
+pub cut-keeps-free : (c d : ℕ) (l : List ℕ) → free d l ≡ true → allFree d (cut c l) ≡ true
+unfolding cut allFree free
+cut-keeps-free c d [] h = refl
+cut-keeps-free c d (b ∷ l) h =
+    let t = free-cons d b l h in
+    cut-step c d b l (λ k. t .0) (cut-keeps-free c d l (t .1))
+
+pub free-append : (c : ℕ) (a b : List ℕ) → free c (a ++ b) ≡ (free c a && free c b)
+unfolding free
+free-append c [] b = refl
+free-append c (x ∷ a) b = ap (λ t. not (eqb x c) && t) (free-append c a b) ∙ sym (and-assoc (not (eqb x c)) (free c a) (free c b))
+
+pub join-free : (c d : ℕ) (ps : List (List ℕ)) → (c ≡ d → ⊥) → allFree d ps ≡ true → free d (join c ps) ≡ true
+unfolding join allFree free
+join-free c d [] h e = refl
+join-free c d (p ∷ []) h e = both (free d p) true e .0
+join-free c d (p ∷ q ∷ ps) h e =
+    let t = both (free d p) (allFree d (q ∷ ps)) e in
+    free-append d p (c ∷ join c (q ∷ ps))
+    ∙ ap₂ _&&_ (t .0) (ap₂ (λ x y. not x && y) (ne-eqb c d h) (join-free c d (q ∷ ps) h (t .1)))
+
+-- ---- where a part ends
+
+pub index-most : (c : ℕ) (l : List ℕ) → indexOf c l ≤ length l
+unfolding indexOf
+index-most c [] = zero-le
+index-most c (b ∷ l) = go (eqb b c) (index-most c l)
+  where
+    go : (t : Bool) → indexOf c l ≤ length l → indexAfter t (indexOf c l) ≤ suc (length l)
+    go true h = zero-le
+    go false h = omega arith
+
+pub index-append : (c : ℕ) (l more : List ℕ) → indexOf c l < length l → indexOf c (l ++ more) ≡ indexOf c l
+unfolding indexOf
+index-append c [] more h = absurd (omega arith)
+index-append c (b ∷ l) more h = go (eqb b c) h (index-append c l more)
+  where
+    go : (t : Bool) → indexAfter t (indexOf c l) < suc (length l) → (indexOf c l < length l → indexOf c (l ++ more) ≡ indexOf c l)
+        → indexAfter t (indexOf c (l ++ more)) ≡ indexAfter t (indexOf c l)
+    go true h f = refl
+    go false h f = ap suc (f (omega arith))
+
+length-first : (c : ℕ) (l p : List ℕ) (ps : List (List ℕ)) → cut c l ≡ p ∷ ps → length p ≡ indexOf c l
+length-first c l p ps e =
+    let f : p ≡ take (indexOf c l) l = cc (cut-first c l) in
+    ap length f ∙ length-take (indexOf c l) l ∙ omega (arith, index-most c l)
+
+pub end-found : (c : ℕ) (s : List ℕ) (at e : ℕ) → e ≡ at + indexOf c (slice at (length s) s) → e ≤ length s → PartEnd c s at e
+unfolding slice partEnd
+end-found c s at e f h = record { is = f ∙ ap (λ l. at + indexOf c (drop at l)) (take-length s); low = omega arith; high = h }
+
+pub first-part : (c : ℕ) (l p : List ℕ) (ps : List (List ℕ)) → cut c l ≡ p ∷ ps → take (length p) l ≡ p
+first-part c l p ps e =
+    let f : p ≡ take (indexOf c l) l = cc (cut-first c l) in
+    ap (λ n. take n l) (length-first c l p ps e) ∙ sym f
+
+pub end-of-first : (c : ℕ) (l more p q : List ℕ) (ps : List (List ℕ)) → cut c l ≡ p ∷ q ∷ ps → indexOf c (l ++ more) ≡ length p
+unfolding rest
+end-of-first c l more p q ps e =
+    index-append c l more (go (leb (length l) (indexOf c l)) refl) ∙ sym (length-first c l p (q ∷ ps) e)
+  where
+    go : (t : Bool) → leb (length l) (indexOf c l) ≡ t → indexOf c l < length l
+    go true h =
+        let f : rest c (drop (indexOf c l) l) ≡ q ∷ ps = cc (cut-first c l) in
+        let g : rest c (drop (indexOf c l) l) ≡ [] = ap (rest c) (drop-of-length-le l (leb-true (length l) (indexOf c l) h)) in
+        let z : _≡_ {A = ℕ} 0 1 = cc in
+        absurd (omega arith)
+    go false h = leb-false (length l) (indexOf c l) h
+
+-- ---- the parts from an index
+
+parts-within : (c : ℕ) (s : List ℕ) (at : ℕ) → at ≤ length s → partsFrom c s at ≡ cut c (drop at s)
+unfolding partsFrom
+parts-within c s at h = ap (λ t. cond t (cut c (drop at s)) []) (le-leb at (length s) h)
+
+pub parts-whole : (c : ℕ) (s : List ℕ) → partsFrom c s 0 ≡ cut c s
+parts-whole c s = parts-within c s 0 zero-le
+
+pub parts-none : (c : ℕ) (s : List ℕ) (at : ℕ) → length s < at → partsFrom c s at ≡ []
+unfolding partsFrom
+parts-none c s at h = ap (λ t. cond t (cut c (drop at s)) []) (lt-leb at (length s) h)
+
+pub parts-some : (c : ℕ) (s : List ℕ) (at : ℕ) → at ≤ length s → (p : List ℕ) × (ps : List (List ℕ)) × (partsFrom c s at ≡ p ∷ ps)
+parts-some c s at h =
+    let f = cut-some c (drop at s) in
+    (f .0, f .1, parts-within c s at h ∙ f .2)
+
+-- the parts after a part that ends at index e
+parts-after : (c : ℕ) (s : List ℕ) (e : ℕ) → e ≤ length s → rest c (drop e s) ≡ partsFrom c s (e + 1)
+unfolding rest
+parts-after c s e h = go (leb (length s) e) refl
+  where
+    go : (t : Bool) → leb (length s) e ≡ t → rest c (drop e s) ≡ partsFrom c s (e + 1)
+    go true k =
+        let m = leb-true (length s) e k in
+        ap (rest c) (drop-of-length-le s m) ∙ sym (parts-none c s (e + 1) (omega arith))
+    go false k =
+        let m = leb-false (length s) e k in
+        ap (rest c) (drop-cons s e 0 m) ∙ ap (λ i. cut c (drop i s)) (sym (add-one e)) ∙ sym (parts-within c s (e + 1) (omega arith))
+
+pub parts-from : (c : ℕ) (s : List ℕ) (at e : ℕ) → at ≤ length s → PartEnd c s at e
+    → partsFrom c s at ≡ take (e - at) (drop at s) ∷ partsFrom c s (e + 1)
+unfolding partEnd
+parts-from c s at e h f =
+    let i = indexOf c (drop at s) in
+    let n : i ≡ e - at = omega (arith, f .is) in
+    parts-within c s at h ∙ cut-first c (drop at s)
+    ∙ ap₂ _∷_ (ap (λ k. take k (drop at s)) n)
+    (ap (rest c) (drop-drop i at s ∙ ap (λ k. drop k s) (sym (f .is))) ∙ parts-after c s e (f .high))
+
+pub first-part-from : (c : ℕ) (s : List ℕ) (e : ℕ) → PartEnd c s 0 e → cut c s ≡ take e s ∷ partsFrom c s (e + 1)
+first-part-from c s e h =
+    let z : e - 0 ≡ e = omega arith in
+    sym (parts-whole c s) ∙ parts-from c s 0 e zero-le h ∙ ap (λ k. take k s ∷ partsFrom c s (e + 1)) z

@@ -1,0 +1,101 @@
+-- Laws of values of a channel.
+--     value-print       a printed value is read as itself
+--     print-value       what is read as v is what v is printed as
+--     value-free        only digits, the hyphen and `<` stand in a printed value
+--     far-outside       a number farther from 0 than both ends of a range is not in it
+--     reads-within      a value in range reads as a number from low to high
+--     reads-most        which is within 4,000 of 0
+use Prim.Native.Nat.{ℕ, suc, _≤_, _<_}
+use mathlib.Core.Path.{_≡_, refl, sym, ap, ap₂, _∙_}
+use mathlib.Core.Bool.{Bool, true, false, not, cond, _&&_, and-false}
+use mathlib.Core.List.{List, [], _∷_}
+use mathlib.Core.Logic.{_⊎_, ⊎-elim}
+use mathlib.Core.Option.{some, Option·map, map-eq-some-iff, Option·none-ne-some}
+use native.Mathlib.Decide.{decLe}
+use native.Mathlib.Omega.{arith}
+use borrow.Author.Tests.{leb-true, lt-leb, eqb-true, eqb-false, ne-eqb}
+use lib.Dec.{eqb, leb}
+use lib.IntN.{ℤ, pos, negsuc, natAbs}
+use lib.Signed.{leZ}
+use Rattle.text.specs.Parts.{free}
+use Rattle.integers.specs.Tests.{both, clash}
+use Rattle.text.specs.Number.{hyphen, isDigit, plain}
+use Rattle.text.specs.NumberLaws.{plain-print, print-plain, print-free, print-first}
+use Rattle.channel.specs.Channel.{ChannelType, typeOf}
+use Rattle.channel.specs.ChannelLaws.{rangeLimit, soundTypes, range-within, range-zero}
+use Rattle.value.specs.Value.{Written, number, below, lessThan, valueOf, inRange, reads, printValue}
+
+-- ---- printing
+
+-- no number starts with `<`
+number-first : (b : ℕ) → (isDigit b ≡ true) ⊎ (b ≡ hyphen) → eqb b lessThan ≡ false
+number-first b h =
+    ⊎-elim (λ d. ne-eqb b lessThan (λ e. omega (arith, leb-true b 57 (both (leb 48 b) (leb b 57) d .1))))
+    (λ d. ne-eqb b lessThan (λ e. omega arith)) h
+
+pub value-print : (v : Written) → valueOf (printValue v) ≡ some v
+unfolding valueOf printValue
+value-print (number z) =
+    let f = print-first z in
+    ap valueOf (f .2)
+    ∙ ap (λ t. cond t (Option·map below (plain (f .1))) (Option·map number (plain (f .0 ∷ f .1)))) (number-first (f .0) (f .3))
+    ∙ ap (λ l. Option·map number (plain l)) (sym (f .2))
+    ∙ ap (Option·map number) (plain-print z)
+value-print (below z) = ap (Option·map below) (plain-print z)
+
+pub print-value : (l : List ℕ) (v : Written) → valueOf l ≡ some v → printValue v ≡ l
+unfolding valueOf printValue
+print-value [] v h = absurd (Option·none-ne-some v h)
+print-value (b ∷ l) v h = go (eqb b lessThan) refl h
+  where
+    go : (t : Bool) → eqb b lessThan ≡ t → cond t (Option·map below (plain l)) (Option·map number (plain (b ∷ l))) ≡ some v
+        → printValue v ≡ b ∷ l
+    go true e h =
+        let z = map-eq-some-iff below (plain l) .0 h in
+        sym (ap printValue (z .2)) ∙ ap₂ _∷_ (sym (eqb-true b lessThan e)) (print-plain l (z .0) (z .1))
+    go false e h =
+        let z = map-eq-some-iff number (plain (b ∷ l)) .0 h in
+        sym (ap printValue (z .2)) ∙ print-plain (b ∷ l) (z .0) (z .1)
+
+pub value-free : (c : ℕ) → isDigit c ≡ false → eqb c hyphen ≡ false → eqb c lessThan ≡ false → (v : Written) → free c (printValue v) ≡ true
+unfolding printValue free
+value-free c d h l (number z) = print-free c d h z
+value-free c d h l (below z) = ap₂ (λ a b. not a && b) (ne-eqb lessThan c (λ e. eqb-false c lessThan l (sym e))) (print-free c d h z)
+
+-- ---- ranges
+
+far-below : (low : ℤ) (k : ℕ) → natAbs low < suc k → leZ low (negsuc k) ≡ false
+far-below (pos a) k h = refl
+far-below (negsuc a) k h = lt-leb k a (omega arith)
+
+far-above : (high : ℤ) (n : ℕ) → natAbs high < n → leZ (pos n) high ≡ false
+far-above (pos a) n h = lt-leb n a h
+far-above (negsuc a) n h = refl
+
+pub far-outside : (low high z : ℤ) → natAbs low < natAbs z → natAbs high < natAbs z → (leZ low z && leZ z high) ≡ false
+far-outside low high (pos n) l h = ap (λ b. leZ low (pos n) && b) (far-above high n h) ∙ and-false (leZ low (pos n))
+far-outside low high (negsuc k) l h = ap (λ b. b && leZ (negsuc k) high) (far-below low k l)
+
+module _ (types : List ChannelType) (sound : soundTypes types ≡ true) (code : ℕ) where
+  pub reads-within : (v : Written) → inRange (typeOf types code) v ≡ true
+      → (leZ (typeOf types code .low) (reads v) ≡ true) × (leZ (reads v) (typeOf types code .high) ≡ true)
+  reads-within (number z) h = both (leZ (typeOf types code .low) z) (leZ z (typeOf types code .high)) h
+  reads-within (below z) h = range-zero types sound code
+
+  pub reads-most : (v : Written) → inRange (typeOf types code) v ≡ true → natAbs (reads v) ≤ rangeLimit
+  reads-most v h = go (decLe (natAbs (reads v)) rangeLimit)
+    where
+      low : ℤ
+      low = typeOf types code .low
+
+      high : ℤ
+      high = typeOf types code .high
+
+      ends : (natAbs low ≤ rangeLimit) × (natAbs high ≤ rangeLimit)
+      ends = range-within types sound code
+
+      go : Dec (natAbs (reads v) ≤ rangeLimit) → natAbs (reads v) ≤ rangeLimit
+      go (yes k) = k
+      go (no k) =
+          let w = reads-within v h in
+          clash (ap₂ _&&_ (w .0) (w .1)) (far-outside low high (reads v) (omega (arith, ends)) (omega (arith, ends)))
