@@ -1,5 +1,5 @@
-//! Safe calls of the proved library: a tight ball round reference readings, drawn in whole
-//! numbers, and the check of weights that anybody has chosen.
+//! Safe calls of the proved library: reference texts read into rows, a tight ball round them drawn
+//! in whole numbers, and the check of weights that anybody has chosen.
 //!
 //! There are m rows (1 to 256) of n channels (1 to 8); each coordinate is a whole number from
 //! -4,000 to 4,000. Rows are lent as one list, row by row: the first m·n places count, and the
@@ -26,18 +26,59 @@
 //!
 //! [`draw`] and [`check`] answer with lists of their own. [`draw_into`] and [`check_into`] are the
 //! library's own calls on lent slices, and answer with numbers alone.
+//!
+//! A *reference text* states rows. Its fields are parted by commas and each line ends in byte 10.
+//! The heading is `REF`, n, and n tags of channel types; then a line for each row has a label and n
+//! values:
+//!
+//! ```text
+//! REF,2,TOC,CND
+//! A,0,0
+//! B,6,0
+//! C,0,8
+//! ```
+//!
+//! | code | tag | step | low | high |
+//! |---|---|---|---|---|
+//! | 1 | TOC | 1 ppb carbon | 0 | 2000 |
+//! | 2 | TC | 1 ppb carbon | 0 | 4000 |
+//! | 3 | IC | 1 ppb carbon | 0 | 4000 |
+//! | 4 | CND | 0.001 µS/cm | 0 | 4000 |
+//! | 5 | TMP | 0.1 °C | -200 | 1500 |
+//! | 6 | PH | 0.01 | 0 | 1400 |
+//! | 7 | FLW | 0.1 l/min | 0 | 4000 |
+//! | 8 | ORP | 1 mV | -2000 | 2000 |
+//!
+//! A label is 1 to 12 bytes of A-Z, 0-9 and hyphen, and no two rows have the same. A value is a
+//! whole number without leading zeros from the type's low to its high, or `<` and one from 1 to its
+//! high, which means below detection and reads as 0. [`read_reference`] reads such a text, and
+//! [`label`] finds the label of a row in it; [`read_reference_into`] and [`label_part`] are the
+//! library's own calls.
 
 use std::error::Error;
 use std::fmt;
 
+/// The most rows.
+pub const ROWS: usize = 256;
+
+/// The most channels.
+pub const CHANNELS: usize = 8;
+
 /// D, the sum of the weights; X counts in units of 1/D, M and L in units of 1/D².
 pub const TOTAL: u32 = 65_536;
 
-/// Input that was turned back: its number in the table of refusals, and the line at fault, which is
-/// 0 for the calls here.
+/// Input that was turned back: its number in the table of refusals, and the line at fault, counted
+/// from 1, or 0 where no line is at fault, as for 1, 7, 8, 9, 12 and 13.
 ///
 /// | number | when |
 /// |---|---|
+/// | 1 | a text that is empty or above 65,536 bytes |
+/// | 2 | a bad heading or an unknown tag |
+/// | 3 | a line that is not in form, or has no byte 10 |
+/// | 4 | a value outside its type's range |
+/// | 5 | a label that an earlier row has |
+/// | 6 | no row, or a 257th |
+/// | 7 | a lent table of fewer than m·n places |
 /// | 8 | n, m or a coordinate outside its limits, rows of fewer than m·n places, a weight list not of m places |
 /// | 9 | a budget above 1,000,000 |
 /// | 12 | weights whose sum is not [`TOTAL`] |
@@ -51,6 +92,13 @@ pub struct Refusal {
 impl fmt::Display for Refusal {
     fn fmt(&self, formatter: &mut fmt::Formatter<'_>) -> fmt::Result {
         let reason = match self.number {
+            1 => "text empty or above 65,536 bytes",
+            2 => "bad heading or unknown tag",
+            3 => "line not in form",
+            4 => "value outside its type's range",
+            5 => "label used on an earlier row",
+            6 => "no row, or a 257th",
+            7 => "lent table too short",
             8 => "rows, channels, a coordinate or the weight list outside the limits",
             9 => "budget above 1,000,000",
             12 => "weights that do not sum to 65,536",
@@ -137,6 +185,37 @@ pub struct CheckAnswer {
     pub scaled_lower_bound: u64,
 }
 
+/// The counts of an accepted reference text.
+#[derive(Clone, Copy, Debug, PartialEq, Eq, Hash)]
+pub struct Counts {
+    /// The number of rows.
+    pub m: usize,
+    /// The number of channels.
+    pub n: usize,
+}
+
+/// What the library answers to a reference text, in numbers; see [`read_reference_into`].
+#[repr(C)]
+#[derive(Clone, Copy, Debug, PartialEq, Eq, Hash)]
+pub struct ReferenceAnswer {
+    /// 0 where accepted, else the refusal's number; then m and n are 0.
+    pub number: u32,
+    /// The line at fault, 0 where none is.
+    pub line: u32,
+    pub m: usize,
+    pub n: usize,
+}
+
+/// Where a label stands in a reference text; see [`label_part`].
+#[repr(C)]
+#[derive(Clone, Copy, Debug, PartialEq, Eq, Hash)]
+pub struct LabelAnswer {
+    /// The byte where the label starts, counted from 0.
+    pub start: usize,
+    /// How many bytes the label has, 0 where there is none.
+    pub length: usize,
+}
+
 unsafe extern "C" {
     fn cundarivo_draw(
         rows: *const i32,
@@ -160,6 +239,17 @@ unsafe extern "C" {
         centre: *mut i64,
         centre_len: usize,
     ) -> CheckAnswer;
+
+    fn cundarivo_read_reference(
+        text: *const u8,
+        text_len: usize,
+        table: *mut i32,
+        table_len: usize,
+        types: *mut u8,
+        types_len: usize,
+    ) -> ReferenceAnswer;
+
+    fn cundarivo_label(text: *const u8, text_len: usize, row: usize) -> LabelAnswer;
 }
 
 /// Draws the ball round the rows with at most `budget` moves, all weight being on the first row at
@@ -256,6 +346,77 @@ pub fn check_into(
             centre.len(),
         )
     }
+}
+
+/// Reads a reference text into a lent table, row by row, and the codes of its channel types into
+/// lent types. Accepted, it fills the first m·n places of the table and the first n of the types,
+/// and no other; refused, it changes nothing. [`ROWS`]·[`CHANNELS`] and [`CHANNELS`] places are
+/// enough for every text.
+///
+/// ```
+/// let text = b"REF,2,TOC,CND\nA,0,0\nB,6,<3\nC,0,8\n";
+/// let mut table = [0; 6];
+/// let mut types = [0; 2];
+/// let counts = cundarivo::read_reference(text, &mut table, &mut types)?;
+/// assert_eq!((counts.m, counts.n), (3, 2));
+/// assert_eq!(types, [1, 4]);
+/// assert_eq!(table, [0, 0, 6, 0, 0, 8]);
+/// let drawing = cundarivo::draw(&table, counts.m, counts.n, 10_000)?;
+/// assert_eq!(drawing.weights, [0, 32_768, 32_768]);
+///
+/// let faulty = b"REF,1,TOC\nA,2000\nB,2001\n";
+/// let refusal = cundarivo::read_reference(faulty, &mut table, &mut types).unwrap_err();
+/// assert_eq!((refusal.number, refusal.line), (4, 3));
+/// # Ok::<(), cundarivo::Refusal>(())
+/// ```
+///
+/// # Errors
+///
+/// Refusals 1, 2, then line by line 6 for a 257th row, 3, 4, 5; then 6 for no row, 7, and 13 for
+/// types of fewer than n places: see [`Refusal`].
+pub fn read_reference(text: &[u8], table: &mut [i32], types: &mut [u8]) -> Result<Counts, Refusal> {
+    let answer = read_reference_into(text, table, types);
+    accepted(answer.number, answer.line)?;
+    Ok(Counts {
+        m: answer.m,
+        n: answer.n,
+    })
+}
+
+/// The label of a row of a reference text, counted from 1, as that part of the text. It is empty
+/// where the text is refused or has no such row; no table is lent, so that 7 is no refusal here.
+///
+/// ```
+/// let text = b"REF,1,TOC\nLOOP-1,5\nLOOP-2,7\n";
+/// assert_eq!(cundarivo::label(text, 2), b"LOOP-2");
+/// assert!(cundarivo::label(text, 3).is_empty());
+/// ```
+pub fn label(text: &[u8], row: usize) -> &[u8] {
+    let LabelAnswer { start, length } = label_part(text, row);
+    &text[start..start + length]
+}
+
+/// The library's own call of [`read_reference`], which answers with numbers.
+pub fn read_reference_into(text: &[u8], table: &mut [i32], types: &mut [u8]) -> ReferenceAnswer {
+    // SAFETY: each pointer and length are those of a live slice, the written ones lent to nobody
+    // else, and the library is proved to keep within the lengths for every text.
+    unsafe {
+        cundarivo_read_reference(
+            text.as_ptr(),
+            text.len(),
+            table.as_mut_ptr(),
+            table.len(),
+            types.as_mut_ptr(),
+            types.len(),
+        )
+    }
+}
+
+/// The library's own call of [`label`]: where the label starts in the text and how many bytes it
+/// has, 0 and 0 where there is none.
+pub fn label_part(text: &[u8], row: usize) -> LabelAnswer {
+    // SAFETY: pointer and length are those of a live slice, which the library only reads.
+    unsafe { cundarivo_label(text.as_ptr(), text.len(), row) }
 }
 
 /// As many places as an accepted call with this count can fill. A count above the number of lent

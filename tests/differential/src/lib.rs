@@ -1,7 +1,11 @@
 //! The product compared with the outside implementation.
 //!
 //! - `compare`: one case through both, every figure and every place of lent memory compared.
+//! - `compare_text`: one reference text through both, in the same way.
 //! - `tally`: what was compared and which refusals were reached.
+//! - `reached`: how often each outcome and each kind of input was met.
 
 pub mod compare;
+pub mod compare_text;
+pub mod reached;
 pub mod tally;

@@ -1,8 +1,8 @@
 //! What a comparison has run through.
 
+use crate::reached::Reached;
 use outside::cases::{Answer, Case};
 use outside::demands::{Tried, TriedBySource};
-use std::collections::BTreeMap;
 use std::fmt::Debug;
 
 #[derive(Default)]
@@ -21,8 +21,7 @@ pub struct Tally {
     pub settled_draws: u64,
     /// Those of them with a rival from the other solver within a thousandth.
     pub matched_draws: u64,
-    /// How often each outcome and each kind of input was met, by name.
-    pub reached: BTreeMap<String, u64>,
+    pub reached: Reached,
 }
 
 /// The outcomes that a comparison must have reached.
@@ -56,7 +55,7 @@ impl Tally {
             (0, false) => unsettled.to_string(),
             (number, _) => format!("refusal {number}"),
         };
-        self.reach(format!("{call}: {outcome}"));
+        self.reached.count(format!("{call}: {outcome}"));
     }
 
     /// The rivals that an accepted answer was tested against.
@@ -71,11 +70,7 @@ impl Tally {
     }
 
     pub fn count_kind(&mut self, group: &str, kind: impl Debug) {
-        self.reach(format!("{group}: {kind:?}"));
-    }
-
-    fn reach(&mut self, name: String) {
-        *self.reached.entry(name).or_default() += 1;
+        self.reached.count(format!("{group}: {kind:?}"));
     }
 
     pub fn print(&self) {
@@ -101,9 +96,7 @@ impl Tally {
              thousandth: {}",
             self.settled_draws, self.matched_draws
         );
-        for (name, count) in &self.reached {
-            println!("{name}: {count}");
-        }
+        self.reached.print();
     }
 
     /// Stops the tests where an outcome, or one of the named kinds, was never met, or where a
@@ -111,7 +104,7 @@ impl Tally {
     pub fn require(&self, kinds: impl Iterator<Item = String>) {
         let outcomes = OUTCOMES.iter().map(|name| name.to_string());
         for name in outcomes.chain(kinds) {
-            assert!(self.reached.contains_key(&name), "never met: {name}");
+            self.reached.require(&name, 1);
         }
         assert!(self.settled_draws > 0, "no drawing Settled with M above 0");
         assert_eq!(

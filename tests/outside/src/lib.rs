@@ -1,18 +1,32 @@
 //! The outside implementation: what the product is compared with. It shares no code with the
-//! product and is written from document 01 alone.
+//! product and is written from document 01; docs/DECISIONS.md says what its writers had seen.
 //!
 //! - `rules`: the figures, the move, the drawing, the check and their refusals.
+//! - `reference`: reading a reference text and finding its labels, and the refusals of both.
 //! - `random`: a seeded source of numbers.
 //! - `sets`: reference sets of many shapes and sizes, whole and damaged.
 //! - `cases`: arguments of the two calls, with budgets and weights of many kinds.
 //! - `demands`: what demand 3 says of the figures, tested in whole numbers.
 //! - `known`: the cases that document 01 and the list of bad input name, and directed ones.
 //! - `stored`: a set of cases as the input and the output of a program.
+//! - `texts`: reference texts within the rules.
+//! - `faults`: texts with two faults in both orders.
+//! - `damage`: texts damaged in any way.
+//! - `sweeps`: every text that is close to a small one.
+//! - `known_texts`: the texts that document 01 and the list of bad input name.
+//! - `stored_texts`: a set of texts as the input and the output of a program.
 
 pub mod cases;
+pub mod damage;
 pub mod demands;
+pub mod faults;
 pub mod known;
+pub mod known_texts;
 pub mod random;
+pub mod reference;
 pub mod rules;
 pub mod sets;
 pub mod stored;
+pub mod stored_texts;
+pub mod sweeps;
+pub mod texts;

@@ -1,0 +1,125 @@
+//! Reference texts within the rules, of every size: labels that are hard to tell apart, values at
+//! the ends of their ranges, below detection and negative.
+
+use crate::random::Random;
+use crate::reference::{CHANNEL_TYPES, ChannelType, LABEL_LIMIT};
+use crate::rules::{CHANNEL_LIMIT, ROW_LIMIT};
+use std::collections::HashSet;
+
+const LABEL_BYTES: &[u8] = b"ABCDEFGHIJKLMNOPQRSTUVWXYZ0123456789-";
+
+/// The fields of a line.
+pub type Fields = Vec<Vec<u8>>;
+
+/// A text as fields, with what it reads as while it is within the rules.
+#[derive(Clone, Debug, PartialEq, Eq)]
+pub struct Draft {
+    pub types: Vec<ChannelType>,
+    pub heading: Fields,
+    /// A row's label and values.
+    pub rows: Vec<Fields>,
+    /// What the values read as, row by row.
+    pub table: Vec<i32>,
+}
+
+impl Draft {
+    /// A text of m rows and n channels; within the rules where m and n are.
+    pub fn new(random: &mut Random, m: usize, n: usize) -> Draft {
+        let types: Vec<ChannelType> = (0..n).map(|_| random.pick(&CHANNEL_TYPES)).collect();
+        let mut draft = Draft {
+            heading: heading(&types),
+            types,
+            rows: Vec::with_capacity(m),
+            table: Vec::with_capacity(m * n),
+        };
+        for label in labels(random, m) {
+            draft.add_row(random, label);
+        }
+        draft
+    }
+
+    fn add_row(&mut self, random: &mut Random, label: Vec<u8>) {
+        let mut row = vec![label];
+        for channel in &self.types {
+            let (field, reads) = value(random, channel);
+            row.push(field.into_bytes());
+            self.table.push(reads);
+        }
+        self.rows.push(row);
+    }
+
+    pub fn bytes(&self) -> Vec<u8> {
+        let mut bytes = line(&self.heading);
+        for row in &self.rows {
+            bytes.extend(line(row));
+        }
+        bytes
+    }
+}
+
+/// The heading of these types.
+pub fn heading(types: &[ChannelType]) -> Fields {
+    let count = types.len().to_string();
+    let mut fields = vec![b"REF".to_vec(), count.into_bytes()];
+    fields.extend(types.iter().map(|channel| channel.tag.into()));
+    fields
+}
+
+/// A line of fields, with its byte 10.
+pub fn line(fields: &[Vec<u8>]) -> Vec<u8> {
+    let mut bytes = fields.join(&b',');
+    bytes.push(b'\n');
+    bytes
+}
+
+/// Row and channel counts: most texts are small, some are full.
+pub fn size(random: &mut Random) -> (usize, usize) {
+    let n = 1 + random.index(CHANNEL_LIMIT);
+    match random.below(400) {
+        0..360 => (1 + random.index(6), n),
+        360..396 => (1 + random.index(40), n),
+        396..398 => (1 + random.index(ROW_LIMIT), n),
+        398 => (ROW_LIMIT - random.index(2), n),
+        _ => (ROW_LIMIT, CHANNEL_LIMIT),
+    }
+}
+
+/// `count` labels, all different. Those of two letters differ in length or in few places.
+fn labels(random: &mut Random, count: usize) -> Vec<Vec<u8>> {
+    let two = [random.pick(LABEL_BYTES), random.pick(LABEL_BYTES)];
+    let letters = if two[0] != two[1] && random.once_in(2) {
+        &two
+    } else {
+        LABEL_BYTES
+    };
+    let mut used = HashSet::new();
+    let mut list = Vec::with_capacity(count);
+    while list.len() < count {
+        let label = label(random, letters);
+        if used.insert(label.clone()) {
+            list.push(label);
+        }
+    }
+    list
+}
+
+fn label(random: &mut Random, letters: &[u8]) -> Vec<u8> {
+    let length = 1 + random.index(LABEL_LIMIT);
+    (0..length).map(|_| random.pick(letters)).collect()
+}
+
+/// A value field within the range of a type, and what it reads as.
+fn value(random: &mut Random, channel: &ChannelType) -> (String, i32) {
+    let ChannelType { low, high, .. } = *channel;
+    let number = match random.below(10) {
+        0 => low,
+        1 => high,
+        2 => random.between(low, low + 9),
+        3 => random.between(high - 9, high),
+        4 => 0,
+        5 => return (format!("<{}", random.between(1, high)), 0),
+        6 => return (format!("<{}", random.pick(&[1, 9, 10, high])), 0),
+        _ => random.between(low, high),
+    };
+    (number.to_string(), number)
+}
