@@ -15,7 +15,6 @@ use Rattle.channel.specs.declared.Tag.{Tag}
 abbrev pub rangeOf : List ChannelType → ℕ → Range
 rangeOf types code = record { low = typeOf types code .low; high = typeOf types code .high }
 
--- the most bytes of a tag
 abbrev pub tagLimit : ℕ
 tagLimit = 3
 

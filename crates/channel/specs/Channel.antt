@@ -18,7 +18,7 @@ pub record ChannelType : Type 0 where
   pub low : ℤ
   pub high : ℤ
 
--- TOC, TC, IC, CND, TMP, PH, FLW, ORP
+-- the tags are TOC, TC, IC, CND, TMP, PH, FLW, ORP; the step is left out, since no rule uses it
 unfoldable pub channelTypes : List ChannelType
 channelTypes =
     record { code = 1; tag = 84 ∷ 79 ∷ 67 ∷ []; low = pos 0; high = pos 2000 }

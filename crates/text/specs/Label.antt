@@ -4,7 +4,7 @@
 --     isLabelByte b     the byte may stand in a label
 --     labelBytes l      every byte of l may stand in a label
 --     isLabel l         l is a label
-use Prim.Native.Nat.{ℕ, _-_}
+use Prim.Native.Nat.{ℕ}
 use mathlib.Core.Bool.{Bool, true, _&&_, _||_}
 use mathlib.Core.List.{List, [], _∷_}
 use lib.Dec.{eqb, leb}

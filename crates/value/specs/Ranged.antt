@@ -27,7 +27,6 @@ abbrev pub signed : Bool → ℕ → ℤ
 signed false n = pos n
 signed true n = negℤ (pos n)
 
--- a type with this range
 abbrev pub typed : Range → ChannelType
 typed range = record { code = 0; tag = []; low = range .low; high = range .high }
 

@@ -23,7 +23,6 @@ pub data Written : Type 0 where
   number : ℤ → Written
   below : ℤ → Written
 
--- the byte `<`
 abbrev pub lessThan : ℕ
 lessThan = 60
 

@@ -1,18 +1,21 @@
--- Past the two tests the number is within `most` of 0, so that with `most` added it is a natural number.
+-- The tests compare the number and the limit themselves. Past both the number is within the limit, so that their sum is a natural
+-- number.
 use borrow.Author.Needs.{needs}
 use Prim.Native.Nat.{ℕ, _+_, _≤_}
-use mathlib.Core.Path.{_≡_, sym, ap, subst, _∙_}
-use mathlib.Core.Bool.{false}
+use mathlib.Core.Path.{_≡_, sym, ap, ap₂, subst, _∙_}
+use mathlib.Core.Bool.{Bool, true, false, cond}
 use native.Mathlib.Omega.{arith}
 use lib.Dec.{T}
 use lib.IntN.{ℤ, pos, natAbs, _+ℤ_, _-ℤ_}
 use lib.Signed.{ltZ, nonNeg}
 use mir.Syntax.{w64}
-use mir.Val.{Fits, toZ, ofZ}
+use mir.Val.{SFits, Fits}
+use mir.Facts.{toZ-ofZ}
 use Rattle.integers.specs.Solver.{#_, _⊕_, _⊖_}
 use Rattle.integers.specs.Order.{_⊑_, _≼_, _⇒_, ⊢_, deduce, nn-pos, ltZ-false, pos-le-inv}
 use Rattle.integers.specs.Absolute.{abs-le, fits64, back64}
-use Rattle.integers.specs.Reading.{held, kept, number, difference, fits, passed}
+use Rattle.integers.specs.Reading.{back, Reads, held, kept, number, difference, fits}
+use Rattle.case_io.specs.Numbers.{raisedBy}
 use Rattle.case_io.proofs.raised.Statement.{statement}
 use Rattle.case_io.proofs.raised.Tie as tie
 
@@ -20,60 +23,118 @@ use Rattle.case_io.proofs.raised.Tie as tie
 abbrev largest : ℕ
 largest = 2147483647
 
-abbrev Raised : ℤ → ℤ → Type 0
-Raised z l = (n : ℕ) × (z +ℤ l ≡ pos n) × (n ≤ largest + largest)
+module _ (x l : ℤ) (x-fits : SFits w64 x) (l-fits : SFits w64 l) (most : natAbs l ≤ largest) where
+  x-read : back w64 x ≡ x
+  x-read = toZ-ofZ x-fits
 
-raise : (z l : ℤ) → natAbs l ≤ largest → ltZ z (pos 0 -ℤ l) ≡ false → ltZ l z ≡ false → Raised z l
-raise z l most low high =
-    let natural = nn-pos (z +ℤ l) (deduce 2 (λ x y. # pos 0 ⊖ y ≼ x ⇒ ⊢ # pos 0 ≼ x ⊕ y) z l (omega arith) (ltZ-false z (pos 0 -ℤ l) low)) in
-    let bound =
-    deduce 2 (λ x y. x ≼ y ⇒ y ≼ # pos largest ⇒ ⊢ x ⊕ y ≼ # pos (largest + largest)) z l (omega arith) (ltZ-false l z high)
-    (abs-le l largest .0 most .1) in
-    (natural .0, natural .1, pos-le-inv (subst (λ (x : ℤ). x ⊑ pos (largest + largest)) (natural .1) bound))
+  limit : Reads (back w64 l) l largest
+  limit = held l-fits most
 
--- the number and the limit as the machine reads them
-abbrev x-at : tie.Else2 → ℤ
-x-at c = toZ w64 (ofZ w64 (c .before .before .args .x))
+  least-read : Reads (pos 0 -ℤ back w64 l) (pos 0 -ℤ l) (0 + largest)
+  least-read = difference (number {B = 0} 0 (omega arith)) limit
 
-abbrev most-at : tie.Else2 → ℤ
-most-at c = toZ w64 (ofZ w64 (c .before .before .args .most))
+  low : (b : Bool) → ltZ (back w64 x) (back w64 (pos 0 -ℤ back w64 l)) ≡ b → ltZ x (pos 0 -ℤ l) ≡ b
+  low b e = sym (ap₂ ltZ x-read (kept least-read tt .is)) ∙ e
 
-raised-at : (c : tie.Else2) → Raised (x-at c) (most-at c)
-raised-at c =
-    let start = c .before .before in
-    let limit = held {w = w64} {B = largest} (start .fits .most) (omega arith) in
-    raise (x-at c) (most-at c) (passed limit)
-    (subst (λ (k : ℤ). ltZ (x-at c) k ≡ false)
-    (kept (difference (number {B = 0} 0 (omega arith)) limit) tt .is ∙ ap (λ (k : ℤ). pos 0 -ℤ k) (sym (limit .is))) (c .before .if1 .left))
-    (c .if2 .left)
+  high : (b : Bool) → ltZ (back w64 l) (back w64 x) ≡ b → ltZ l x ≡ b
+  high b e = sym (ap₂ ltZ (limit .is) x-read) ∙ e
 
--- their sum as the machine reads it
-stored : (z l : ℤ) (r : Raised z l) → toZ w64 (ofZ w64 (z +ℤ l)) ≡ pos (r .0)
-stored z l r = back64 (z +ℤ l) (omega (arith, ap natAbs (r .1), r .2)) ∙ r .1
+  below : ltZ x (pos 0 -ℤ l) ≡ true → 0 ≡ raisedBy l x
+  below t = sym (ap (λ b. cond b 0 (cond (ltZ l x) 0 (natAbs (x +ℤ l)))) t)
+
+  module _ (not-below : ltZ x (pos 0 -ℤ l) ≡ false) where
+    above : ltZ l x ≡ true → 0 ≡ raisedBy l x
+    above t = sym (ap₂ (λ a b. cond a 0 (cond b 0 (natAbs (x +ℤ l)))) not-below t)
+
+    module _ (not-above : ltZ l x ≡ false) where
+      natural : (n : ℕ) × (x +ℤ l ≡ pos n)
+      natural = nn-pos (x +ℤ l) (deduce 2 (λ y z. # pos 0 ⊖ z ≼ y ⇒ ⊢ # pos 0 ≼ y ⊕ z) x l (omega arith) (ltZ-false x (pos 0 -ℤ l) not-below))
+
+      bound : natural .0 ≤ largest + largest
+      bound =
+          pos-le-inv (subst (λ (y : ℤ). y ⊑ pos (largest + largest)) (natural .1)
+          (deduce 2 (λ y z. y ≼ z ⇒ z ≼ # pos largest ⇒ ⊢ y ⊕ z ≼ # pos (largest + largest)) x l (omega arith) (ltZ-false l x not-above)
+          (abs-le l largest .0 most .1)))
+
+      sum : back w64 x +ℤ back w64 l ≡ pos (natural .0)
+      sum = ap₂ _+ℤ_ x-read (limit .is) ∙ natural .1
+
+      sum-read : back w64 (back w64 x +ℤ back w64 l) ≡ pos (natural .0)
+      sum-read = back64 (back w64 x +ℤ back w64 l) (omega (arith, ap natAbs sum, bound)) ∙ sum
+
+      within : natural .0 ≡ raisedBy l x
+      within =
+          ap natAbs (sym (natural .1))
+          ∙ sym (ap₂ (λ a b. cond a 0 (cond b 0 (natAbs (x +ℤ l)))) not-below not-above)
+
+-- both tests, past them
+abbrev tests : (c : tie.Else2)
+    → let start = c .before .before in
+    (ltZ (start .args .x) (pos 0 -ℤ start .args .most) ≡ false) × (ltZ (start .args .most) (start .args .x) ≡ false)
+tests c =
+    let start = c .before .before in (
+      low (start .args .x) (start .args .most) (start .fits .x) (start .fits .most) (omega arith) false (c .before .if1 .left),
+      high (start .args .x) (start .args .most) (start .fits .x) (start .fits .most) (omega arith) false (c .if2 .left),
+    )
 
 sub-if1 : tie.Need-sub-if1
-sub-if1 c = fits (difference (number {B = 0} 0 (omega arith)) (held {w = w64} {B = 2147483648} (c .fits .most) (omega arith))) tt
+sub-if1 c = fits (least-read (c .args .x) (c .args .most) (c .fits .x) (c .fits .most) (omega arith)) tt
 
 returns : tie.Need-returns
-returns c = search needs
+returns c =
+    let start = c .before in
+    let at-most : natAbs (start .args .most) ≤ largest = omega arith in
+    record {
+      is =
+          below (start .args .x) (start .args .most) (start .fits .x) (start .fits .most) at-most
+          (low (start .args .x) (start .args .most) (start .fits .x) (start .fits .most) at-most true (c .if1 .taken));
+      small = omega arith;
+    }
 
 returns-2 : tie.Need-returns-2
-returns-2 c = search needs
+returns-2 c =
+    let start = c .before .before in
+    let at-most : natAbs (start .args .most) ≤ largest = omega arith in
+    record {
+      is =
+          above (start .args .x) (start .args .most) (start .fits .x) (start .fits .most) at-most
+          (low (start .args .x) (start .args .most) (start .fits .x) (start .fits .most) at-most false (c .before .if1 .left))
+          (high (start .args .x) (start .args .most) (start .fits .x) (start .fits .most) at-most true (c .if2 .taken));
+      small = omega arith;
+    }
 
 add-result : tie.Need-add-result
 add-result c =
-    let r = raised-at c in
-    fits64 (x-at c +ℤ most-at c) (omega (arith, ap natAbs (r .1)))
+    let start = c .before .before in
+    let at-most : natAbs (start .args .most) ≤ largest = omega arith in
+    let t = tests c in
+    fits64 _
+    (omega (
+      arith,
+      ap natAbs (sum (start .args .x) (start .args .most) (start .fits .x) (start .fits .most) at-most (t .0) (t .1)),
+      bound (start .args .x) (start .args .most) (start .fits .x) (start .fits .most) at-most (t .0) (t .1),
+    ))
 
 cast-result : tie.Need-cast-result
 cast-result c =
-    let r = raised-at c in
-    subst (λ (y : ℤ). T (nonNeg y) × Fits w64 (natAbs y)) (sym (stored (x-at c) (most-at c) r)) (tt, record { fits = omega arith })
+    let start = c .before .before in
+    let at-most : natAbs (start .args .most) ≤ largest = omega arith in
+    let t = tests c in
+    let n = bound (start .args .x) (start .args .most) (start .fits .x) (start .fits .most) at-most (t .0) (t .1) in
+    subst (λ (y : ℤ). T (nonNeg y) × Fits w64 (natAbs y))
+    (sym (sum-read (start .args .x) (start .args .most) (start .fits .x) (start .fits .most) at-most (t .0) (t .1)))
+    (tt, record { fits = omega arith })
 
 returns-3 : tie.Need-returns-3
 returns-3 c =
-    let r = raised-at c in
-    omega (arith, ap natAbs (stored (x-at c) (most-at c) r))
+    let start = c .before .before in
+    let at-most : natAbs (start .args .most) ≤ largest = omega arith in
+    let t = tests c in
+    let read = ap natAbs (sum-read (start .args .x) (start .args .most) (start .fits .x) (start .fits .most) at-most (t .0) (t .1)) in
+    record {
+      is = read ∙ within (start .args .x) (start .args .most) (start .fits .x) (start .fits .most) at-most (t .0) (t .1);
+      small = omega (arith, bound (start .args .x) (start .args .most) (start .fits .x) (start .fits .most) at-most (t .0) (t .1));
+    }
 
 pub raised-spec : {M : Type 1} → statement M
 raised-spec = tie.close (tie.spec sub-if1 returns returns-2 add-result cast-result returns-3)

@@ -1,12 +1,11 @@
 -- After each turn the sums are at most a number for each place that was passed, so that neither wraps. The place falls.
-use Prim.Native.Nat.{_+_, _*_, _≤_}
 use native.Mathlib.Omega.{arith}
+use Rattle.case_io.specs.Digest.{Digesting}
 use Rattle.cases.proofs.centre_digest.Statement.{statement}
 use Rattle.cases.proofs.centre_digest.Tie as tie
 
 abbrev Inv-loop : tie.InvT-loop
-Inv-loop centre sum₀ tail₀ k₀ sum tail k =
-    (k ≤ 8) × (tail + 4294967296 * k ≤ 4294967296 * 8) × (sum + 34359738368 * k ≤ 34359738368 * 8)
+Inv-loop centre sum₀ tail₀ k₀ sum tail k = Digesting 8 4294967296 sum tail k
 
 abbrev μ-loop : tie.MeasureT-loop
 μ-loop centre sum₀ tail₀ k₀ sum tail k = k

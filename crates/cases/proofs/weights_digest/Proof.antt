@@ -1,12 +1,11 @@
 -- After each turn the sums are at most a number for each place that was passed, so that neither wraps. The place falls.
-use Prim.Native.Nat.{_+_, _*_, _≤_}
 use native.Mathlib.Omega.{arith}
+use Rattle.case_io.specs.Digest.{Digesting}
 use Rattle.cases.proofs.weights_digest.Statement.{statement}
 use Rattle.cases.proofs.weights_digest.Tie as tie
 
 abbrev Inv-loop : tie.InvT-loop
-Inv-loop weights sum₀ tail₀ i₀ sum tail i =
-    (i ≤ 256) × (tail + 4294967296 * i ≤ 4294967296 * 256) × (sum + 1099511627776 * i ≤ 1099511627776 * 256)
+Inv-loop weights sum₀ tail₀ i₀ sum tail i = Digesting 256 4294967296 sum tail i
 
 abbrev μ-loop : tie.MeasureT-loop
 μ-loop weights sum₀ tail₀ i₀ sum tail i = i

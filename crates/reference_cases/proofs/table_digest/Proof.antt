@@ -1,12 +1,11 @@
 -- After each turn the sums are at most a number for each place that was passed, so that neither wraps. The place falls.
-use Prim.Native.Nat.{_+_, _*_, _≤_}
 use native.Mathlib.Omega.{arith}
+use Rattle.case_io.specs.Digest.{Digesting}
 use Rattle.reference_cases.proofs.table_digest.Statement.{statement}
 use Rattle.reference_cases.proofs.table_digest.Tie as tie
 
 abbrev Inv-loop : tie.InvT-loop
-Inv-loop table sum₀ tail₀ k₀ sum tail k =
-    (k ≤ 2048) × (tail + 4294967296 * k ≤ 4294967296 * 2048) × (sum + 8796093022208 * k ≤ 8796093022208 * 2048)
+Inv-loop table sum₀ tail₀ k₀ sum tail k = Digesting 2048 4294967296 sum tail k
 
 abbrev μ-loop : tie.MeasureT-loop
 μ-loop table sum₀ tail₀ k₀ sum tail k = k

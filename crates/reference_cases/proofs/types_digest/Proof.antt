@@ -1,11 +1,11 @@
 -- After each turn the sums are at most a number for each place that was passed, so that neither wraps. The place falls.
-use Prim.Native.Nat.{_+_, _*_, _≤_}
 use native.Mathlib.Omega.{arith}
+use Rattle.case_io.specs.Digest.{Digesting}
 use Rattle.reference_cases.proofs.types_digest.Statement.{statement}
 use Rattle.reference_cases.proofs.types_digest.Tie as tie
 
 abbrev Inv-loop : tie.InvT-loop
-Inv-loop types sum₀ tail₀ k₀ sum tail k = (k ≤ 8) × (tail + 256 * k ≤ 2048) × (sum + 2048 * k ≤ 16384)
+Inv-loop types sum₀ tail₀ k₀ sum tail k = Digesting 8 256 sum tail k
 
 abbrev μ-loop : tie.MeasureT-loop
 μ-loop types sum₀ tail₀ k₀ sum tail k = k

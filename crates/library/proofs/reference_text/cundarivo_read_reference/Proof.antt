@@ -9,7 +9,6 @@ use lib.ListN.{length}
 use lib.Seq.{length-take-le}
 use denote.Ref.{now}
 use Rattle.geometry.specs.Limits.{rowLimit, channelLimit}
-use Rattle.lists.specs.Filled.{filled}
 use Rattle.channel.specs.Channel.{channelTypes}
 use Rattle.reference.specs.Reference.{content}
 use Rattle.rows.specs.Rows.{Content}

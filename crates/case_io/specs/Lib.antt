@@ -1,0 +1,3 @@
+-- What the programs that run stored cases read, and what they keep of a list in one number.
+pub mod Numbers
+pub mod Digest
