@@ -1,6 +1,7 @@
 -- What the loop of `run` keeps from its start to its end, and what is made of it.
 --     Carried rows m n budget weights centre pair moves     the run from here is the whole run; X and the pair are those of the weights
 --     start-good, begins                                    the first weights sum to the total, and all is kept at the start
+--     centre-good                                           X is within its limit
 --     ends                                                  where the test for another move fails, the run is done
 --     more, apart                                           where it holds, a move is left and d² is above 0
 --     transfer-is, transfer-most                            t of a turn
@@ -97,8 +98,8 @@ module _ {rows : List ℤ} {m n budget : ℕ} {weights : List ℕ} {centre : Lis
         paired = here .paired;
       }
 
-  pub centre-good : CentreWithin centre
-  centre-good = subst CentreWithin (sym (here .centre-is)) (centre-within table (here .weights-good))
+  pub centre-good : CentreWithin n centre
+  centre-good = subst (CentreWithin n) (sym (here .centre-is)) (centre-within table (here .weights-good))
 
   module _ (goes : test ≡ true) where
     both : (separation total m n a w < difference total m n a w) × (moves < budget)

@@ -2,17 +2,18 @@
 -- at a place of a column is of the type at this place.
 --     typeOf-place         the type of a code stands at the place before its number
 --     typeOf-none          a code whose place is past the table has no type
+--     known-place          a code is known where its place is one of the table's
 --     number-read          a number of the type of a code, read from its column
---     tagBytes, tags-read  the tags one after the other, each in three places, and the tag read from them
+--     three-read           a tag in three places, read from the columns of its bytes
 --     codeOf-step          the code of a tag is of the type at a place, or among those after it
-use Prim.Native.Nat.{ℕ, zero, suc, _+_, _-_, _*_, _≤_, _<_}
-use mathlib.Core.Path.{_≡_, refl, sym, ap, _∙_}
+use Prim.Native.Nat.{ℕ, zero, suc, _+_, _-_, _≤_, _<_}
+use mathlib.Core.Path.{_≡_, refl, sym, ap, ap₂, _∙_}
 use mathlib.Core.Bool.{Bool, true, cond, _&&_}
-use mathlib.Core.List.{List, [], _∷_, _++_, map}
+use mathlib.Core.List.{List, [], _∷_, map}
 use native.Mathlib.Numerals.{add-one}
 use native.Mathlib.Omega.{arith}
-use borrow.Author.Tests.{eqb-true, eq-eqb, ne-eqb}
-use lib.Dec.{eqb}
+use borrow.Author.Tests.{eqb-true, eq-eqb, ne-eqb, le-ltb}
+use lib.Dec.{eqb, leb, ltb}
 use lib.IntN.{ℤ, natAbs}
 use lib.ListN.{length, getD, drop, List·getD-map, List·getD-eq-default}
 use lib.Seq.{drop-cons}
@@ -21,8 +22,8 @@ use Rattle.integers.specs.Absolute.{back32}
 use Rattle.integers.specs.Reading.{back}
 use Rattle.text.specs.Parts.{same}
 use Rattle.integers.specs.Tests.{both}
-use Rattle.channel.specs.Channel.{ChannelType, channelTypes, codeOf, noType, typeOf}
-use Rattle.channel.specs.ChannelLaws.{rangeLimit}
+use Rattle.channel.specs.Channel.{ChannelType, channelTypes, codeOf, noType, typeOf, known}
+use Rattle.channel.specs.ChannelLaws.{rangeLimit, house-sound, known-type}
 use Rattle.lists.specs.Padded.{padded}
 
 -- ---- the place of a code
@@ -54,10 +55,26 @@ typeOf-place code h =
 
 -- ---- what is read from a column
 
+-- the code of a type is above 0, and past the table there is none
+some-code : (at : ℕ) → leb 1 (getD channelTypes at noType .code) ≡ ltb at 8
+unfolding channelTypes
+some-code zero = refl
+some-code (suc zero) = refl
+some-code (suc (suc zero)) = refl
+some-code (suc (suc (suc zero))) = refl
+some-code (suc (suc (suc (suc zero)))) = refl
+some-code (suc (suc (suc (suc (suc zero))))) = refl
+some-code (suc (suc (suc (suc (suc (suc zero)))))) = refl
+some-code (suc (suc (suc (suc (suc (suc (suc zero))))))) = refl
+some-code (suc (suc (suc (suc (suc (suc (suc (suc at)))))))) = sym (le-ltb (suc (suc (suc (suc (suc (suc (suc (suc at)))))))) 8 (omega arith))
+
 module _ (code at : ℕ) (e : typeOf channelTypes code ≡ getD channelTypes at noType) where
   pub typeOf-none : 8 ≤ at → typeOf channelTypes code ≡ noType
   unfolding channelTypes
   typeOf-none h = e ∙ List·getD-eq-default channelTypes noType h
+
+  pub known-place : ltb at 8 ≡ known channelTypes code
+  known-place = sym (known-type channelTypes house-sound code ∙ ap (λ (t : ChannelType). leb 1 (t .code)) e ∙ some-code at)
 
   pub number-read : (f : ChannelType → ℤ) → natAbs (f (typeOf channelTypes code)) ≤ rangeLimit
       → back w32 (getD (map f channelTypes) at (f noType)) ≡ f (typeOf channelTypes code)
@@ -67,35 +84,15 @@ module _ (code at : ℕ) (e : typeOf channelTypes code ≡ getD channelTypes at 
 
 -- ---- the tags
 
-unfoldable pub tagBytes : List ChannelType → List ℕ
-unfolding padded
-tagBytes [] = []
-tagBytes (t ∷ types) = padded 3 (t .tag) ++ tagBytes types
-
-abbrev pub three : List ℕ → ℕ → List ℕ
-three l k = getD l k 0 ∷ getD l (k + 1) 0 ∷ getD l (k + 2) 0 ∷ []
-
-padded-three : (l : List ℕ) → padded 3 l ≡ three l 0
+padded-three : (l : List ℕ) → getD l 0 0 ∷ getD l 1 0 ∷ getD l 2 0 ∷ [] ≡ padded 3 l
 unfolding padded
 padded-three [] = refl
 padded-three (a ∷ []) = refl
 padded-three (a ∷ b ∷ []) = refl
 padded-three (a ∷ b ∷ c ∷ l) = refl
 
-pub tags-read : (types : List ChannelType) (at : ℕ) → three (tagBytes types) (at * 3) ≡ padded 3 (getD types at noType .tag)
-unfolding tagBytes padded
-tags-read [] at = refl
-tags-read (t ∷ types) zero = ap (λ p. three (p ++ tagBytes types) 0) (padded-three (t .tag)) ∙ sym (padded-three (t .tag))
-tags-read (t ∷ types) (suc at) =
-    let n : suc at * 3 ≡ suc (suc (suc (at * 3))) = omega arith in
-    let n₁ : suc (suc (suc (at * 3))) + 1 ≡ suc (suc (suc (at * 3 + 1))) = omega arith in
-    let n₂ : suc (suc (suc (at * 3))) + 2 ≡ suc (suc (suc (at * 3 + 2))) = omega arith in
-    let whole = three (t .tag) 0 ++ tagBytes types in
-    ap (λ p. three (p ++ tagBytes types) (suc at * 3)) (padded-three (t .tag))
-    ∙ ap (three whole) n
-    ∙ ap (λ k. getD whole (suc (suc (suc (at * 3)))) 0 ∷ getD whole k 0 ∷ getD whole (suc (suc (suc (at * 3))) + 2) 0 ∷ []) n₁
-    ∙ ap (λ k. getD (tagBytes types) (at * 3) 0 ∷ getD (tagBytes types) (at * 3 + 1) 0 ∷ getD whole k 0 ∷ []) n₂
-    ∙ tags-read types at
+pub three-read : {a b c : ℕ} (l : List ℕ) → a ≡ getD l 0 0 → b ≡ getD l 1 0 → c ≡ getD l 2 0 → a ∷ b ∷ c ∷ [] ≡ padded 3 l
+three-read l first second third = ap₂ _∷_ first (ap₂ (λ b c. b ∷ c ∷ []) second third) ∙ padded-three l
 
 pub codeOf-step : (types : List ChannelType) (tag : List ℕ) (at : ℕ) → at < length types
     → codeOf (drop at types) tag

@@ -4,6 +4,7 @@
 --     codeOf types tag      the code of the type with this tag, 0 where there is none
 --     noType                what stands for the type of a code that no type has
 --     typeOf types code     the type with this code
+--     tagOf types code      the tag of the type with this code
 --     known types code      there is a type with this code
 use Prim.Native.Nat.{ℕ}
 use mathlib.Core.Bool.{Bool, false, cond, _||_}
@@ -43,6 +44,9 @@ noType = record { code = 0; tag = []; low = pos 0; high = pos 0 }
 unfoldable pub typeOf : List ChannelType → ℕ → ChannelType
 typeOf [] code = noType
 typeOf (t ∷ types) code = cond (eqb (t .code) code) t (typeOf types code)
+
+abbrev pub tagOf : List ChannelType → ℕ → List ℕ
+tagOf types code = typeOf types code .tag
 
 unfoldable pub known : List ChannelType → ℕ → Bool
 known [] code = false

@@ -5,26 +5,31 @@
 --     soundTypes types          each type is sound, and no two have the same code or the same tag
 --     house-sound               document 01's table passes the test
 --     known-code                the code that a tag has is known
---     type-found                the type of a code is a sound type with this code, or there is none
+--     Found, type-found         the type of a code is a sound type with this code, or there is none
+--     known-type                a code is known where its type has a code above 0
 --     known-some                a known code is above 0
 --     tag-label                 the tag of a known code is a label
+--     Known types code          the code is known
+--     tags-free                 no byte that stands in no label stands in the tags of known codes
 --     range-within, range-zero  every range is within 4,000 of 0, and has 0
 --     code-tag, tag-code        a code has one tag, and a tag one code
 use Prim.Native.Nat.{ℕ, suc, _≤_}
 use mathlib.Core.Path.{_≡_, refl, sym, ap, subst, _∙_}
 use mathlib.Core.Bool.{Bool, true, false, not, cond, _&&_, _||_, or-true}
-use mathlib.Core.List.{List, [], _∷_}
+use mathlib.Core.List.{List, [], _∷_, map}
 use mathlib.Core.Logic.{_⊎_, inl, inr, ⊎-elim}
 use native.Mathlib.Omega.{arith}
 use borrow.Author.Tests.{leb-true, eqb-true, eq-eqb, not-true}
 use lib.Dec.{eqb, leb}
 use lib.IntN.{ℤ, pos, negsuc, negℤ, natAbs}
 use lib.Signed.{leZ}
-use Rattle.text.specs.Parts.{same}
+use Rattle.text.specs.Parts.{same, allFree}
 use Rattle.integers.specs.Tests.{both, clash}
+use Rattle.lists.specs.Each.{Each, each-head, each-tail}
 use Rattle.text.specs.PartsLaws.{same-refl, same-eq}
-use Rattle.text.specs.Label.{isLabel, labelBytes}
-use Rattle.channel.specs.Channel.{ChannelType, channelTypes, codeOf, noType, typeOf, known}
+use Rattle.text.specs.Label.{isLabel, isLabelByte, labelBytes}
+use Rattle.text.specs.LabelLaws.{label-free}
+use Rattle.channel.specs.Channel.{ChannelType, channelTypes, codeOf, noType, typeOf, tagOf, known}
 
 -- ---- the test
 
@@ -117,6 +122,17 @@ type-found (t ∷ types) h code = go (eqb (t .code) code) refl (type-found types
     go true e r = inl (first t types h .sound, eqb-true (t .code) code e)
     go false e r = r
 
+pub known-type : (types : List ChannelType) → soundTypes types ≡ true → (code : ℕ) → known types code ≡ leb 1 (typeOf types code .code)
+unfolding typeOf known
+known-type [] h code = refl
+known-type (t ∷ types) h code = go (eqb (t .code) code) (known-type types (first t types h .rest) code)
+  where
+    go : (b : Bool) → known types code ≡ leb 1 (typeOf types code .code) → (b || known types code) ≡ leb 1 (cond b t (typeOf types code) .code)
+    go true r =
+        let form = both (leb 1 (t .code) && isLabel (t .tag)) (soundRange t) (first t types h .sound) .0 in
+        sym (both (leb 1 (t .code)) (isLabel (t .tag)) form .0)
+    go false r = r
+
 module _ (types : List ChannelType) (h : soundTypes types ≡ true) (code : ℕ) where
   known-sound : known types code ≡ true → (soundType (typeOf types code) ≡ true) × (typeOf types code .code ≡ code)
   known-sound k = ⊎-elim (λ f. f) (λ n. clash k (n .1)) (type-found types h code)
@@ -145,6 +161,18 @@ module _ (types : List ChannelType) (h : soundTypes types ≡ true) (code : ℕ)
   range-within =
       let e = ends (typeOf types code) range-sound in
       (low-within (typeOf types code .low) (e .0), high-within (typeOf types code .high) (e .1))
+
+abbrev pub Known : List ChannelType → ℕ → Type 0
+Known types code = known types code ≡ true
+
+pub tags-free : (types : List ChannelType) → soundTypes types ≡ true → (c : ℕ) → isLabelByte c ≡ false → (codes : List ℕ) → Each (Known types) 0 codes
+    → allFree c (map (tagOf types) codes) ≡ true
+unfolding allFree
+tags-free types sound c h [] known-each = refl
+tags-free types sound c h (code ∷ codes) known-each =
+    let here = each-head (Known types) 0 code codes known-each in
+    rw (label-free c (tagOf types code) h (tag-label types sound code here))
+    (tags-free types sound c h codes (each-tail (Known types) 0 code codes known-each))
 
 -- ---- a code has one tag, and a tag one code
 

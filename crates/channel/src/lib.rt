@@ -1,11 +1,11 @@
 // Document 01, "Channel types": constant tables of code, tag, low and high. A type is found by its tag, compared as bytes; its
 // range and its tag are found by its code. Code 0 stands for no type.
 ghost use mathlib.Core.Path.{_≡_};
-ghost use Prim.Native.Nat.{_<_};
-ghost use lib.ListN.{getD};
-ghost use Rattle.channel.specs.Channel.{channelTypes, codeOf, typeOf, noType};
-ghost use Rattle.channel.specs.Answers.{rangeOf, tagIn, tagAt};
-use text::parts::same_bytes;
+ghost use Prim.Native.Nat.{_≤_, _<_};
+ghost use lib.ListN.{getD, take};
+ghost use Rattle.text.specs.Parts.{same};
+ghost use Rattle.channel.specs.Channel.{channelTypes, codeOf, typeOf, tagOf, known, noType};
+ghost use Rattle.channel.specs.Answers.{rangeOf, tagLimit, tagIn, tagAt};
 
 const TYPES: usize = 8;
 
@@ -14,10 +14,14 @@ pub const TAG_MOST: usize = 3;
 
 const CODES: [u8; 8] = [1, 2, 3, 4, 5, 6, 7, 8];
 
-const TAG_LENGTHS: [usize; 8] = [3, 2, 2, 3, 3, 2, 3, 3];
+const TAG_LENGTHS: [u8; 8] = [3, 2, 2, 3, 3, 2, 3, 3];
 
-// the tags one after the other, each in three places: TOC, TC, IC, CND, TMP, PH, FLW, ORP
-const TAGS: [u8; 24] = *b"TOCTC\0IC\0CNDTMPPH\0FLWORP";
+// the first, second and third bytes of the tags TOC, TC, IC, CND, TMP, PH, FLW, ORP
+const TAG_FIRST: [u8; 8] = *b"TTICTPFO";
+
+const TAG_SECOND: [u8; 8] = *b"OCCNMHLR";
+
+const TAG_THIRD: [u8; 8] = *b"C\0\0DP\0WP";
 
 const LOW: [i32; 8] = [0, 0, 0, 0, -200, 0, 0, -2000];
 
@@ -48,6 +52,13 @@ fn place(code: u8) -> usize
     (code - 1) as usize
 }
 
+// Whether a code is that of a type.
+pub fn is_known(code: u8) -> bool
+    ensures { λ r. ⌜ r ≡ known channelTypes code ⌝ }
+{
+    place(code) < TYPES
+}
+
 // The range of a type, 0 to 0 for a code of no type.
 pub fn range_of(code: u8) -> Range
     ensures { λ r. ⌜ r ≡ rangeOf channelTypes code ⌝ }
@@ -66,10 +77,9 @@ fn tag_at(at: usize) -> Tag
     requires { ⌜ at < 8 ⌝ }
     ensures { λ r. ⌜ r ≡ tagAt channelTypes at ⌝ }
 {
-    let from = at * TAG_MOST;
     Tag {
-        bytes: [TAGS[from], TAGS[from + 1], TAGS[from + 2]],
-        length: TAG_LENGTHS[at],
+        bytes: [TAG_FIRST[at], TAG_SECOND[at], TAG_THIRD[at]],
+        length: TAG_LENGTHS[at] as usize,
     }
 }
 
@@ -87,16 +97,47 @@ pub fn tag_of(code: u8) -> Tag
     tag_at(at)
 }
 
+// Whether a field has the bytes of a tag.
+fn has_bytes(field: &[u8], tag: Tag) -> bool
+    requires { ⌜ tag .length ≤ tagLimit ⌝ }
+    ensures { λ r. ⌜ r ≡ same (take (tag .length) (tag .bytes)) (now (field .entry)) ⌝ }
+{
+    let bytes = tag.bytes;
+    if field.len() != tag.length {
+        return false;
+    }
+    if field.len() == 0 {
+        return true;
+    }
+    if field[0] != bytes[0] {
+        return false;
+    }
+    if field.len() == 1 {
+        return true;
+    }
+    if field[1] != bytes[1] {
+        return false;
+    }
+    if field.len() == 2 {
+        return true;
+    }
+    field[2] == bytes[2]
+}
+
+// Whether a field is the tag of the type with this code.
+pub fn is_tag(field: &[u8], code: u8) -> bool
+    ensures { λ r. ⌜ r ≡ same (tagOf channelTypes code) (now (field .entry)) ⌝ }
+{
+    has_bytes(field, tag_of(code))
+}
+
 // The code of the type with this tag, 0 where there is none.
 pub fn find_tag(field: &[u8]) -> u8
     ensures { λ r. ⌜ r ≡ codeOf channelTypes (now (field .entry)) ⌝ }
 {
     let mut at = 0;
     while at < TYPES {
-        let tag = tag_at(at);
-        let bytes = tag.bytes;
-        let length = tag.length;
-        if same_bytes(&bytes[..length], field) {
+        if has_bytes(field, tag_at(at)) {
             return CODES[at];
         }
         at += 1;

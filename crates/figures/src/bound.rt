@@ -46,7 +46,7 @@ fn square_of_centre(centre: i64) -> u64
 
 // The squared length of X.
 fn squared_length_of_centre(centre: &[i64; CHANNELS], n: usize) -> u64
-    requires { ⌜ CentreWithin (now centre) × (n ≤ channelLimit) ⌝ }
+    requires { ⌜ CentreWithin n (now centre) × (n ≤ channelLimit) ⌝ }
     ensures { λ r. ⌜ Bounded (channelLimit * centreLimit total * centreLimit total) r (squaredLength n (centreOf (now (centre .entry)))) ⌝ }
 {
     let mut sum: u64 = 0;

@@ -7,7 +7,6 @@ ghost use Rattle.geometry.specs.Limits.{total, coordinate, coordinateLimit, cen
 ghost use Rattle.geometry.specs.Places.{centreOf};
 ghost use Rattle.integers.specs.Reading.{Bounded};
 ghost use Rattle.geometry.specs.Asked.{CentreWithin, RowAt};
-use crate::limits::CHANNELS;
 use crate::limits::TOTAL;
 use crate::limits::channels;
 
@@ -21,8 +20,8 @@ fn scaled_square(a: i32, centre: i64) -> u64
 }
 
 // s of a row.
-pub fn scaled_squared_distance(rows: &[i32], n: usize, row: usize, centre: &[i64; CHANNELS]) -> u64
-    requires { ⌜ RowAt (now rows) n row × CentreWithin (now centre) ⌝ }
+pub fn scaled_squared_distance(rows: &[i32], n: usize, row: usize, centre: &[i64]) -> u64
+    requires { ⌜ RowAt (now rows) n row × CentreWithin n (now centre) ⌝ }
     ensures { λ r. ⌜ Bounded (distanceLimit total) r (scaledSquaredDistance total n (centreOf (now (centre .entry))) (coordinate (now (rows .entry)) n row)) ⌝ }
 {
     let base = row * n;

@@ -4,7 +4,7 @@ ghost use Prim.Native.Nat.{_≤_};
 ghost use lib.Dec.{leb};
 ghost use lib.IntN.{natAbs};
 ghost use lib.ListN.{length};
-ghost use Rattle.geometry.specs.Limits.{channelLimit, coordinateLimit, rowLimit, coordinatesWithin, rowsWithin};
+ghost use Rattle.geometry.specs.Limits.{channelLimit, coordinateLimit, rowLimit, placesWithin, rowsWithin};
 
 // D
 pub const TOTAL: u32 = 65536;
@@ -20,6 +20,12 @@ pub const PLACES: usize = ROWS * CHANNELS;
 
 // how far a coordinate may be from 0
 pub const COORDINATE: i32 = 4000;
+
+// how far a place of X may be from 0
+pub const CENTRE_MOST: i64 = 262_144_000;
+
+// the largest s, M and L
+pub const DISTANCE_MOST: u64 = 2_199_023_255_552_000_000;
 
 // the largest budget
 pub const BUDGET_MOST: u32 = 1_000_000;
@@ -44,7 +50,7 @@ fn coordinate_within(coordinate: i32) -> bool
 // Whether the first `count` places are within the coordinate limit.
 fn coordinates_within(rows: &[i32], count: usize) -> bool
     requires { ⌜ count ≤ length (now rows) ⌝ }
-    ensures { λ r. ⌜ r ≡ coordinatesWithin count (now (rows .entry)) ⌝ }
+    ensures { λ r. ⌜ r ≡ placesWithin coordinateLimit count (now (rows .entry)) ⌝ }
 {
     let mut i = 0;
     while i < count {

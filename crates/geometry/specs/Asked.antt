@@ -1,5 +1,5 @@
 -- What the functions below the public calls ask of their arguments, and give. No public call asks anything.
---     CentreWithin x            every coordinate is within the limit on X
+--     CentreWithin n x          there are n coordinates, and they are within the limit on X
 --     RowAt rows n i            row i of the table lies in the list and its coordinates are within limits
 --     TableWithin l rows m n    n, m, the places and the coordinates are within limits, for a row limit l
 --     Table rows m n            the same for the row limit that the contracts fix
@@ -15,8 +15,9 @@ use Rattle.geometry.specs.Figures.{scaledCentre}
 use Rattle.geometry.specs.Move.{weightOf}
 use Rattle.geometry.specs.Limits.{total, rowLimit, channelLimit, coordinateLimit, centreLimit, coordinate}
 
-pub record CentreWithin (x : List ℤ) : Type 0 where
-  pub bound : (k : ℕ) → natAbs (getD x k (pos 0)) ≤ centreLimit total
+pub record CentreWithin (n : ℕ) (x : List ℤ) : Type 0 where
+  pub places : n ≤ length x
+  pub bound : (k : ℕ) → k < n → natAbs (getD x k (pos 0)) ≤ centreLimit total
 
 pub record RowAt (rows : List ℤ) (n i : ℕ) : Type 0 where
   pub channels : n ≤ channelLimit

@@ -1,15 +1,17 @@
 -- Laws of the figures, for any rows a, weights w and total D above 0 that the weights sum to.
 --     squaredLength-cong, squaredLength-bound        only the first n coordinates count; a bound from one on each
+--     squaredLength-zero                             it is 0 where they are
 --     length-ℤ                                       a squared length in ℤ
+--     distance-cong                                  only the first n coordinates of X and of the row count in s
 --     distance-centreList                            s by the list of X
---     centre-most, centre-within                     X is within its limit
+--     centre-most, centre-at-most, centre-within     X is within its limit
 --     distance-most                                  s is within its limit
 --     moment                                         D Σ w |q a - Y|² ≡ q² L + |q X - D Y|²
 --     lower-bound-ℤ                                  L in ℤ: nothing is cut off
 --     centre-length-most                             what is subtracted in L is at most what it is subtracted from
 --     mean-distance                                  Σ w s ≡ D L
 use Prim.Native.Nat.{ℕ, _+_, _*_, _≤_, _<_, zero-le}
-use mathlib.Core.Path.{_≡_, sym, _∙_, ap, ap₂}
+use mathlib.Core.Path.{_≡_, refl, sym, _∙_, ap, ap₂}
 use mathlib.Core.List.{List}
 use native.Mathlib.Omega.{arith}
 use native.Mathlib.Nat.{mul-le-mul, mul-le-mul-left, mul-comm, mul-assoc, eq-of-mul-eq-mul-left}
@@ -25,7 +27,7 @@ use Rattle.geometry.specs.Move.{weightOf}
 use Rattle.geometry.specs.Limits.{channelLimit, total, coordinateLimit, centreLimit, coordinate}
 use Rattle.geometry.specs.Places.{centreList, centreOf, weightsTotal}
 use Rattle.geometry.specs.Asked.{CentreWithin, Table, WeightsOf}
-use Rattle.geometry.specs.PlacesLaws.{centreList-at, centreList-most}
+use Rattle.geometry.specs.PlacesLaws.{length-centreList, centreList-at, centreList-most}
 
 -- ---- squared lengths
 
@@ -45,11 +47,14 @@ pub length-ℤ : (n : ℕ) (v : ℕ → ℤ) → pos (squaredLength n v) ≡ sum
 unfolding squaredLength
 length-ℤ n v = pos-sum n (λ k. square (v k)) ∙ sumℤ-cong n (λ k l. square-pos (v k))
 
+pub distance-cong : (D n : ℕ) {X Y p q : ℕ → ℤ} → ((k : ℕ) → k < n → X k ≡ Y k) → ((k : ℕ) → k < n → p k ≡ q k)
+    → scaledSquaredDistance D n X p ≡ scaledSquaredDistance D n Y q
+unfolding scaledSquaredDistance
+distance-cong D n e f = squaredLength-cong n (λ k l. ap₂ (λ (x y : ℤ). pos D *ℤ y -ℤ x) (e k l) (f k l))
+
 pub distance-centreList : (D n : ℕ) (X p : ℕ → ℤ) → n ≤ channelLimit
     → scaledSquaredDistance D n (centreOf (centreList n X)) p ≡ scaledSquaredDistance D n X p
-unfolding scaledSquaredDistance
-distance-centreList D n X p most =
-    squaredLength-cong n (λ k l. ap (λ (x : ℤ). pos D *ℤ p k -ℤ x) (centreList-at n X k most l))
+distance-centreList D n X p most = distance-cong D n (λ k l. centreList-at n X k most l) (λ k l. refl)
 
 -- ---- limits
 
@@ -76,9 +81,12 @@ module _ {rows : List ℤ} {m n : ℕ} {ws : List ℕ} (t : Table rows m n) (g :
   centre-at-most k l =
       centre-most total m coordinateLimit k (coordinate rows n) (weightOf ws) (g .sum) (λ i h. t .bound i k h l)
 
-  pub centre-within : CentreWithin (centreList n (scaledCentre (coordinate rows n) (weightOf ws) m))
+  pub centre-within : CentreWithin n (centreList n (scaledCentre (coordinate rows n) (weightOf ws) m))
   centre-within =
-      record { bound = centreList-most n (centreLimit total) (scaledCentre (coordinate rows n) (weightOf ws) m) (t .channels) centre-at-most }
+      record {
+        places = omega (arith, length-centreList n (scaledCentre (coordinate rows n) (weightOf ws) m), t .channels);
+        bound = λ k l. centreList-most n (centreLimit total) (scaledCentre (coordinate rows n) (weightOf ws) m) (t .channels) centre-at-most k;
+      }
 
 -- ---- the moment of weighted rows about any point
 

@@ -4,7 +4,7 @@
 --     lengthLimit, separationLimit                                    the limits on a row's squared length and on d²
 --     differenceLimit D                                               the limit on g
 --     coordinate rows n i k                                           row i's coordinate in channel k of a table of n channels
---     coordinatesWithin c rows                                        the first c places are within the coordinate limit of 0
+--     placesWithin bound c l                                          the first c places of l are within the bound of 0
 --     rowsWithin limit rows m n                                       n, m, the places and the coordinates are within limits
 use Prim.Native.Nat.{ℕ, zero, suc, _+_, _*_}
 use mathlib.Core.Bool.{Bool, true, _&&_}
@@ -52,12 +52,12 @@ differenceLimit D = separationLimit * D
 unfoldable pub coordinate : List ℤ → ℕ → ℕ → ℕ → ℤ
 coordinate rows n i k = getD rows (i * n + k) (pos 0)
 
-unfoldable pub coordinatesWithin : ℕ → List ℤ → Bool
-coordinatesWithin zero rows = true
-coordinatesWithin (suc c) rows = coordinatesWithin c rows && leb (natAbs (getD rows c (pos 0))) coordinateLimit
+unfoldable pub placesWithin : ℕ → ℕ → List ℤ → Bool
+placesWithin bound zero l = true
+placesWithin bound (suc c) l = placesWithin bound c l && leb (natAbs (getD l c (pos 0))) bound
 
 -- n from 1 to 8, m from 1 to the row limit, at least m times n places, each of those within 4,000 of 0
 unfoldable pub rowsWithin : ℕ → List ℤ → ℕ → ℕ → Bool
 rowsWithin limit rows m n =
     (leb 1 n && leb n channelLimit)
-    && ((leb 1 m && leb m limit) && (leb (m * n) (length rows) && coordinatesWithin (m * n) rows))
+    && ((leb 1 m && leb m limit) && (leb (m * n) (length rows) && placesWithin coordinateLimit (m * n) rows))

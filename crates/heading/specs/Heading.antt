@@ -1,10 +1,11 @@
 -- Document 01, "Texts": the heading of a reference text or a record, a word, n and n tags, for any word, table of types and limit
 -- on n: read, printed, and what may stand in it.
+--     countWithin limit number         this number, if there is one from 1 to the limit, else 0
 --     channelCount limit field         the number of channels that the field states, 0 where it states none from 1 to the limit
+--     andCode code codes               the code before the others, if it is that of a type
 --     codesOf types tags               the codes of the tags, if each is known
 --     headingFields word .. fields     the codes of a heading with these fields, if they are those of one
 --     headingOf word limit types line  the codes of a heading, if the line is one
---     tagOf types code                 the tag of a code
 --     printHeading word types codes    the line of a heading
 --     CodesWithin limit types codes    the codes that a heading may state
 use Prim.Native.Nat.{ℕ, zero, suc, _≤_, _<_}
@@ -17,7 +18,7 @@ use lib.IntN.{ℤ, pos, negsuc}
 use lib.ListN.{length, getD}
 use Rattle.text.specs.Parts.{comma, cut, join, same}
 use Rattle.text.specs.Number.{plain, print}
-use Rattle.channel.specs.Channel.{ChannelType, codeOf, typeOf, known}
+use Rattle.channel.specs.Channel.{ChannelType, codeOf, tagOf, known}
 
 abbrev pub countWithin : ℕ → Option ℤ → ℕ
 countWithin limit none = 0
@@ -46,9 +47,6 @@ headingFields word limit types (first ∷ count ∷ tags) =
 
 unfoldable pub headingOf : List ℕ → ℕ → List ChannelType → List ℕ → Option (List ℕ)
 headingOf word limit types line = headingFields word limit types (cut comma line)
-
-abbrev pub tagOf : List ChannelType → ℕ → List ℕ
-tagOf types code = typeOf types code .tag
 
 unfoldable pub printHeading : List ℕ → List ChannelType → List ℕ → List ℕ
 printHeading word types codes = join comma (word ∷ print (pos (length codes)) ∷ map (tagOf types) codes)

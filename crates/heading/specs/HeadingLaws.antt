@@ -21,9 +21,9 @@ use Rattle.text.specs.Number.{plain, print}
 use Rattle.text.specs.NumberLaws.{plain-print, print-plain, print-free}
 use Rattle.text.specs.Label.{isLabel, isLabelByte}
 use Rattle.text.specs.LabelLaws.{label-free, no-digit, no-hyphen}
-use Rattle.channel.specs.Channel.{ChannelType, codeOf, known}
-use Rattle.channel.specs.ChannelLaws.{soundTypes, code-tag, tag-code, known-code, known-some, tag-label}
-use Rattle.heading.specs.Heading.{countWithin, channelCount, andCode, codesOf, headingFields, headingOf, tagOf, printHeading, CodesWithin}
+use Rattle.channel.specs.Channel.{ChannelType, codeOf, tagOf}
+use Rattle.channel.specs.ChannelLaws.{soundTypes, Known, code-tag, tag-code, known-code, known-some, tags-free}
+use Rattle.heading.specs.Heading.{countWithin, channelCount, andCode, codesOf, headingFields, headingOf, printHeading, CodesWithin}
 
 module _ (limit : ℕ) where
   -- a count from 1 to the limit is the printing of its number
@@ -54,17 +54,14 @@ andCode-some (suc k) none codes e = unlike e
 andCode-some (suc k) (some rest) codes e = (k, rest, refl, refl, cc)
 
 module _ (types : List ChannelType) where
-  abbrev Known : ℕ → Type 0
-  Known code = known types code ≡ true
-
-  codes-known : (tags : List (List ℕ)) (codes : List ℕ) → codesOf types tags ≡ some codes → (length codes ≡ length tags) × Each Known 0 codes
+  codes-known : (tags : List (List ℕ)) (codes : List ℕ) → codesOf types tags ≡ some codes → (length codes ≡ length tags) × Each (Known types) 0 codes
   unfolding codesOf
   codes-known [] codes e = let empty : [] ≡ codes = cc in rw (← empty) (refl, λ k h. absurd (omega arith))
   codes-known (tag ∷ tags) codes e =
       let first = andCode-some (codeOf types tag) (codesOf types tags) codes e in
       let others = codes-known tags (first .1) (first .3) in
       rw (first .4)
-      (ap suc (others .0), each-cons Known 0 (suc (first .0)) (first .1) (known-code types tag (first .0) (first .2)) (others .1))
+      (ap suc (others .0), each-cons (Known types) 0 (suc (first .0)) (first .1) (known-code types tag (first .0) (first .2)) (others .1))
 
   fields-sound : (word : List ℕ) (limit : ℕ) (first count : List ℕ) (tags : List (List ℕ)) (codes : List ℕ)
       → headingFields word limit types (first ∷ count ∷ tags) ≡ some codes
@@ -116,15 +113,6 @@ module _ (types : List ChannelType) (types-sound : soundTypes types ≡ true) wh
       coded zero h = absurd (omega arith)
       coded (suc k) h = refl
 
-  tags-free : (c : ℕ) → isLabelByte c ≡ false → (codes : List ℕ) → Each (Known types) 0 codes
-      → allFree c (map (tagOf types) codes) ≡ true
-  unfolding allFree
-  tags-free c h [] known-each = refl
-  tags-free c h (code ∷ codes) known-each =
-      let here = each-head (Known types) 0 code codes known-each in
-      rw (label-free c (tagOf types code) h (tag-label types types-sound code here))
-      (tags-free c h codes (each-tail (Known types) 0 code codes known-each))
-
   module _ (word : List ℕ) (limit : ℕ) where
     fields-printed : (fields : List (List ℕ)) (codes : List ℕ) → headingFields word limit types fields ≡ some codes
         → word ∷ print (pos (length codes)) ∷ map (tagOf types) codes ≡ fields
@@ -144,7 +132,7 @@ module _ (types : List ChannelType) (types-sound : soundTypes types ≡ true) wh
     unfolding allFree
     fields-free labelled c h codes within =
         rw (label-free c word h labelled, print-free c (no-digit c h) (no-hyphen c h) (pos (length codes)))
-        (tags-free c h codes (within .each-known))
+        (tags-free types types-sound c h codes (within .each-known))
 
     pub heading-free : isLabel word ≡ true → (c : ℕ) → isLabelByte c ≡ false → (comma ≡ c → ⊥) → (codes : List ℕ) → CodesWithin limit types codes
         → free c (printHeading word types codes) ≡ true

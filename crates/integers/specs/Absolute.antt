@@ -14,16 +14,18 @@
 --     fits-abs                   the bound of an integer that fits
 --     within, within-not         natAbs z ≤ B, by the tests - B ≤ z ≤ B, or by the failed tests z < - B and B < z
 --     above, under, above-not, under-not    B < natAbs z, by the test that says so
+--     low-test, high-test        the test natAbs z ≤ B of a signed value, by its reading's tests z < - B and then z ≤ B
 --     abs-nonneg, abs-negative   z by its absolute value and the test of its sign
 -- A worked call stands at the end.
 use mathlib.Core.Path.{_≡_, refl, sym, _∙_, ap, subst}
 use mathlib.Core.Logic.{_↔_}
-use mathlib.Core.Bool.{true, false}
+use mathlib.Core.Bool.{Bool, true, false}
 use Prim.Native.Nat.{ℕ, zero, suc, _+_, _*_, _^_, _≤_, _<_, zero-le}
 use native.Mathlib.Nat.{le-refl, mul-suc, suc-mul, mul-le-mul, mul-mul-mul-comm}
 use native.Mathlib.Decide.{decLe}
 use native.Mathlib.Omega.{arith}
-use lib.Dec.{T, ltb→lt}
+use borrow.Author.Tests.{le-leb, lt-leb}
+use lib.Dec.{T, leb, ltb→lt}
 use lib.IntN.{ℤ, pos, negsuc, negℤ, natAbs, _+ℤ_, _-ℤ_, _*ℤ_}
 use lib.Signed.{leZ, ltZ, natAbs-le}
 use mir.Syntax.{Width, w32, w64}
@@ -159,6 +161,20 @@ module _ (z : ℤ) (B : ℕ) where
 
   pub under-not : leZ (negℤ (pos B)) z ≡ false → B < natAbs z
   under-not e = abs-under (leZ-false (negℤ (pos B)) z e)
+
+-- a value whose reading is below - B is not within B of 0, and any other is exactly when its reading is at most B
+module _ (w : Width) (z : ℤ) (f : SFits w z) (B : ℕ) where
+  pub low-test : ltZ (toZ w (ofZ w z)) (negℤ (pos B)) ≡ true → false ≡ leb (natAbs z) B
+  low-test t = sym (lt-leb (natAbs z) B (under z B (ap (λ x. ltZ x (negℤ (pos B))) (sym (toZ-ofZ f)) ∙ t)))
+
+  pub high-test : ltZ (toZ w (ofZ w z)) (negℤ (pos B)) ≡ false → leZ (toZ w (ofZ w z)) (pos B) ≡ leb (natAbs z) B
+  high-test t = ap (λ x. leZ x (pos B)) (toZ-ofZ f) ∙ go (leZ z (pos B)) refl
+    where
+      go : (b : Bool) → leZ z (pos B) ≡ b → b ≡ leb (natAbs z) B
+      go true e =
+          let low = ltZ-false z (negℤ (pos B)) (ap (λ x. ltZ x (negℤ (pos B))) (sym (toZ-ofZ f)) ∙ t) in
+          sym (le-leb (natAbs z) B (abs-le z B .1 (low, leZ-true z (pos B) e)))
+      go false e = sym (lt-leb (natAbs z) B (above-not z B e))
 
 pub abs-nonneg : (z : ℤ) → ltZ z (pos 0) ≡ false → z ≡ pos (natAbs z)
 abs-nonneg (pos n) e = refl

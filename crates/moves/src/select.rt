@@ -6,11 +6,10 @@ ghost use Rattle.geometry.specs.Asked.{CentreWithin, Table, WeightsOf};
 ghost use Rattle.moves.specs.Given.{Found, score};
 use crate::Selected;
 use figures::distance::scaled_squared_distance;
-use figures::limits::CHANNELS;
 
 // The row with the largest s of all rows.
-pub fn farthest_row(rows: &[i32], m: usize, n: usize, centre: &[i64; CHANNELS]) -> Selected
-    requires { ⌜ Table (now rows) m n × CentreWithin (now centre) ⌝ }
+pub fn farthest_row(rows: &[i32], m: usize, n: usize, centre: &[i64]) -> Selected
+    requires { ⌜ Table (now rows) m n × CentreWithin n (now centre) ⌝ }
     ensures { λ r. ⌜ Found (now (rows .entry)) m n (now (centre .entry)) (farthest ltb (score (now (rows .entry)) n (now (centre .entry))) m) r ⌝ }
 {
     let mut row = 0;
@@ -28,14 +27,8 @@ pub fn farthest_row(rows: &[i32], m: usize, n: usize, centre: &[i64; CHANNELS]) 
 }
 
 // The row with the smallest s among the rows of weight above 0. The distance kept before the first of them is above every s.
-pub fn nearest_row(
-    rows: &[i32],
-    m: usize,
-    n: usize,
-    weights: &[u32],
-    centre: &[i64; CHANNELS],
-) -> Selected
-    requires { ⌜ Table (now rows) m n × (CentreWithin (now centre) × WeightsOf m (now weights)) ⌝ }
+pub fn nearest_row(rows: &[i32], m: usize, n: usize, weights: &[u32], centre: &[i64]) -> Selected
+    requires { ⌜ Table (now rows) m n × (CentreWithin n (now centre) × WeightsOf m (now weights)) ⌝ }
     ensures { λ r. ⌜ Found (now (rows .entry)) m n (now (centre .entry)) (nearest ltb (weightOf (now (weights .entry))) (score (now (rows .entry)) n (now (centre .entry))) m) r ⌝ }
 {
     let mut row = 0;

@@ -17,7 +17,7 @@ use figures::limits::TOTAL;
 use figures::limits::channels;
 
 // The far and the near row of the weights whose X is `centre`, with g and d².
-pub fn pair_of(rows: &[i32], m: usize, n: usize, weights: &[u32], centre: &[i64; CHANNELS]) -> Pair
+pub fn pair_of(rows: &[i32], m: usize, n: usize, weights: &[u32], centre: &[i64]) -> Pair
     requires { ⌜ Table (now rows) m n × (WeightsOf m (now weights) × IsCentre (now rows) m n (now weights) (now centre)) ⌝ }
     ensures { λ r. ⌜ Paired (now (rows .entry)) m n (now (weights .entry)) r ⌝ }
 {
@@ -87,7 +87,7 @@ pub fn shift_centre(
     to: usize,
     t: u32,
 ) -> [i64; CHANNELS]
-    requires { ⌜ RowAt (now rows) n from × (RowAt (now rows) n to × (CentreWithin centre × (t ≤ total))) ⌝ }
+    requires { ⌜ RowAt (now rows) n from × (RowAt (now rows) n to × (CentreWithin n centre × (t ≤ total))) ⌝ }
     ensures { λ r. ⌜ r ≡ shiftCentre (now (rows .entry)) n from to t centre ⌝ }
 {
     let mut changed = [0i64; CHANNELS];

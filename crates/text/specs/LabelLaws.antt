@@ -5,6 +5,10 @@
 --     key-stop, key-further, key-done  the key from an index on, by the digit of the byte there, and at the end
 --     digit-below, digit-fits          one digit more is one power of 38 more; up to 12 digits are below 38 ^ 12
 --     key-label                        the key is 0 where the field is no label, and only there
+--     label-short                      a label has at most 12 bytes
+--     label-empty, label-long          a field of no bytes, or of more than 12, is no label
+--     label-within                     any other is one by its bytes
+--     bytes-stop, bytes-further, bytes-done  whether the bytes from an index on may stand in a label, by the digit of the byte there, and at the end
 --     key-injective                    labels with the same key are the same
 --     label-free                       a label has no byte that may not stand in one
 --     no-digit, no-hyphen              a byte that stands in no label is no digit and no hyphen
@@ -148,13 +152,54 @@ key-label (b ∷ l) =
     go true = after-positive l 0 (labelDigit b) (isLabelByte b) (digit-read b .positive) (from-positive l)
     go false = refl
 
--- ---- labels by their keys
+-- ---- what a label has
 
 label-parts : (l : List ℕ) → isLabel l ≡ true → (leb (length l) labelLimit ≡ true) × (labelBytes l ≡ true)
 unfolding isLabel
 label-parts l h =
     let t = both (leb 1 (length l) && leb (length l) labelLimit) (labelBytes l) h in
     (both (leb 1 (length l)) (leb (length l) labelLimit) (t .0) .1, t .1)
+
+pub label-short : (l : List ℕ) → isLabel l ≡ true → length l ≤ labelLimit
+label-short l e = leb-true (length l) labelLimit (label-parts l e .0)
+
+-- ---- labels by their bytes
+
+module _ (l : List ℕ) where
+  pub label-empty : length l ≡ 0 → isLabel l ≡ false
+  unfolding isLabel
+  label-empty h = ap (λ n. (leb 1 n && leb n labelLimit) && labelBytes l) h
+
+  -- a field that is not empty
+  module _ (some : 1 ≤ length l) where
+    by-limit : (t : Bool) → leb (length l) labelLimit ≡ t → isLabel l ≡ (t && labelBytes l)
+    unfolding isLabel
+    by-limit t h = ap₂ (λ x y. (x && y) && labelBytes l) (le-leb 1 (length l) some) h
+
+    pub label-long : labelLimit < length l → isLabel l ≡ false
+    label-long h = by-limit false (lt-leb (length l) labelLimit h)
+
+    pub label-within : length l ≤ labelLimit → isLabel l ≡ labelBytes l
+    label-within h = by-limit true (le-leb (length l) labelLimit h)
+
+pub bytes-done : (f : List ℕ) (i : ℕ) → length f ≤ i → labelBytes (drop i f) ≡ true
+unfolding labelBytes
+bytes-done f i h = ap labelBytes (drop-of-length-le f h)
+
+module _ (f : List ℕ) (i d : ℕ) (h : i < length f) (e : d ≡ labelDigit (getD f i 0)) where
+  bytes-at : (t : Bool) → leb 1 d ≡ t → labelBytes (drop i f) ≡ (t && labelBytes (drop (i + 1) f))
+  unfolding labelBytes
+  bytes-at t p =
+      ap labelBytes (drop-cons f i 0 h)
+      ∙ ap₂ (λ x j. x && labelBytes (drop j f)) (sym (digit-read (getD f i 0) .positive) ∙ ap (leb 1) (sym e) ∙ p) (sym (add-one i))
+
+  pub bytes-stop : d ≡ 0 → labelBytes (drop i f) ≡ false
+  bytes-stop z = bytes-at false (ap (leb 1) z)
+
+  pub bytes-further : (d ≡ 0 → ⊥) → labelBytes (drop i f) ≡ labelBytes (drop (i + 1) f)
+  bytes-further n = bytes-at true (le-leb 1 d (omega arith))
+
+-- ---- labels by their keys
 
 -- the bytes of the key k in front of l, at most as many as the first number says
 spell : ℕ → ℕ → List ℕ → List ℕ
@@ -192,10 +237,9 @@ spell-from (b ∷ l) k n h =
 
 spell-key : (l : List ℕ) → isLabel l ≡ true → spell 12 (labelKey l) [] ≡ l
 spell-key l h =
-    let t = label-parts l h in
-    let m = leb-true (length l) labelLimit (t .0) in
+    let m = label-short l h in
     let e : 12 ≡ 12 - length l + length l = omega arith in
-    ap₂ (λ n k. spell n k []) e (key-short l m) ∙ spell-from l 0 (12 - length l) (t .1) ∙ spell-zero (12 - length l) l
+    ap₂ (λ n k. spell n k []) e (key-short l m) ∙ spell-from l 0 (12 - length l) (label-parts l h .1) ∙ spell-zero (12 - length l) l
 
 pub key-injective : (k l : List ℕ) → isLabel k ≡ true → isLabel l ≡ true → labelKey k ≡ labelKey l → k ≡ l
 key-injective k l h g e = sym (spell-key k h) ∙ ap (λ n. spell 12 n []) e ∙ spell-key l g

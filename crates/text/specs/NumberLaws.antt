@@ -18,17 +18,19 @@
 --     print-plain                                what is read as z is what z is printed as
 --     print-free                                 only digits and the hyphen stand in a printed number
 --     print-first                                a printed number has a first byte, a digit or the hyphen
-use Prim.Native.Nat.{ℕ, zero, suc, _+_, _-_, _*_, _/_, _%_, _≤_, _<_}
+--     magnitude-short, print-short               a number below 10 ^ k is printed in at most k bytes, and one more for its hyphen
+use Prim.Native.Nat.{ℕ, zero, suc, _+_, _-_, _*_, _/_, _%_, _^_, _≤_, _<_, zero-le}
 use mathlib.Core.Path.{_≡_, refl, sym, _∙_, ap, subst}
 use mathlib.Core.Bool.{Bool, true, false}
 use mathlib.Core.List.{List, [], _∷_, _++_, append-nil}
 use mathlib.Core.Logic.{_⊎_, inl, inr}
 use mathlib.Core.Option.{Option, none, some, Option·map}
+use native.Mathlib.Nat.{pow-suc}
 use native.Mathlib.Omega.{arith}
 use borrow.Author.Tests.{leb-true, eqb-true, eqb-false, eq-eqb, ne-eqb}
 use lib.Dec.{eqb, leb}
-use lib.IntN.{ℤ, pos, negsuc}
-use lib.ListN.{length, getD, drop}
+use lib.IntN.{ℤ, pos, negsuc, natAbs}
+use lib.ListN.{length, getD, drop, length-append}
 use lib.Seq.{append-snoc}
 use Rattle.integers.specs.Tests.{clash, unlike, both, range-in, range-under, range-over}
 use Rattle.text.specs.Parts.{free}
@@ -318,3 +320,23 @@ print-first (pos n) =
     let led : Led 48 (printMagnitude n) = print-led n in
     (led .first, led .rest, led .is, inl (range-digit (led .first) (led .low) (led .high)))
 print-first (negsuc k) = (hyphen, printMagnitude (suc k), refl, inr refl)
+
+-- ---- how long a printed number is
+
+decimal-short : (f k n : ℕ) → n < 10 ^ k → length (decimal f n) ≤ k
+unfolding decimal
+decimal-short zero k n h = zero-le
+decimal-short (suc f) k zero h = zero-le
+decimal-short (suc f) zero (suc i) h = absurd (omega arith)
+decimal-short (suc f) (suc k) (suc i) h =
+    rw length-append (omega (arith, decimal-short f k (suc i / 10) (omega (arith, pow-suc 10 k))))
+
+pub magnitude-short : (k n : ℕ) → 1 ≤ k → n < 10 ^ k → length (printMagnitude n) ≤ k
+unfolding printMagnitude
+magnitude-short k zero some-byte h = some-byte
+magnitude-short k (suc i) some-byte h = decimal-short (suc i) k (suc i) h
+
+pub print-short : (k : ℕ) (z : ℤ) → 1 ≤ k → natAbs z < 10 ^ k → length (print z) ≤ suc k
+unfolding print
+print-short k (pos n) some-byte h = omega (arith, magnitude-short k n some-byte h)
+print-short k (negsuc i) some-byte h = omega (arith, magnitude-short k (suc i) some-byte h)

@@ -1,7 +1,9 @@
 -- Document 01, "Texts": the parts of a text between separators. Lines are the parts between the bytes 10, fields those between
 -- the commas of a line. A byte is a number, a text a list of them.
 --     comma, lineEnd, textLimit    44, 10, and the most bytes of a text
+--     textWithin text              the text is not empty and has at most that many bytes; else 1
 --     same a b                     a and b have the same bytes
+--     extend b parts               the parts with the byte b before the first
 --     cut c l                      the parts of l between its bytes c: one more than there are such bytes
 --     join c parts                 the parts with a byte c between each two
 --     free c l, allFree c parts    no byte c stands in l, in any of the parts
@@ -24,6 +26,9 @@ lineEnd = 10
 
 abbrev pub textLimit : ℕ
 textLimit = 65536
+
+abbrev pub textWithin : List ℕ → Bool
+textWithin text = leb 1 (length text) && leb (length text) textLimit
 
 unfoldable pub same : List ℕ → List ℕ → Bool
 same [] [] = true

@@ -1,4 +1,5 @@
 -- Laws of the parts between separators.
+--     text-within                      the test of a text's length, as two bounds
 --     same-refl, same-eq, same-ne      `same` is equality
 --     same-lengths                     lists of two lengths differ
 --     same-on, same-off, same-done     the bytes from an index on, by the two that stand there, and at the end
@@ -7,11 +8,13 @@
 --     cut-free                         no part has a separator
 --     cut-keeps-free, join-free        a byte that stands nowhere still stands nowhere after cutting, and after joining by another byte
 --     free-append                      a byte stands in neither of two lists
+--     join-length                      the bytes of parts joined, by the first part
 --     parts-whole, parts-none          the parts from 0 are those of the text; past the end there are none
 --     parts-some                       within the text there is one
 --     parts-from                       the first part from an index is up to its end, the others are those from the index after it
 --     index-most, index-append         the first c is within the list or at its end; what follows the list does not move it
 --     end-found                        what a search for c from an index on finds is where the part ends
+--     free-end                         no byte c stands in a text exactly where the end of its first part is that of the text
 --     end-of-first                     a part with one after it ends at its separator, whatever follows the list
 --     first-part                       a list starts with its first part
 --     first-part-from                  a text is its first part and the parts from past its end
@@ -23,11 +26,16 @@ use native.Mathlib.Numerals.{add-one}
 use native.Mathlib.Omega.{arith}
 use borrow.Author.Tests.{eqb-true, eq-eqb, ne-eqb, le-leb, lt-leb, leb-false, leb-true, not-true}
 use lib.Dec.{eqb, leb}
-use lib.ListN.{length, getD, take, drop, length-take, drop-of-length-le}
+use lib.ListN.{length, getD, take, drop, length-append, length-take, drop-of-length-le}
 use lib.Seq.{drop-cons, drop-drop, take-length}
 use Rattle.bytes.specs.Bytes.{indexOf, indexAfter, slice}
 use Rattle.integers.specs.Tests.{both, clash}
-use Rattle.text.specs.Parts.{same, extend, cut, join, free, allFree, partEnd, PartEnd, partsFrom}
+use Rattle.text.specs.Parts.{textLimit, textWithin, same, extend, cut, join, free, allFree, partEnd, PartEnd, partsFrom}
+
+pub text-within : (text : List ℕ) → textWithin text ≡ true → (1 ≤ length text) × (length text ≤ textLimit)
+text-within text h =
+    let t = both (leb 1 (length text)) (leb (length text) textLimit) h in
+    (leb-true 1 (length text) (t .0), leb-true (length text) textLimit (t .1))
 
 -- ---- the same bytes
 
@@ -142,6 +150,10 @@ cut-join c p (q ∷ ps) h =
     let t = both (free c p) (allFree c (q ∷ ps)) h in
     cut-seam c p (join c (q ∷ ps)) (t .0) ∙ ap (λ k. p ∷ k) (cut-join c q ps (t .1))
 
+pub join-length : (c : ℕ) (p q : List ℕ) (ps : List (List ℕ)) → length (join c (p ∷ q ∷ ps)) ≡ length p + suc (length (join c (q ∷ ps)))
+unfolding join
+join-length c p q ps = length-append p (c ∷ join c (q ∷ ps))
+
 -- ---- bytes that stand nowhere
 
 extend-free : (d b : ℕ) (ps : List (List ℕ)) → eqb b d ≡ false → allFree d ps ≡ true → allFree d (extend b ps) ≡ true
@@ -204,6 +216,23 @@ index-append c (b ∷ l) more h = go (eqb b c) h (index-append c l more)
         → indexAfter t (indexOf c (l ++ more)) ≡ indexAfter t (indexOf c l)
     go true h f = refl
     go false h f = ap suc (f (omega arith))
+
+index-free : (c : ℕ) (l : List ℕ) → (length l ≤ indexOf c l → free c l ≡ true) × (indexOf c l < length l → free c l ≡ false)
+unfolding indexOf free
+index-free c [] = (λ h. refl, λ h. absurd (omega arith))
+index-free c (b ∷ l) = go (eqb b c) (index-free c l)
+  where
+    go : (t : Bool) → (length l ≤ indexOf c l → free c l ≡ true) × (indexOf c l < length l → free c l ≡ false)
+        → (suc (length l) ≤ indexAfter t (indexOf c l) → (not t && free c l) ≡ true)
+        × (indexAfter t (indexOf c l) < suc (length l) → (not t && free c l) ≡ false)
+    go true f = (λ h. absurd (omega arith), λ h. refl)
+    go false f = (λ h. f .0 (omega arith), λ h. f .1 (omega arith))
+
+pub free-end : (c : ℕ) (s : List ℕ) (e : ℕ) → PartEnd c s 0 e → (length s ≤ e → free c s ≡ true) × (e < length s → free c s ≡ false)
+unfolding partEnd
+free-end c s e f =
+    let at : e ≡ indexOf c s = omega (arith, f .is) in
+    (λ h. index-free c s .0 (omega arith), λ h. index-free c s .1 (omega arith))
 
 length-first : (c : ℕ) (l p : List ℕ) (ps : List (List ℕ)) → cut c l ≡ p ∷ ps → length p ≡ indexOf c l
 length-first c l p ps e =

@@ -1,6 +1,7 @@
 // Labels: 1 to 12 bytes of A-Z, 0-9 and hyphen. There are 37 such bytes and 38^12 is below 2^64, so that a label is told from
 // every other one by a number.
 ghost use mathlib.Core.Path.{_≡_};
+ghost use Rattle.text.specs.Label.{isLabel};
 ghost use Rattle.text.specs.Key.{labelDigit, labelKey};
 
 const LABEL_MOST: usize = 12;
@@ -35,4 +36,24 @@ pub fn label_key(field: &[u8]) -> u64
         i += 1;
     }
     key
+}
+
+// Whether a field is a label.
+pub fn is_label(field: &[u8]) -> bool
+    ensures { λ r. ⌜ r ≡ isLabel (now (field .entry)) ⌝ }
+{
+    if field.len() == 0 {
+        return false;
+    }
+    if LABEL_MOST < field.len() {
+        return false;
+    }
+    let mut i = 0;
+    while i < field.len() {
+        if label_digit(field[i]) == 0 {
+            return false;
+        }
+        i += 1;
+    }
+    true
 }

@@ -13,7 +13,7 @@ use Rattle.integers.specs.Sum.{sumℤ, sumℕ, square}
 use Rattle.geometry.specs.Figures.{squaredLength, squaredDistance, scaledCentre, scaledSquaredDistance, largest, scaledSquaredRadius, weightedSquaredLength, scaledLowerBound}
 use Rattle.geometry.specs.Select.{farthest, replaces, nearest}
 use Rattle.geometry.specs.Move.{scaledSquaredDistanceOf, farRow, nearRow, difference, separation, settled, transfer, moveWeight, moved, weightOf}
-use Rattle.geometry.specs.Limits.{total, rowLimit, coordinate, coordinatesWithin, rowsWithin}
+use Rattle.geometry.specs.Limits.{total, rowLimit, coordinate, placesWithin, rowsWithin}
 use Rattle.geometry.specs.Places.{tabulate, centreList}
 use Rattle.ball.specs.Ball.{ballOf}
 use Rattle.ball.specs.Draw.{run, start, runFrom, drawing}
@@ -96,5 +96,5 @@ trials =
     ∷ []
 
 pub trials-agree : map (λ (t : Trial). t .computed) trials ≡ map (λ (t : Trial). t .stated) trials
-unfolding trials numbers flag draw outline whole differenceUnder transferUnder right-triangle sumℤ sumℕ square squaredLength squaredDistance scaledCentre scaledSquaredDistance largest scaledSquaredRadius weightedSquaredLength scaledLowerBound farthest replaces nearest scaledSquaredDistanceOf farRow nearRow difference separation settled transfer moveWeight moved coordinate coordinatesWithin rowsWithin tabulate centreList ballOf run start runFrom drawing
+unfolding trials numbers flag draw outline whole differenceUnder transferUnder right-triangle sumℤ sumℕ square squaredLength squaredDistance scaledCentre scaledSquaredDistance largest scaledSquaredRadius weightedSquaredLength scaledLowerBound farthest replaces nearest scaledSquaredDistanceOf farRow nearRow difference separation settled transfer moveWeight moved coordinate placesWithin rowsWithin tabulate centreList ballOf run start runFrom drawing
 trials-agree = refl

@@ -5,6 +5,8 @@
 --     far-outside       a number farther from 0 than both ends of a range is not in it
 --     reads-within      a value in range reads as a number from low to high
 --     reads-most        which is within 4,000 of 0
+--     valueLimit        the most bytes of a value within the range of its type
+--     value-short       such a value is printed in at most so many
 use Prim.Native.Nat.{ℕ, suc, _≤_, _<_}
 use mathlib.Core.Path.{_≡_, refl, sym, ap, ap₂, _∙_}
 use mathlib.Core.Bool.{Bool, true, false, not, cond, _&&_, and-false}
@@ -16,11 +18,12 @@ use native.Mathlib.Omega.{arith}
 use borrow.Author.Tests.{leb-true, lt-leb, eqb-true, eqb-false, ne-eqb}
 use lib.Dec.{eqb, leb}
 use lib.IntN.{ℤ, pos, negsuc, natAbs}
+use lib.ListN.{length}
 use lib.Signed.{leZ}
 use Rattle.text.specs.Parts.{free}
 use Rattle.integers.specs.Tests.{both, clash}
-use Rattle.text.specs.Number.{hyphen, isDigit, plain}
-use Rattle.text.specs.NumberLaws.{plain-print, print-plain, print-free, print-first}
+use Rattle.text.specs.Number.{hyphen, isDigit, plain, print}
+use Rattle.text.specs.NumberLaws.{plain-print, print-plain, print-free, print-first, magnitude-short, print-short}
 use Rattle.channel.specs.Channel.{ChannelType, typeOf}
 use Rattle.channel.specs.ChannelLaws.{rangeLimit, soundTypes, range-within, range-zero}
 use Rattle.value.specs.Value.{Written, number, below, lessThan, valueOf, inRange, reads, printValue}
@@ -76,6 +79,23 @@ pub far-outside : (low high z : ℤ) → natAbs low < natAbs z → natAbs high <
 far-outside low high (pos n) l h = ap (λ b. leZ low (pos n) && b) (far-above high n h) ∙ and-false (leZ low (pos n))
 far-outside low high (negsuc k) l h = ap (λ b. b && leZ (negsuc k) high) (far-below low k l)
 
+-- what is between two numbers within 4,000 of 0 is so too
+between : (low high z : ℤ) → (natAbs low ≤ rangeLimit) × (natAbs high ≤ rangeLimit) → (leZ low z && leZ z high) ≡ true → natAbs z ≤ rangeLimit
+between low high z ends h = go (decLe (natAbs z) rangeLimit)
+  where
+    go : Dec (natAbs z ≤ rangeLimit) → natAbs z ≤ rangeLimit
+    go (yes k) = k
+    go (no k) = clash h (far-outside low high z (omega (arith, ends)) (omega (arith, ends)))
+
+abbrev pub valueLimit : ℕ
+valueLimit = 5
+
+-- `<` stands before a number without a hyphen
+below-short : (z : ℤ) → leZ (pos 1) z ≡ true → natAbs z ≤ rangeLimit → length (lessThan ∷ print z) ≤ valueLimit
+unfolding print
+below-short (pos n) h k = omega (arith, magnitude-short 4 n (omega arith) (omega arith))
+below-short (negsuc i) h k = clash h refl
+
 module _ (types : List ChannelType) (sound : soundTypes types ≡ true) (code : ℕ) where
   pub reads-within : (v : Written) → inRange (typeOf types code) v ≡ true
       → (leZ (typeOf types code .low) (reads v) ≡ true) × (leZ (reads v) (typeOf types code .high) ≡ true)
@@ -83,19 +103,13 @@ module _ (types : List ChannelType) (sound : soundTypes types ≡ true) (code : 
   reads-within (below z) h = range-zero types sound code
 
   pub reads-most : (v : Written) → inRange (typeOf types code) v ≡ true → natAbs (reads v) ≤ rangeLimit
-  reads-most v h = go (decLe (natAbs (reads v)) rangeLimit)
-    where
-      low : ℤ
-      low = typeOf types code .low
+  reads-most v h =
+      let w = reads-within v h in
+      between (typeOf types code .low) (typeOf types code .high) (reads v) (range-within types sound code) (ap₂ _&&_ (w .0) (w .1))
 
-      high : ℤ
-      high = typeOf types code .high
-
-      ends : (natAbs low ≤ rangeLimit) × (natAbs high ≤ rangeLimit)
-      ends = range-within types sound code
-
-      go : Dec (natAbs (reads v) ≤ rangeLimit) → natAbs (reads v) ≤ rangeLimit
-      go (yes k) = k
-      go (no k) =
-          let w = reads-within v h in
-          clash (ap₂ _&&_ (w .0) (w .1)) (far-outside low high (reads v) (omega (arith, ends)) (omega (arith, ends)))
+  pub value-short : (v : Written) → inRange (typeOf types code) v ≡ true → length (printValue v) ≤ valueLimit
+  unfolding printValue
+  value-short (number z) h = print-short 4 z (omega arith) (omega (arith, reads-most (number z) h))
+  value-short (below z) h =
+      below-short z (both (leZ (pos 1) z) (leZ z (typeOf types code .high)) h .0)
+      (between (pos 1) (typeOf types code .high) z (omega arith, range-within types sound code .1) h)

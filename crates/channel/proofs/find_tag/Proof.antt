@@ -1,38 +1,23 @@
 -- `channel::find_tag` meets its contract. The loop's invariant: the code of the field is that among the types from `at` on. The type at
 -- `at` has the tag compared there, or the code is among the types after it. The measure is what is left of the types.
 use borrow.Author.Needs.{needs}
-use mathlib.Core.Path.{_≡_, refl, sym, ap, subst, _∙_}
+use mathlib.Core.Path.{_≡_, refl, sym, ap, _∙_}
 use mathlib.Core.Bool.{Bool, true, false, cond}
 use mathlib.Core.List.{List}
 use Prim.Native.Nat.{ℕ, _+_, _-_, _≤_, _<_}
 use native.Mathlib.Omega.{arith}
-use lib.ListN.{length, getD, take, drop, List·getD-map}
+use lib.ListN.{length, getD, drop, List·getD-map}
 use Rattle.text.specs.Parts.{same}
 use Rattle.channel.specs.Channel.{ChannelType, channelTypes, codeOf, noType}
-use Rattle.channel.specs.Answers.{tagAt}
-use Rattle.lists.specs.Padded.{padded-take, padded-length}
-use Rattle.channel.specs.AnswersLaws.{house-short, tag-short}
-use Rattle.channel.specs.declared.Tag.{Tag}
+use Rattle.channel.specs.Answers.{tagLimit}
+use Rattle.channel.specs.AnswersLaws.{house-short, tag-short, tag-within, tag-taken}
 use Rattle.channel.proofs.Laws.{codeOf-step}
 use Rattle.channel.proofs.find_tag.Statement.{statement}
 use Rattle.channel.proofs.find_tag.Tie as tie
 
--- the tag that `tag_at` gives
-module _ (r : Tag) (at : ℕ) (e : r ≡ tagAt channelTypes at) where
-  abbrev tag : List ℕ
-  tag = getD channelTypes at noType .tag
-
-  short : length tag ≤ 3
-  short = tag-short channelTypes house-short at
-
-  within : r .length ≤ length (r .bytes)
-  within = subst (λ (t : Tag). t .length ≤ length (t .bytes)) (sym e) (omega (arith, short, padded-length 3 tag))
-
-  taken : take (r .length) (r .bytes) ≡ tag
-  taken = ap (λ (t : Tag). take (t .length) (t .bytes)) e ∙ padded-take 3 tag short
-
-  counts : r .length ≡ length (take (r .length) (r .bytes))
-  counts = ap (λ (t : Tag). t .length) e ∙ sym (ap length taken)
+-- a tag of the table has at most three bytes
+short : (at : ℕ) → length (getD channelTypes at noType .tag) ≤ tagLimit
+short = tag-short channelTypes house-short
 
 module _ (field : List ℕ) (at : ℕ) (l : at < 8) (e : codeOf channelTypes field ≡ codeOf (drop at channelTypes) field) where
   found : (b : Bool) → same (getD channelTypes at noType .tag) field ≡ b
@@ -55,37 +40,28 @@ loop-holds c = (omega arith, refl)
 tag-at-requires : tie.Need-tag-at-requires Inv-loop μ-loop
 tag-at-requires c κs = search needs
 
-array-share-prefix-bytes : tie.Need-array-share-prefix-bytes Inv-loop μ-loop
-array-share-prefix-bytes c =
-    within (c .before .tag-at .result) (c .before .before .before .loop .at) (c .before .tag-at .ensures)
-
-slice-aggregate-same-bytes : tie.Need-slice-aggregate-same-bytes Inv-loop μ-loop
-slice-aggregate-same-bytes c =
-    counts (c .before .before .tag-at .result) (c .before .before .before .before .loop .at) (c .before .before .tag-at .ensures)
-
-same-bytes-requires : tie.Need-same-bytes-requires Inv-loop μ-loop
-same-bytes-requires c κs = search needs
+has-bytes-requires : tie.Need-has-bytes-requires Inv-loop μ-loop
+has-bytes-requires c κs = tag-within (c .tag-at .result) _ (c .tag-at .ensures) (short (c .before .before .loop .at))
 
 array-read-result : tie.Need-array-read-result Inv-loop μ-loop
 array-read-result c = search needs
 
 -- what the code of the field is, by what the test gives
-decided : (c : tie.After-same-bytes Inv-loop μ-loop) (b : Bool) → c .same-bytes .result ≡ b
-    → codeOf channelTypes (c .before .before .before .before .before .before .before .args .field .now)
-    ≡ cond b (getD channelTypes (c .before .before .before .before .before .loop .at) noType .code)
-    (codeOf (drop (c .before .before .before .before .before .loop .at + 1) channelTypes)
-    (c .before .before .before .before .before .before .before .args .field .now))
+decided : (c : tie.After-has-bytes Inv-loop μ-loop) (b : Bool) → c .has-bytes .result ≡ b
+    → codeOf channelTypes (c .before .before .before .before .before .args .field .now)
+    ≡ cond b (getD channelTypes (c .before .before .before .loop .at) noType .code)
+    (codeOf (drop (c .before .before .before .loop .at + 1) channelTypes) (c .before .before .before .before .before .args .field .now))
 decided c b e =
-    let field = c .before .before .before .before .before .before .before .args .field .now in
-    let at = c .before .before .before .before .before .loop in
-    let tag-at = c .before .before .before .tag-at in
+    let field = c .before .before .before .before .before .args .field .now in
+    let at = c .before .before .before .loop in
+    let tag-at = c .before .tag-at in
     found field (at .at) (omega arith) (at .inv .1) b
-    (ap (λ l. same l field) (sym (taken (tag-at .result) (at .at) (tag-at .ensures))) ∙ sym (c .same-bytes .ensures) ∙ e)
+    (ap (λ l. same l field) (sym (tag-taken (tag-at .result) _ (tag-at .ensures) (short (at .at)))) ∙ sym (c .has-bytes .ensures) ∙ e)
 
 returns : tie.Need-returns Inv-loop μ-loop
 unfolding channelTypes
 returns c =
-    List·getD-map (λ (t : ChannelType). t .code) channelTypes (c .before .before .before .before .before .before .loop .at) noType
+    List·getD-map (λ (t : ChannelType). t .code) channelTypes (c .before .before .before .before .loop .at) noType
     ∙ sym (decided (c .before) true (c .if1 .taken))
 
 add-at : tie.Need-add-at Inv-loop μ-loop
@@ -111,9 +87,7 @@ find-tag-spec =
     μ-loop
     loop-holds
     tag-at-requires
-    array-share-prefix-bytes
-    slice-aggregate-same-bytes
-    same-bytes-requires
+    has-bytes-requires
     array-read-result
     returns
     add-at

@@ -1,60 +1,48 @@
--- `channel::tag_at` meets its contract: the table of tags has document 01's tags one after the other, each in three places, and the
--- table of lengths is a column.
+-- `channel::tag_at` meets its contract: the tables of the bytes of the tags and of their lengths are columns of document 01's table.
 use borrow.Author.Needs.{needs}
-use mathlib.Core.Path.{ap₂}
-use mathlib.Core.List.{List}
+use mathlib.Core.Path.{_≡_, ap₂}
+use mathlib.Core.List.{List, map}
 use Prim.Native.Nat.{ℕ}
-use lib.ListN.{length, List·getD-map}
+use native.Mathlib.Omega.{arith}
+use lib.ListN.{length, getD, List·getD-map}
 use Rattle.channel.specs.Channel.{ChannelType, channelTypes, noType}
-use Rattle.lists.specs.Padded.{padded}
+use Rattle.channel.specs.AnswersLaws.{house-short, tag-short}
 use Rattle.channel.specs.declared.Tag.{Tag}
-use Rattle.channel.proofs.Laws.{tagBytes, tags-read}
+use Rattle.channel.proofs.Laws.{three-read}
 use Rattle.channel.proofs.tag_at.Statement.{statement}
 use Rattle.channel.proofs.tag_at.Tie as tie
 
 tag-made : List ℕ → ℕ → Tag
 tag-made b n = record { bytes = b; length = n }
 
-mul-from : tie.Need-mul-from
-mul-from c = search needs
+-- what the tag at a place has, read from its column
+read : (f : List ℕ → ℕ) (at : ℕ)
+    → getD (map (λ (t : ChannelType). f (t .tag)) channelTypes) at (f (noType .tag)) ≡ f (getD channelTypes at noType .tag)
+read f at = List·getD-map (λ (t : ChannelType). f (t .tag)) channelTypes at noType
 
-array-read-t6 : tie.Need-array-read-t6
-array-read-t6 c = search needs
+array-read-t5 : tie.Need-array-read-t5
+array-read-t5 c = search needs
 
-add-t8 : tie.Need-add-t8
-add-t8 c = search needs
+array-read-t9 : tie.Need-array-read-t9
+array-read-t9 c = search needs
 
-array-read-t11 : tie.Need-array-read-t11
-array-read-t11 c = search needs
+array-read-t13 : tie.Need-array-read-t13
+array-read-t13 c = search needs
 
-add-t13 : tie.Need-add-t13
-add-t13 c = search needs
+array-read-t18 : tie.Need-array-read-t18
+array-read-t18 c = search needs
 
-array-read-t16 : tie.Need-array-read-t16
-array-read-t16 c = search needs
-
-mul-t19 : tie.Need-mul-t19
-mul-t19 c = search needs
-
-array-read-t22 : tie.Need-array-read-t22
-array-read-t22 c = search needs
+cast-t19 : tie.Need-cast-t19
+unfolding channelTypes
+cast-t19 c = record { fits = omega (arith, read length (c .args .at), tag-short channelTypes house-short (c .args .at)) }
 
 returns : tie.Need-returns
-unfolding tag-made channelTypes tagBytes padded
+unfolding tag-made channelTypes
 returns c =
     let at = c .args .at in
-    ap₂ tag-made (tags-read channelTypes at) (List·getD-map (λ (t : ChannelType). length (t .tag)) channelTypes at noType)
+    let tag = getD channelTypes at noType .tag in
+    ap₂ tag-made (three-read tag (read (λ t. getD t 0 0) at) (read (λ t. getD t 1 0) at) (read (λ t. getD t 2 0) at)) (read length at)
 
 pub tag-at-spec : {M : Type 1} → statement M
 tag-at-spec =
-    tie.close
-    (tie.spec
-    mul-from
-    array-read-t6
-    add-t8
-    array-read-t11
-    add-t13
-    array-read-t16
-    mul-t19
-    array-read-t22
-    returns)
+    tie.close (tie.spec array-read-t5 array-read-t9 array-read-t13 array-read-t18 cast-t19 returns)

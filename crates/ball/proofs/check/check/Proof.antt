@@ -74,6 +74,9 @@ good c = record { places = omega (arith, c .before .before .if2 .left); sum = sy
 scaled-centre-requires : tie.Need-scaled-centre-requires
 scaled-centre-requires c κs = (within-table _ _ _ (within (c .before .before .before)), good c)
 
+slice-aggregate-pair-of : tie.Need-slice-aggregate-pair-of
+slice-aggregate-pair-of c = search needs
+
 pair-of-requires : tie.Need-pair-of-requires
 pair-of-requires c κs =
     let e = c .before .before in
@@ -106,6 +109,7 @@ check-spec =
     not-checked-requires-3
     returns-3
     scaled-centre-requires
+    slice-aggregate-pair-of
     pair-of-requires
     ball-of-requires
     returns-4)

@@ -39,6 +39,9 @@ scaled-centre-requires c κs = (c .before .before .pre, start-good (c .before .b
 slice-aggregate-pair-of : tie.Need-slice-aggregate-pair-of Inv-loop μ-loop
 slice-aggregate-pair-of c = search needs
 
+slice-aggregate-pair-of-2 : tie.Need-slice-aggregate-pair-of-2 Inv-loop μ-loop
+slice-aggregate-pair-of-2 c = search needs
+
 pair-of-requires : tie.Need-pair-of-requires Inv-loop μ-loop
 pair-of-requires c κs =
     let table = c .before .before .before .before .before .pre in
@@ -77,8 +80,11 @@ shift-centre-requires c κs =
     let t-most = transfer-most table here (goes turn) (c .before .transfer-of .ensures) in
     (table-row table _ (here .paired .near-within), (table-row table _ (here .paired .far-within), (centre-good table here, t-most)))
 
-slice-aggregate-pair-of-2 : tie.Need-slice-aggregate-pair-of-2 Inv-loop μ-loop
-slice-aggregate-pair-of-2 c = search needs
+slice-aggregate-pair-of-3 : tie.Need-slice-aggregate-pair-of-3 Inv-loop μ-loop
+slice-aggregate-pair-of-3 c = search needs
+
+slice-aggregate-pair-of-4 : tie.Need-slice-aggregate-pair-of-4 Inv-loop μ-loop
+slice-aggregate-pair-of-4 c = search needs
 
 pair-of-requires-2 : tie.Need-pair-of-requires-2 Inv-loop μ-loop
 pair-of-requires-2 c κs =
@@ -121,6 +127,7 @@ run-spec =
     slice-aggregate-scaled-centre
     scaled-centre-requires
     slice-aggregate-pair-of
+    slice-aggregate-pair-of-2
     pair-of-requires
     loop-holds
     goes-on-requires
@@ -129,7 +136,8 @@ run-spec =
     transfer-of-requires
     one-move-requires
     shift-centre-requires
-    slice-aggregate-pair-of-2
+    slice-aggregate-pair-of-3
+    slice-aggregate-pair-of-4
     pair-of-requires-2
     add-moves
     loop-less

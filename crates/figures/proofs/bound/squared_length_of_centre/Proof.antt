@@ -28,7 +28,7 @@ element-copy-out-square-of-centre : tie.Need-element-copy-out-square-of-centre I
 element-copy-out-square-of-centre c = omega arith
 
 square-of-centre-requires : tie.Need-square-of-centre-requires Inv-loop μ-loop
-square-of-centre-requires c κs = passed (centre-held (c .before .before .before .pre .0) (c .before .before .loop .k))
+square-of-centre-requires c κs = passed (centre-held (c .before .before .before .pre .0) (c .before .before .loop .k) (omega arith))
 
 add-sum : tie.Need-add-sum Inv-loop μ-loop
 add-sum c = omega arith
@@ -43,7 +43,7 @@ loop-again : tie.Need-loop-again Inv-loop μ-loop
 loop-again c =
     let l = c .before .before .before .loop in
     partial-more 1 (l .inv) (omega arith)
-    (given (centre-held (c .before .before .before .before .pre .0) (l .k)) square (c .square-of-centre .ensures))
+    (given (centre-held (c .before .before .before .before .pre .0) (l .k) (omega arith)) square (c .square-of-centre .ensures))
 
 returns : tie.Need-returns Inv-loop μ-loop
 unfolding squaredLength

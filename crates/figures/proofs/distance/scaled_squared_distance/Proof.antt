@@ -40,14 +40,14 @@ shared-slice-copy-out-scaled-square c = omega arith
 mul-scaled-square-2 : tie.Need-mul-scaled-square-2 Inv-loop μ-loop
 mul-scaled-square-2 c = omega arith
 
-element-copy-out-scaled-square : tie.Need-element-copy-out-scaled-square Inv-loop μ-loop
-element-copy-out-scaled-square c = omega arith
+shared-slice-copy-out-scaled-square-2 : tie.Need-shared-slice-copy-out-scaled-square-2 Inv-loop μ-loop
+shared-slice-copy-out-scaled-square-2 c = omega arith
 
 scaled-square-requires : tie.Need-scaled-square-requires Inv-loop μ-loop
 scaled-square-requires c κs =
     let s = c .before .before .before .before .before in
     let k = c .before .before .before .loop .k in
-    (passed (row-held (s .pre .0) k (omega arith)), passed (centre-held (s .pre .1) k))
+    (passed (row-held (s .pre .0) k (omega arith)), passed (centre-held (s .pre .1) k (omega arith)))
 
 add-sum : tie.Need-add-sum Inv-loop μ-loop
 add-sum c = omega arith
@@ -63,7 +63,7 @@ loop-again c =
     let s = c .before .before .before .before .before .before in
     let k = c .before .before .before .before .loop .k in
     partial-more 1 (c .before .before .before .before .loop .inv) (omega arith)
-    (given₂ (row-held (s .pre .0) k (omega arith)) (λ a x. square (pos total *ℤ a -ℤ x)) (centre-held (s .pre .1) k) (c .scaled-square .ensures))
+    (given₂ (row-held (s .pre .0) k (omega arith)) (λ a x. square (pos total *ℤ a -ℤ x)) (centre-held (s .pre .1) k (omega arith)) (c .scaled-square .ensures))
 
 returns : tie.Need-returns Inv-loop μ-loop
 unfolding squaredLength scaledSquaredDistance
@@ -82,7 +82,7 @@ scaled-squared-distance-spec =
     mul-scaled-square
     shared-slice-copy-out-scaled-square
     mul-scaled-square-2
-    element-copy-out-scaled-square
+    shared-slice-copy-out-scaled-square-2
     scaled-square-requires
     add-sum
     add-k

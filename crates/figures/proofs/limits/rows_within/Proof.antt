@@ -11,13 +11,13 @@ use native.Mathlib.Omega.{arith}
 use lib.Dec.{leb}
 use lib.IntN.{ℤ}
 use lib.ListN.{length}
-use Rattle.geometry.specs.Limits.{rowLimit, channelLimit, coordinatesWithin, rowsWithin}
+use Rattle.geometry.specs.Limits.{rowLimit, channelLimit, coordinateLimit, placesWithin, rowsWithin}
 use Rattle.figures.proofs.limits.rows_within.Statement.{statement}
 use Rattle.figures.proofs.limits.rows_within.Tie as tie
 
 -- the tests on n and m passed, those on the places remain
 within : (rows : List ℤ) (m n : ℕ) → 1 ≤ n → n ≤ channelLimit → 1 ≤ m → m ≤ rowLimit
-    → rowsWithin rowLimit rows m n ≡ (leb (m * n) (length rows) && coordinatesWithin (m * n) rows)
+    → rowsWithin rowLimit rows m n ≡ (leb (m * n) (length rows) && placesWithin coordinateLimit (m * n) rows)
 unfolding rowsWithin
 within rows m n a b c d = rw (le-leb 1 n a, le-leb n channelLimit b, le-leb 1 m c, le-leb m rowLimit d)
 

@@ -24,8 +24,8 @@ use Rattle.moves.proofs.step.pair_of.Tie as tie
 
 module _ {rows x : List ℤ} {m n : ℕ} {ws : List ℕ} (t : Table rows m n) (g : WeightsOf m ws)
     (e : x ≡ centreList n (scaledCentre (coordinate rows n) (weightOf ws) m)) where
-  centre : CentreWithin x
-  centre = subst CentreWithin (sym e) (centre-within t g)
+  centre : CentreWithin n x
+  centre = subst (CentreWithin n) (sym e) (centre-within t g)
 
   score-is : (i : ℕ) → score rows n x i ≡ scaledSquaredDistanceOf total m n (coordinate rows n) (weightOf ws) i
   unfolding scaledSquaredDistanceOf

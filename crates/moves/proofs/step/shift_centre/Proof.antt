@@ -69,7 +69,7 @@ shifted-requires c κs =
     let p = c .before .before .before .before .before .before .pre in
     let k = c .before .before .before .before .loop .k in
     let l : k < c .before .before .before .before .before .before .args .n = omega arith in
-    (passed (centre-held (p .1 .1 .0) k), (p .1 .1 .1, (passed (row-held (p .1 .0) k l), passed (row-held (p .0) k l))))
+    (passed (centre-held (p .1 .1 .0) k l), (p .1 .1 .1, (passed (row-held (p .1 .0) k l), passed (row-held (p .0) k l))))
 
 mul-changed : tie.Need-mul-changed Inv-loop μ-loop
 mul-changed c = omega arith
@@ -91,7 +91,7 @@ loop-again c =
     let l : f .k < a .n = omega arith in
     let X = place (a .rows .now) (a .n) (a .from) (a .to) (a .t) (a .t1) in
     let e : c .shifted .result ≡ X (f .k) =
-    c .shifted .ensures ∙ ap₂ (λ y d. y +ℤ pos (a .t) *ℤ d) (centre-held (p .1 .1 .0) (f .k) .is)
+    c .shifted .ensures ∙ ap₂ (λ y d. y +ℤ pos (a .t) *ℤ d) (centre-held (p .1 .1 .0) (f .k) l .is)
     (ap₂ _-ℤ_ (row-held (p .1 .0) (f .k) l .is) (row-held (p .0) (f .k) l .is)) in
     let stored = toZ-ofZ {w = w64} (record { sfits = c .shifted .ok }) ∙ e in
     (omega arith, ap₂ (λ y z. set y (f .k) z) (f .inv .1) stored ∙ centreList-more X (f .k) (omega arith))

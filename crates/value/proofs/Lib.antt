@@ -1,0 +1,2 @@
+-- How a line of values is read field by field.
+pub mod ValuesSteps
