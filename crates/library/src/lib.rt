@@ -1,5 +1,6 @@
 // The calls for C and Rust, on numbers, lent slices and small structs of numbers. X and the weights are
 // written to slices of the caller's, so that these structs stay as they are where the row limit changes.
+pub mod reading_text;
 pub mod reference_text;
 
 ghost use Prim.Native.Nat.{_≤_};

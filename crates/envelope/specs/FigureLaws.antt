@@ -1,0 +1,194 @@
+-- Laws of an envelope's figures, for any total D and table of types.
+--     codes-each, each-codes              known codes, code by code
+--     codes-next, codes-fail              one code more, and a code of no type, as a loop over the codes meets them
+--     Within D types f                    each limit on the figures, as a fact
+--     within-figures, figures-within      the test of the limits, as the record
+--     figures-refused                     a limit that is not kept
+--     tight-within                        2.14: the figures of a ball of which demand 3 holds are within their limits
+--     drawnFigures n codes drawing        the figures of a drawing for n channels of these codes
+--     drawn-within, checked-within        those of an accepted drawing and of an accepted check are within their limits
+use Prim.Native.Nat.{ℕ, _+_, _≤_, _<_}
+use mathlib.Core.Path.{_≡_, refl, sym, ap, ap₂, _∙_}
+use mathlib.Core.Bool.{Bool, true, false, _&&_}
+use mathlib.Core.List.{List, [], _∷_, _++_}
+use native.Mathlib.Nat.{le-trans, not-suc-le-zero}
+use native.Mathlib.Numerals.{add-one}
+use native.Mathlib.Omega.{arith}
+use borrow.Author.Tests.{leb-true, le-leb}
+use lib.Dec.{leb}
+use lib.IntN.{ℤ, natAbs}
+use lib.ListN.{length, getD, take}
+use lib.Seq.{take-suc, getD-take, length-take-le}
+use Rattle.integers.specs.Tests.{both, clash, range-in}
+use Rattle.lists.specs.Each.{Each, each-cons, each-head, each-tail, each-append}
+use Rattle.refusal.specs.declared.Outcome.the-variants.{Accepted}
+use Rattle.geometry.specs.Limits.{channelLimit, centreLimit, distanceLimit, budgetLimit, coordinate, placesWithin}
+use Rattle.geometry.specs.Places.{centreOf}
+use Rattle.geometry.specs.PlacesLaws.{length-centreList}
+use Rattle.geometry.specs.TableLaws.{placesWithin-at, placesWithin-by, within-limits}
+use Rattle.ball.specs.Ball.{ballOf}
+use Rattle.ball.specs.Draw.{drawing}
+use Rattle.ball.specs.Check.{checking}
+use Rattle.ball.specs.DrawLaws.{checking-checked}
+use Rattle.ball.specs.Promise.{Tight}
+use Rattle.ball.specs.Demand.{drawing-accepted, drawing-is, drawing-spent, drawing-tight, checking-accepted, checking-tight}
+use Rattle.ball.specs.declared.Ball.{Ball}
+use Rattle.ball.specs.declared.Checked.{Checked}
+use Rattle.ball.specs.declared.Drawing.{Drawing}
+use Rattle.channel.specs.Channel.{ChannelType, known}
+use Rattle.channel.specs.ChannelLaws.{Known}
+use Rattle.envelope.specs.Figures.{channelCodes, codesKnown, figuresWithin, figuresOf}
+use Rattle.envelope.specs.declared.Figures.{Figures}
+
+-- ---- codes
+
+module _ (types : List ChannelType) where
+  pub codes-each : (codes : List ℕ) → codesKnown types codes ≡ true → Each (Known types) 0 codes
+  unfolding codesKnown
+  codes-each [] h = λ k l. absurd (not-suc-le-zero l)
+  codes-each (code ∷ codes) h =
+      let parts = both (known types code) (codesKnown types codes) h in
+      each-cons (Known types) 0 code codes (parts .0) (codes-each codes (parts .1))
+
+  pub each-codes : (codes : List ℕ) → Each (Known types) 0 codes → codesKnown types codes ≡ true
+  unfolding codesKnown
+  each-codes [] e = refl
+  each-codes (code ∷ codes) e = ap₂ _&&_ (each-head (Known types) 0 code codes e) (each-codes codes (each-tail (Known types) 0 code codes e))
+
+  pub codes-next : (codes : List ℕ) (i : ℕ) → i < length codes → codesKnown types (take i codes) ≡ true → Known types (getD codes i 0)
+      → codesKnown types (take (i + 1) codes) ≡ true
+  codes-next codes i l h k =
+      let code = getD codes i 0 in
+      let last = each-cons (Known types) 0 code [] k (λ _ b. absurd (not-suc-le-zero b)) in
+      ap (codesKnown types) (ap (λ j. take j codes) (add-one i) ∙ take-suc codes i 0 l)
+      ∙ each-codes (take i codes ++ (code ∷ [])) (each-append (Known types) 0 (take i codes) (code ∷ []) (codes-each (take i codes) h) last)
+
+  -- the code at a place of the first n
+  taken-known : (codes : List ℕ) (n : ℕ) → n ≤ length codes → codesKnown types (take n codes) ≡ true → (k : ℕ) → k < n → Known types (getD codes k 0)
+  taken-known codes n l h k b =
+      ap (known types) (sym (getD-take n codes k 0 b)) ∙ codes-each (take n codes) h k (omega (arith, length-take-le n codes l))
+
+  pub codes-fail : (codes : List ℕ) (n i : ℕ) → n ≤ length codes → i < n → known types (getD codes i 0) ≡ false
+      → false ≡ codesKnown types (take n codes)
+  codes-fail codes n i l b e = go (codesKnown types (take n codes)) refl
+    where
+      go : (t : Bool) → codesKnown types (take n codes) ≡ t → false ≡ t
+      go true h = clash (taken-known codes n l h i b) e
+      go false h = refl
+
+-- ---- the test of the limits, as a record
+
+pub record Within (D : ℕ) (types : List ChannelType) (f : Figures) : Type 0 where
+  pub some-channel : 1 ≤ f .n
+  pub channels : f .n ≤ channelLimit
+  pub typed : f .n ≤ length (f .types)
+  pub places : f .n ≤ length (f .ball .«scaled_centre»)
+  pub codes : codesKnown types (channelCodes f) ≡ true
+  pub centre-limit : (k : ℕ) → k < f .n → natAbs (centreOf (f .ball .«scaled_centre») k) ≤ centreLimit D
+  pub radius-limit : f .ball .«scaled_squared_radius» ≤ distanceLimit D
+  pub floor-limit : f .ball .«scaled_lower_bound» ≤ distanceLimit D
+  pub moves-limit : f .moves ≤ budgetLimit
+
+module _ (D : ℕ) (types : List ChannelType) (f : Figures) where
+  pub within-figures : figuresWithin D types f ≡ true → Within D types f
+  unfolding figuresWithin
+  within-figures h =
+      let x = f .ball .«scaled_centre» in
+      let M = f .ball .«scaled_squared_radius» in
+      let L = f .ball .«scaled_lower_bound» in
+      let count = leb 1 (f .n) && leb (f .n) channelLimit in
+      let lent = leb (f .n) (length (f .types)) && leb (f .n) (length x) in
+      let codes = codesKnown types (channelCodes f) in
+      let centre = placesWithin (centreLimit D) (f .n) x in
+      let distances = leb M (distanceLimit D) && leb L (distanceLimit D) in
+      let moves = leb (f .moves) budgetLimit in
+      let first = both count (lent && (codes && (centre && (distances && moves)))) h in
+      let second = both lent (codes && (centre && (distances && moves))) (first .1) in
+      let third = both codes (centre && (distances && moves)) (second .1) in
+      let fourth = both centre (distances && moves) (third .1) in
+      let fifth = both distances moves (fourth .1) in
+      let counts = both (leb 1 (f .n)) (leb (f .n) channelLimit) (first .0) in
+      let lengths = both (leb (f .n) (length (f .types))) (leb (f .n) (length x)) (second .0) in
+      let limits = both (leb M (distanceLimit D)) (leb L (distanceLimit D)) (fifth .0) in
+      record {
+        some-channel = leb-true 1 (f .n) (counts .0);
+        channels = leb-true (f .n) channelLimit (counts .1);
+        typed = leb-true (f .n) (length (f .types)) (lengths .0);
+        places = leb-true (f .n) (length x) (lengths .1);
+        codes = third .0;
+        centre-limit = placesWithin-at (centreLimit D) x (f .n) (fourth .0);
+        radius-limit = leb-true M (distanceLimit D) (limits .0);
+        floor-limit = leb-true L (distanceLimit D) (limits .1);
+        moves-limit = leb-true (f .moves) budgetLimit (fifth .1);
+      }
+
+  pub figures-refused : (Within D types f → ⊥) → false ≡ figuresWithin D types f
+  figures-refused h = go (figuresWithin D types f) refl
+    where
+      go : (t : Bool) → figuresWithin D types f ≡ t → false ≡ t
+      go true e = absurd (h (within-figures e))
+      go false e = refl
+
+  module _ (w : Within D types f) where
+    pub figures-within : figuresWithin D types f ≡ true
+    unfolding figuresWithin
+    figures-within =
+        let limit = distanceLimit D in
+        let x = f .ball .«scaled_centre» in
+        ap₂ _&&_ (range-in 1 channelLimit (f .n) (w .some-channel) (w .channels))
+        (ap₂ _&&_ (ap₂ _&&_ (le-leb (f .n) (length (f .types)) (w .typed)) (le-leb (f .n) (length x) (w .places)))
+        (ap₂ _&&_ (w .codes)
+        (ap₂ _&&_ (placesWithin-by (centreLimit D) x (f .n) (w .centre-limit))
+        (ap₂ _&&_
+        (ap₂ _&&_ (le-leb (f .ball .«scaled_squared_radius») limit (w .radius-limit))
+        (le-leb (f .ball .«scaled_lower_bound») limit (w .floor-limit)))
+        (le-leb (f .moves) budgetLimit (w .moves-limit))))))
+
+-- ---- 2.14: the figures that are handed out are within their limits
+
+abbrev pub drawnFigures : ℕ → List ℕ → Drawing → Figures
+drawnFigures n codes r = figuresOf n codes (r .ball) (r .moves)
+
+module _ (D : ℕ) (types : List ChannelType) (n : ℕ) (codes : List ℕ) (typed : n ≤ length codes) (k : codesKnown types (take n codes) ≡ true) where
+  pub tight-within : (m : ℕ) (a : ℕ → ℕ → ℤ) (ball : Ball) (moves : ℕ) → Tight D m n a ball → n ≤ length (ball .«scaled_centre»)
+      → 1 ≤ n → n ≤ channelLimit → moves ≤ budgetLimit → figuresWithin D types (figuresOf n codes ball moves) ≡ true
+  tight-within m a ball moves t places some most b =
+      figures-within D types (figuresOf n codes ball moves)
+      record {
+        some-channel = some;
+        channels = most;
+        typed = typed;
+        places = places;
+        codes = k;
+        centre-limit = λ j _. t .centre-limit j;
+        radius-limit = t .radius-limit;
+        floor-limit = le-trans (t .floor) (t .radius-limit);
+        moves-limit = b;
+      }
+
+  module _ (positive : 0 < D) (limit : ℕ) (rows : List ℤ) (m : ℕ) where
+    pub drawn-within : (b : ℕ) → drawing D limit rows m n b .outcome ≡ Accepted
+        → figuresWithin D types (drawnFigures n codes (drawing D limit rows m n b)) ≡ true
+    unfolding ballOf
+    drawn-within b h =
+        let r = drawing D limit rows m n b in
+        let accepted = drawing-accepted D limit rows m n b h in
+        let table = within-limits limit rows m n (accepted .0) in
+        let eight : length (r .ball .«scaled_centre») ≡ channelLimit =
+        ap (λ (d : Drawing). length (d .ball .«scaled_centre»)) (drawing-is D limit rows m n b h) ∙ length-centreList n _ in
+        tight-within m (coordinate rows n) (r .ball) (r .moves) (drawing-tight D limit rows m n b h positive)
+        (omega (arith, eight, table .channels)) (table .some-channel) (table .channels)
+        (le-trans (drawing-spent D limit rows m n b h .0) (accepted .1))
+
+    pub checked-within : (ws : List ℕ) (moves : ℕ) → checking D limit rows m n ws .outcome ≡ Accepted → moves ≤ budgetLimit
+        → figuresWithin D types (figuresOf n codes (checking D limit rows m n ws .ball) moves) ≡ true
+    unfolding ballOf
+    checked-within ws moves h b =
+        let r = checking D limit rows m n ws in
+        let accepted = checking-accepted D limit rows m n ws h in
+        let table = within-limits limit rows m n (accepted .0) in
+        let eight : length (r .ball .«scaled_centre») ≡ channelLimit =
+        ap (λ (d : Checked). length (d .ball .«scaled_centre»))
+        (checking-checked D limit rows m n ws (accepted .0) (accepted .1) (accepted .2)) ∙ length-centreList n _ in
+        tight-within m (coordinate rows n) (r .ball) moves (checking-tight D limit rows m n ws h positive)
+        (omega (arith, eight, table .channels)) (table .some-channel) (table .channels) b

@@ -1,0 +1,3 @@
+-- Envelopes, in reading order: the figures with their limits, then the laws.
+pub mod Figures
+pub mod FigureLaws

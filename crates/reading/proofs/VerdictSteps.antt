@@ -1,0 +1,208 @@
+-- The verdict on a text and on its line, from what the code reads.
+--     lineVerdict r v                                  the verdict on a line, by what the line is; v where it is within
+--     byDistance D f reading                           s against M, of a reading in form
+--     judged-line                                      the verdict on a line that is read is by what the line is told to be
+--     PointRead, point-read                            the reading that a line within is, with its values in the lent places, as a row
+--     line-last, line-none                             the one line of a text, by its last byte
+--     judged-text                                      the verdict on a text, by the tests of the figures and of the text
+use Prim.Native.Nat.{ℕ, suc, _+_, _*_, _≤_, _<_}
+use mathlib.Core.Path.{_≡_, refl, sym, ap, ap₂, _∙_}
+use mathlib.Core.Bool.{Bool, true, false, cond}
+use mathlib.Core.List.{List, [], _∷_, _++_, map}
+use mathlib.Core.Option.{Option, none, some}
+use native.Mathlib.Omega.{arith}
+use lib.IntN.{ℤ, pos, natAbs}
+use lib.ListN.{length, getD, take, drop, length-append, length-map, length-drop, List·getD-append, List·getD-map}
+use lib.Seq.{take-all, take-suc, take-append-seam, getD-at}
+use Rattle.integers.specs.Tests.{clash, impossible}
+use Rattle.refusal.specs.Number.{text-length, line-form, value-range, outside-limits, tag-differs}
+use Rattle.refusal.specs.Outcome.{choose}
+use Rattle.geometry.specs.Limits.{channelLimit, coordinate}
+use Rattle.geometry.specs.Places.{centreOf}
+use Rattle.geometry.specs.Figures.{scaledSquaredDistance}
+use Rattle.geometry.specs.FigureLaws.{distance-cong}
+use Rattle.geometry.specs.Asked.{RowAt}
+use Rattle.text.specs.Parts.{lineEnd, textWithin, free, cut}
+use Rattle.channel.specs.Channel.{ChannelType}
+use Rattle.channel.specs.ChannelLaws.{soundTypes}
+use Rattle.value.specs.Value.{Written, number, reads}
+use Rattle.value.specs.ValueLaws.{reads-most}
+use Rattle.value.specs.Values.{valuesInRange}
+use Rattle.value.specs.ValuesLaws.{in-range}
+use Rattle.envelope.specs.Figures.{channelCodes, figuresWithin}
+use Rattle.envelope.specs.declared.Figures.{Figures}
+use Rattle.reading.specs.Reading.{Reading, oneLine, readingLine, readingOf, tagsAgree}
+use Rattle.reading.specs.ReadingLaws.{line-text, text-line}
+use Rattle.reading.specs.Verdict.{refusedVerdict, pointOf, verdictOf, judgedReading, judged}
+use Rattle.reading.specs.Contracts.{lineRead, lineAlone, LineRead}
+use Rattle.reading.specs.declared.Verdict.{Verdict}
+use Rattle.reading.specs.declared.Verdict.the-variants.{Quiet}
+use Rattle.reading.specs.declared.line.Line.{Line}
+use Rattle.reading.specs.declared.line.Line.the-variants.{Malformed, TagDiffers, OutOfRange, Within}
+
+-- ---- by what the line is
+
+abbrev pub lineVerdict : Line → Verdict → Verdict
+lineVerdict Malformed v = refusedVerdict line-form 1
+lineVerdict TagDiffers v = refusedVerdict tag-differs 1
+lineVerdict OutOfRange v = refusedVerdict value-range 1
+lineVerdict Within v = v
+
+abbrev pub byDistance : ℕ → Figures → Option Reading → Verdict
+byDistance D f none = Quiet
+byDistance D f (some reading) =
+    verdictOf (scaledSquaredDistance D (f .n) (centreOf (f .ball .«scaled_centre»)) (pointOf (reading .values))) (f .ball .«scaled_squared_radius»)
+
+by-line : (D : ℕ) (types : List ChannelType) (f : Figures) (o : Option Reading)
+    → lineVerdict (lineRead types (channelCodes f) o) (byDistance D f o) ≡ judgedReading D types f o
+by-line D types f none = refl
+by-line D types f (some reading) =
+    go (tagsAgree types (channelCodes f) (reading .tags)) (valuesInRange types (channelCodes f) (reading .values)) (byDistance D f (some reading))
+  where
+    go : (agree within : Bool) (v : Verdict) → lineVerdict (cond agree (cond within Within OutOfRange) TagDiffers) v
+        ≡ choose agree (λ _. choose within (λ _. v) (λ _. refusedVerdict value-range 1)) (λ _. refusedVerdict tag-differs 1)
+    go true true v = refl
+    go true false v = refl
+    go false within v = refl
+
+pub judged-line : (D : ℕ) (types : List ChannelType) (f : Figures) {text : List ℕ} {lent₀ lent : List ℤ} {r : Line}
+    → LineRead types (channelCodes f) text lent₀ lent r → length (channelCodes f) ≡ f .n → (told : Line) → r ≡ told
+    → let reading = readingLine (f .n) (lineAlone text) in lineVerdict told (byDistance D f reading) ≡ judgedReading D types f reading
+judged-line D types f {text} read count told is =
+    let reading = readingLine (f .n) (lineAlone text) in
+    ap (λ r. lineVerdict r (byDistance D f reading))
+    (sym is ∙ read .is ∙ ap (λ n. lineRead types (channelCodes f) (readingLine n (lineAlone text))) count)
+    ∙ by-line D types f reading
+
+-- ---- a line within
+
+-- the reading that the text is, and its values in the first places, as a row
+pub record PointRead (text : List ℕ) (lent : List ℤ) (n : ℕ) : Type 0 where
+  pub reading : Reading
+  pub is : readingLine n (lineAlone text) ≡ some reading
+  pub row : RowAt lent n 0
+  pub distance : (D : ℕ) (X : ℕ → ℤ) → scaledSquaredDistance D n X (coordinate lent n 0) ≡ scaledSquaredDistance D n X (pointOf (reading .values))
+
+-- a line within has a reading, whose values are within their ranges
+line-within : (types : List ChannelType) (codes : List ℕ) (o : Option Reading) → Within ≡ lineRead types codes o
+    → (reading : Reading) × (o ≡ some reading) × (valuesInRange types codes (reading .values) ≡ true)
+line-within types codes none e = impossible (cc)
+line-within types codes (some reading) e =
+    (reading, refl, go (tagsAgree types codes (reading .tags)) (valuesInRange types codes (reading .values)) e)
+  where
+    go : (agree within : Bool) → Within ≡ cond agree (cond within Within OutOfRange) TagDiffers → within ≡ true
+    go agree true h = refl
+    go true false h = impossible (cc)
+    go false false h = impossible (cc)
+
+module _ {types : List ChannelType} {codes text : List ℕ} {lent₀ lent : List ℤ} (read : LineRead types codes text lent₀ lent Within)
+    (sound : soundTypes types ≡ true) (n : ℕ) (count : length codes ≡ n) (few : n ≤ length lent₀) (most : n ≤ channelLimit) where
+  pub point-read : PointRead text lent n
+  unfolding coordinate scaledSquaredDistance
+  point-read =
+      record {
+        reading = reading;
+        is = ap (λ k. readingLine k (lineAlone text)) (sym count) ∙ within .1;
+        row =
+            record {
+              channels = most;
+              places = omega (arith, read .same-length);
+              bound = λ k l.
+                  omega (
+                    arith,
+                    ap natAbs (point-at k l ∙ List·getD-map reads values k (number (pos 0))),
+                    reads-most types sound (getD codes k 0) (getD values k (number (pos 0)))
+                        (in-range types codes values values-count (within .2) k (omega arith)),
+                  );
+            };
+        distance = λ D X. distance-cong D n {X = X} {Y = X} (λ k l. refl) point-at;
+      }
+    where
+      within : (reading : Reading) × (readingLine (length codes) (lineAlone text) ≡ some reading)
+          × (valuesInRange types codes (reading .values) ≡ true)
+      within = line-within types codes (readingLine (length codes) (lineAlone text)) (read .is)
+
+      reading : Reading
+      reading = within .0
+
+      values : List Written
+      values = reading .values
+
+      rest : List ℤ
+      rest = drop (length codes) lent₀
+
+      written : lent ≡ map reads values ++ rest
+      written = read .written reading (within .1) refl
+
+      values-count : length values ≡ length codes
+      values-count =
+          omega (
+            arith,
+            ap length written ∙ length-append (map reads values) rest,
+            length-map values reads,
+            length-drop (length codes) lent₀,
+            read .same-length,
+          )
+
+      point-at : (k : ℕ) → k < n → getD lent (0 * n + k) (pos 0) ≡ pointOf values k
+      point-at k l =
+          let first-row : 0 * n + k ≡ k = omega arith in
+          ap₂ (λ l j. getD l j (pos 0)) written first-row
+          ∙ List·getD-append (map reads values) rest (pos 0) k (omega (arith, values-count, length-map values reads))
+
+-- ---- the text
+
+-- a line and the byte 10 that ends it
+line-ending : (line : List ℕ) → oneLine (cut lineEnd (line ++ (lineEnd ∷ []))) ≡ lineAlone line
+line-ending line = go (free lineEnd line) refl
+  where
+    text : List ℕ
+    text = line ++ (lineEnd ∷ [])
+
+    other : free lineEnd line ≡ false → (o : Option (List ℕ)) → oneLine (cut lineEnd text) ≡ o → o ≡ none
+    other h none e = refl
+    other h (some first) e =
+        let whole = line-text text first e in
+        let as-long : length first ≡ length line =
+        omega (arith, sym (length-append first (lineEnd ∷ [])) ∙ ap length (whole .0) ∙ length-append line (lineEnd ∷ [])) in
+        let same-line : first ≡ line =
+        sym (take-append-seam first (lineEnd ∷ [])) ∙ ap₂ (λ k (l : List ℕ). take k l) as-long (whole .0) ∙ take-append-seam line (lineEnd ∷ []) in
+        clash (whole .1) (ap (free lineEnd) same-line ∙ h)
+
+    go : (t : Bool) → free lineEnd line ≡ t → oneLine (cut lineEnd text) ≡ cond t (some line) none
+    go true h = text-line line h
+    go false h = other h (oneLine (cut lineEnd text)) refl
+
+module _ (text : List ℕ) (end : ℕ) (last : length text ≡ end + 1) where
+  pub line-last : getD text end 0 ≡ lineEnd → oneLine (cut lineEnd text) ≡ lineAlone (take end text)
+  line-last h =
+      let whole : text ≡ take end text ++ (lineEnd ∷ []) =
+      sym (take-all (suc end) text (omega arith)) ∙ take-suc text end 0 (omega arith) ∙ ap (λ b. take end text ++ (b ∷ [])) h in
+      ap (λ l. oneLine (cut lineEnd l)) whole ∙ line-ending (take end text)
+
+  pub line-none : (getD text end 0 ≡ lineEnd → ⊥) → oneLine (cut lineEnd text) ≡ none
+  line-none h = go (oneLine (cut lineEnd text)) refl
+    where
+      go : (o : Option (List ℕ)) → oneLine (cut lineEnd text) ≡ o → o ≡ none
+      go none e = refl
+      go (some line) e =
+          let whole = line-text text line e .0 in
+          let as-long : length line ≡ end = omega (arith, sym (length-append line (lineEnd ∷ [])) ∙ ap length whole) in
+          absurd (h (ap (λ l. getD l end 0) (sym whole) ∙ getD-at line lineEnd [] 0 end as-long))
+
+pub judged-text : (D : ℕ) (types : List ChannelType) (f : Figures) (text : List ℕ) {within fitting : Bool} {line : Option (List ℕ)}
+    → figuresWithin D types f ≡ within → textWithin text ≡ fitting → oneLine (cut lineEnd text) ≡ line
+    → choose within
+    (λ _. choose fitting (λ _. judgedReading D types f (readingLine (f .n) line)) (λ _. refusedVerdict text-length 0))
+    (λ _. refusedVerdict outside-limits 0)
+    ≡ judged D types f text
+unfolding judged readingOf
+judged-text D types f text {within} w t l =
+    sym (ap₂ (λ b o. judgement within b (readingLine (f .n) o)) t l)
+    ∙ sym (ap (λ b. judgement b (textWithin text) (readingLine (f .n) (oneLine (cut lineEnd text)))) w)
+  where
+    judgement : Bool → Bool → Option Reading → Verdict
+    judgement within fitting reading =
+        choose within
+        (λ _. choose fitting (λ _. judgedReading D types f reading) (λ _. refusedVerdict text-length 0))
+        (λ _. refusedVerdict outside-limits 0)

@@ -1,0 +1,64 @@
+-- What the functions that read a reading's line do.
+--     linePairs types codes tags values        what a line with these tags and values is, if the values are in form
+--     pairsRead types codes fields             what the fields after the label are
+--     PairsRead                                the values in the lent places besides
+--     lineRead types codes reading             what a line is
+--     lineAlone line                           the line, where there is no byte 10 in it
+--     LineRead                                 what stands before a text's last byte 10, the values in the lent places besides
+--     Judging n codes X                        what a line is judged by
+use Prim.Native.Nat.{ℕ, _+_, _≤_}
+use mathlib.Core.Path.{_≡_}
+use mathlib.Core.Bool.{true, cond}
+use mathlib.Core.List.{List, _++_, map}
+use mathlib.Core.Option.{Option, none, some}
+use lib.Dec.{eqb}
+use lib.IntN.{ℤ}
+use lib.ListN.{length, take, drop}
+use Rattle.text.specs.Parts.{lineEnd, free}
+use Rattle.geometry.specs.Limits.{channelLimit}
+use Rattle.geometry.specs.Asked.{CentreWithin}
+use Rattle.channel.specs.Channel.{ChannelType, channelTypes}
+use Rattle.value.specs.Value.{Written, reads}
+use Rattle.value.specs.Values.{valuesOf, valuesInRange}
+use Rattle.envelope.specs.Figures.{codesKnown}
+use Rattle.reading.specs.Reading.{Reading, tagFields, valueFields, readingLine, tagsAgree}
+use Rattle.reading.specs.declared.line.Line.{Line}
+use Rattle.reading.specs.declared.line.Line.the-variants.{Malformed, TagDiffers, OutOfRange, Within}
+
+abbrev pub linePairs : List ChannelType → List ℕ → List (List ℕ) → Option (List Written) → Line
+linePairs types codes tags none = Malformed
+linePairs types codes tags (some vs) =
+    cond (tagsAgree types codes tags) (cond (valuesInRange types codes vs) Within OutOfRange) TagDiffers
+
+-- exactly two fields for each code
+abbrev pub pairsRead : List ChannelType → List ℕ → List (List ℕ) → Line
+pairsRead types codes fields =
+    cond (eqb (length fields) (length codes + length codes))
+    (linePairs types codes (tagFields fields) (valuesOf (valueFields fields))) Malformed
+
+-- the values of a line within stand in the first of the lent places
+pub record PairsRead (types : List ChannelType) (codes : List ℕ) (fields : List (List ℕ)) (lent₀ lent : List ℤ) (r : Line) : Type 0 where
+  pub is : r ≡ pairsRead types codes fields
+  pub same-length : length lent ≡ length lent₀
+  pub written : (vs : List Written) → valuesOf (valueFields fields) ≡ some vs → r ≡ Within
+      → lent ≡ map reads vs ++ drop (length codes) lent₀
+
+abbrev pub lineRead : List ChannelType → List ℕ → Option Reading → Line
+lineRead types codes none = Malformed
+lineRead types codes (some reading) = linePairs types codes (reading .tags) (some (reading .values))
+
+abbrev pub lineAlone : List ℕ → Option (List ℕ)
+lineAlone line = cond (free lineEnd line) (some line) none
+
+pub record LineRead (types : List ChannelType) (codes line : List ℕ) (lent₀ lent : List ℤ) (r : Line) : Type 0 where
+  pub is : r ≡ lineRead types codes (readingLine (length codes) (lineAlone line))
+  pub same-length : length lent ≡ length lent₀
+  pub written : (reading : Reading) → readingLine (length codes) (lineAlone line) ≡ some reading → r ≡ Within
+      → lent ≡ map reads (reading .values) ++ drop (length codes) lent₀
+
+-- n channels of known types, with as many places of X within their limit
+pub record Judging (n : ℕ) (codes : List ℕ) (X : List ℤ) : Type 0 where
+  pub channels : n ≤ channelLimit
+  pub typed : n ≤ length codes
+  pub each-known : codesKnown channelTypes (take n codes) ≡ true
+  pub centre : CentreWithin n X

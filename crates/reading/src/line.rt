@@ -1,0 +1,94 @@
+// A reading's line: a label, then tag and value n times. What its tags and its ranges say counts once every field is in form: 3
+// stands before 10 and 10 before 4, wherever in the line they are.
+ghost use mathlib.Core.Path.{_≡_};
+ghost use mathlib.Core.Bool.{true};
+ghost use Prim.Native.Nat.{_≤_};
+ghost use lib.ListN.{length, take};
+ghost use Rattle.text.specs.Parts.{comma, partsFrom};
+ghost use Rattle.channel.specs.Channel.{channelTypes};
+ghost use Rattle.envelope.specs.Figures.{codesKnown};
+ghost use Rattle.reading.specs.Contracts.{PairsRead, LineRead};
+use text::label::is_label;
+use text::parts::field_end;
+use text::parts::line_end;
+use value::Value;
+use value::read_value;
+
+// What a line is: not in form, in form with a tag that is not the envelope's, in form and of its tags with a value outside its
+// range, or within every range.
+pub enum Line {
+    Malformed,
+    TagDiffers,
+    OutOfRange,
+    Within,
+}
+
+// Exactly n pairs of tag and value from `at` on, each under its type, the values put into the lent places.
+fn read_pairs(line: &[u8], at: usize, types: &[u8], n: usize, places: &mut [i32]) -> Line
+    requires { ⌜ (n ≤ length (now types)) × (n ≤ length (now places)) ⌝ }
+    ensures { λ r.
+        ⌜ PairsRead channelTypes (take n (now (types .entry))) (partsFrom comma (now (line .entry)) at) (now (places .entry))
+        (now (places .exit)) r ⌝ }
+{
+    let mut from = at;
+    let mut tags_agree = true;
+    let mut out_of_range = false;
+    let mut i = 0;
+    while i < n {
+        if line.len() < from {
+            return Line::Malformed;
+        }
+        let tag_end = field_end(line, from);
+        if line.len() == tag_end {
+            return Line::Malformed;
+        }
+        let code = types[i];
+        tags_agree = channel::is_tag(&line[from..tag_end], code) & tags_agree;
+        let value_at = tag_end + 1;
+        let end = field_end(line, value_at);
+        let value = read_value(&line[value_at..end], code);
+        match value {
+            Value::Malformed => return Line::Malformed,
+            Value::OutOfRange => out_of_range = true,
+            Value::Reads(whole) => places[i] = whole,
+        }
+        from = end + 1;
+        i += 1;
+    }
+    if from <= line.len() {
+        return Line::Malformed;
+    }
+    if !tags_agree {
+        return Line::TagDiffers;
+    }
+    if out_of_range {
+        return Line::OutOfRange;
+    }
+    Line::Within
+}
+
+// What stands before a text's last byte 10 as a reading of n channels, its values put into the lent places. A byte 10 in it is no
+// part of a label or of a value, nor of any channel's tag: where every tag is the channel's there is none.
+pub fn read_line(line: &[u8], types: &[u8], n: usize, places: &mut [i32]) -> Line
+    requires { ⌜ (codesKnown channelTypes (take n (now types)) ≡ true) × ((n ≤ length (now types)) × (n ≤ length (now places))) ⌝ }
+    ensures { λ r.
+        ⌜ LineRead channelTypes (take n (now (types .entry))) (now (line .entry)) (now (places .entry)) (now (places .exit)) r ⌝ }
+{
+    let label_end = field_end(line, 0);
+    if !is_label(&line[..label_end]) {
+        return Line::Malformed;
+    }
+    let read = read_pairs(line, label_end + 1, types, n, places);
+    match read {
+        Line::Malformed => Line::Malformed,
+        Line::TagDiffers => {
+            if line_end(line, 0) < line.len() {
+                Line::Malformed
+            } else {
+                Line::TagDiffers
+            }
+        }
+        Line::OutOfRange => Line::OutOfRange,
+        Line::Within => Line::Within,
+    }
+}
