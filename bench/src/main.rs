@@ -6,7 +6,9 @@ mod measure;
 mod plain;
 mod random;
 mod reader;
+mod readings;
 mod texts;
+mod verdict;
 
 use measure::{measure, print_header};
 use random::Random;
@@ -33,6 +35,7 @@ fn main() {
     let mut random = Random(1);
     measure_ball(&mut random);
     texts::measure_texts(&mut random);
+    readings::measure_readings(&mut random);
 }
 
 fn measure_ball(random: &mut Random) {

@@ -16,6 +16,12 @@ pub fn print_header(amount: &str) {
     );
 }
 
+/// The seconds of the median round of each, per run through all the work.
+pub struct Medians {
+    pub proved: f64,
+    pub plain: f64,
+}
+
 /// Prints one line: the median round of each, per run through all the work, and both ratios.
 pub fn measure<Piece, Outcome: PartialEq + Debug>(
     name: &str,
@@ -23,7 +29,7 @@ pub fn measure<Piece, Outcome: PartialEq + Debug>(
     proved: impl Fn(&Piece) -> Outcome,
     plain: impl Fn(&Piece) -> Outcome,
     amount: impl Fn(&Piece, &Outcome) -> u64,
-) {
+) -> Medians {
     let mut total = 0;
     for piece in work {
         let outcome = plain(piece);
@@ -45,10 +51,14 @@ pub fn measure<Piece, Outcome: PartialEq + Debug>(
     for list in &mut times {
         list.sort_by(f64::total_cmp);
     }
-    let [proved, plain] = times.each_ref().map(|list| list[ROUNDS / 2] * 1_000.0);
+    let [proved, plain] = times.each_ref().map(|list| list[ROUNDS / 2]);
+    let [proved_ms, plain_ms] = [proved, plain].map(|seconds| seconds * 1_000.0);
     let of_medians = proved / plain;
     let of_minima = times[0][0] / times[1][0];
-    println!("{name:<24}{proved:>12.4}{plain:>12.4}{of_medians:>10.2}{of_minima:>10.2}{total:>10}");
+    println!(
+        "{name:<24}{proved_ms:>12.4}{plain_ms:>12.4}{of_medians:>10.2}{of_minima:>10.2}{total:>10}"
+    );
+    Medians { proved, plain }
 }
 
 /// The time of one run through all the work, over a number of runs.

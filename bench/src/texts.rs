@@ -16,8 +16,8 @@ const CHANNELS: usize = 8;
 const TEXT_LIMIT: usize = 65_536;
 const TEXTS: usize = 16;
 
-/// The tags with the ends of their ranges.
-const TAGS: [(&str, i32, i32); CHANNELS] = [
+/// The tags with the ends of their ranges, in the order of their codes.
+pub const TAGS: [(&str, i32, i32); CHANNELS] = [
     ("TOC", 0, 2_000),
     ("TC", 0, 4_000),
     ("IC", 0, 4_000),
@@ -85,17 +85,21 @@ fn ordinary_text(random: &mut Random) -> Vec<u8> {
         // The row's number in two digits keeps the labels apart.
         let more = "ABCDEFGHI".get(..random.below(10)).unwrap_or_default();
         text += &format!("\n{row:02X}{more}");
-        for &(_, low, high) in &TAGS {
-            let value = low + random.below((high - low) as usize + 1) as i32;
-            let sign = if value > 0 && random.below(10) == 0 {
-                "<"
-            } else {
-                ""
-            };
-            text += &format!(",{sign}{value}");
+        for channel in TAGS {
+            text += &format!(",{}", value(random, channel).0);
         }
     }
     (text + "\n").into_bytes()
+}
+
+/// A value anywhere in its range, one in ten of those above 0 below detection, and what it reads as.
+pub fn value(random: &mut Random, (_, low, high): (&str, i32, i32)) -> (String, i32) {
+    let number = low + random.below((high - low) as usize + 1) as i32;
+    if number > 0 && random.below(10) == 0 {
+        (format!("<{number}"), 0)
+    } else {
+        (number.to_string(), number)
+    }
 }
 
 /// Every label has 12 bytes and every value 5.

@@ -1,5 +1,5 @@
 //! Safe calls of the proved library: reference texts read into rows, a tight ball round them drawn
-//! in whole numbers, and the check of weights that anybody has chosen.
+//! in whole numbers, the check of weights that anybody has chosen, and the verdict on a reading.
 //!
 //! There are m rows (1 to 256) of n channels (1 to 8); each coordinate is a whole number from
 //! -4,000 to 4,000. Rows are lent as one list, row by row: the first m·n places count, and the
@@ -54,6 +54,23 @@
 //! high, which means below detection and reads as 0. [`read_reference`] reads such a text, and
 //! [`label`] finds the label of a row in it; [`read_reference_into`] and [`label_part`] are the
 //! library's own calls.
+//!
+//! A *reading* is one line of a label, then tag and value of each channel. Its s is the squared
+//! length of (D times its values - X): it is Quiet where s is at most M, else an Alarm with s - M.
+//! [`judge`] gives the verdict against the [`Figures`] of an envelope; [`judge_given`] is the
+//! library's own call.
+//!
+//! ```
+//! use cundarivo::Verdict;
+//!
+//! let drawing = cundarivo::draw(&[0, 0, 6, 0, 0, 8], 3, 2, 10_000)?;
+//! let figures = drawing.figures(&[1, 4]); // TOC and CND
+//! let verdict = cundarivo::judge(&figures, b"LOOP-1,TOC,3,CND,9\n")?;
+//! assert_eq!(verdict, Verdict::Quiet);
+//! let verdict = cundarivo::judge(&figures, b"LOOP-1,TOC,3,CND,10\n")?;
+//! assert_eq!(verdict, Verdict::Alarm { excess: 47_244_640_256 }); // 36 - 25, times D²
+//! # Ok::<(), cundarivo::Refusal>(())
+//! ```
 
 use std::error::Error;
 use std::fmt;
@@ -79,8 +96,9 @@ pub const TOTAL: u32 = 65_536;
 /// | 5 | a label that an earlier row has |
 /// | 6 | no row, or a 257th |
 /// | 7 | a lent table of fewer than m·n places |
-/// | 8 | n, m or a coordinate outside its limits, rows of fewer than m·n places, a weight list not of m places |
+/// | 8 | n, m, a coordinate, a type code or a figure of an envelope outside its limits, rows of fewer than m·n places, a weight list not of m places, types or X of fewer than n places, an ending that is neither 0 nor 1 |
 /// | 9 | a budget above 1,000,000 |
+/// | 10 | a tag of a reading that is not the envelope's |
 /// | 12 | weights whose sum is not [`TOTAL`] |
 /// | 13 | a lent slice too short for what is to be written |
 #[derive(Clone, Copy, Debug, PartialEq, Eq, Hash)]
@@ -99,8 +117,9 @@ impl fmt::Display for Refusal {
             5 => "label used on an earlier row",
             6 => "no row, or a 257th",
             7 => "lent table too short",
-            8 => "rows, channels, a coordinate or the weight list outside the limits",
+            8 => "rows, channels, a coordinate, the weight list or a figure outside the limits",
             9 => "budget above 1,000,000",
+            10 => "tag that is not the envelope's",
             12 => "weights that do not sum to 65,536",
             13 => "a lent slice too short",
             _ => "input turned back",
@@ -150,6 +169,70 @@ pub struct Checked {
     /// L.
     pub scaled_lower_bound: u64,
     pub settled: bool,
+}
+
+/// The figures of an envelope, which a reading is judged against. Whoever made them, [`judge`]
+/// refuses by 8 those outside their limits; [`Drawing::figures`] and, with moves of at most
+/// 1,000,000, [`Checked::figures`] give figures that are within them, for rows and types of a
+/// reference text.
+#[derive(Clone, Debug, PartialEq, Eq, Hash)]
+pub struct Figures {
+    /// The number of channels, 1 to [`CHANNELS`].
+    pub n: usize,
+    /// The codes of the channel types, 1 to 8; the first n places count.
+    pub types: Vec<u8>,
+    /// X, each place within 262,144,000 of 0; the first n count.
+    pub scaled_centre: Vec<i64>,
+    /// M, at most 2,199,023,255,552,000,000.
+    pub scaled_squared_radius: u64,
+    /// L, at most 2,199,023,255,552,000,000.
+    pub scaled_lower_bound: u64,
+    pub ending: Ending,
+    /// The moves made, at most 1,000,000.
+    pub moves: u32,
+}
+
+impl Drawing {
+    /// The figures of the drawn envelope, whose channels are of these types.
+    pub fn figures(&self, types: &[u8]) -> Figures {
+        Figures {
+            n: self.scaled_centre.len(),
+            types: types.to_vec(),
+            scaled_centre: self.scaled_centre.clone(),
+            scaled_squared_radius: self.scaled_squared_radius,
+            scaled_lower_bound: self.scaled_lower_bound,
+            ending: self.ending,
+            moves: self.moves,
+        }
+    }
+}
+
+impl Checked {
+    /// The figures of an envelope of the checked weights, whose channels are of these types. A
+    /// check makes no moves; those that the weights came from are given.
+    pub fn figures(&self, types: &[u8], moves: u32) -> Figures {
+        Figures {
+            n: self.scaled_centre.len(),
+            types: types.to_vec(),
+            scaled_centre: self.scaled_centre.clone(),
+            scaled_squared_radius: self.scaled_squared_radius,
+            scaled_lower_bound: self.scaled_lower_bound,
+            ending: ending(self.settled),
+            moves,
+        }
+    }
+}
+
+/// The verdict on a reading.
+#[derive(Clone, Copy, Debug, PartialEq, Eq, Hash)]
+pub enum Verdict {
+    /// s is at most M: the reading lies in the ball.
+    Quiet,
+    /// s is above M.
+    Alarm {
+        /// s - M.
+        excess: u64,
+    },
 }
 
 /// What the library answers to a drawing, in numbers; see [`draw_into`].
@@ -216,6 +299,35 @@ pub struct LabelAnswer {
     pub length: usize,
 }
 
+/// The figures of an envelope as they are given to the library, but for its types and X; see
+/// [`judge_given`].
+#[repr(C)]
+#[derive(Clone, Copy, Debug, PartialEq, Eq, Hash)]
+pub struct FiguresGiven {
+    pub n: usize,
+    /// M.
+    pub scaled_squared_radius: u64,
+    /// L.
+    pub scaled_lower_bound: u64,
+    /// 1 for Settled, 0 for Budget; any other number is refused by 8.
+    pub settled: u32,
+    pub moves: u32,
+}
+
+/// What the library answers to a reading, in numbers; see [`judge_given`].
+#[repr(C)]
+#[derive(Clone, Copy, Debug, PartialEq, Eq, Hash)]
+pub struct VerdictAnswer {
+    /// 0 where the reading is accepted, else the refusal's number; then both figures below are 0.
+    pub number: u32,
+    /// The line at fault, 0 where none is.
+    pub line: u32,
+    /// 1 for Quiet, 2 for Alarm.
+    pub verdict: u32,
+    /// s - M of an Alarm, 0 of a Quiet reading.
+    pub excess: u64,
+}
+
 unsafe extern "C" {
     fn cundarivo_draw(
         rows: *const i32,
@@ -250,6 +362,16 @@ unsafe extern "C" {
     ) -> ReferenceAnswer;
 
     fn cundarivo_label(text: *const u8, text_len: usize, row: usize) -> LabelAnswer;
+
+    fn cundarivo_judge(
+        figures: FiguresGiven,
+        types: *const u8,
+        types_len: usize,
+        centre: *const i64,
+        centre_len: usize,
+        text: *const u8,
+        text_len: usize,
+    ) -> VerdictAnswer;
 }
 
 /// Draws the ball round the rows with at most `budget` moves, all weight being on the first row at
@@ -263,17 +385,12 @@ pub fn draw(rows: &[i32], m: usize, n: usize, budget: u32) -> Result<Drawing, Re
     let mut weights = vec![0; places_for(m, rows)];
     let answer = draw_into(rows, m, n, budget, &mut scaled_centre, &mut weights);
     accepted(answer.number, answer.line)?;
-    let ending = if answer.settled == 1 {
-        Ending::Settled
-    } else {
-        Ending::Budget
-    };
     Ok(Drawing {
         scaled_centre,
         scaled_squared_radius: answer.scaled_squared_radius,
         scaled_lower_bound: answer.scaled_lower_bound,
         weights,
-        ending,
+        ending: ending(answer.settled == 1),
         moves: answer.moves,
     })
 }
@@ -396,6 +513,75 @@ pub fn label(text: &[u8], row: usize) -> &[u8] {
     &text[start..start + length]
 }
 
+/// Judges a reading against the figures of an envelope, whoever made either. The tags are compared
+/// before any value meets its range: 4 is the answer only where every tag is the envelope's.
+///
+/// ```
+/// use cundarivo::{Verdict, judge};
+///
+/// let text = b"REF,2,TOC,CND\nA,0,0\nB,6,0\nC,0,8\n";
+/// let (mut table, mut types) = ([0; 6], [0; 2]);
+/// let counts = cundarivo::read_reference(text, &mut table, &mut types)?;
+/// let drawing = cundarivo::draw(&table, counts.m, counts.n, 10_000)?;
+/// let figures = drawing.figures(&types);
+///
+/// // A row of the reference text is Quiet, `<3` reads as 0, and (7, 0) is outside.
+/// assert_eq!(judge(&figures, b"B,TOC,6,CND,0\n")?, Verdict::Quiet);
+/// assert_eq!(judge(&figures, b"B,TOC,6,CND,<3\n")?, Verdict::Quiet);
+/// let excess = 30_064_771_072;
+/// assert_eq!(judge(&figures, b"B,TOC,7,CND,0\n")?, Verdict::Alarm { excess });
+///
+/// // 2001 is outside the range of TOC, but a wrong tag comes first.
+/// let number = |text| judge(&figures, text).unwrap_err().number;
+/// assert_eq!(number(b"B,TOC,2001,CND,0\n"), 4);
+/// assert_eq!(number(b"B,TOC,2001,PH,0\n"), 10);
+/// # Ok::<(), cundarivo::Refusal>(())
+/// ```
+///
+/// # Errors
+///
+/// Refusals 8, 1, 3, 10, then 4: see [`Refusal`].
+pub fn judge(figures: &Figures, text: &[u8]) -> Result<Verdict, Refusal> {
+    let given = FiguresGiven {
+        n: figures.n,
+        scaled_squared_radius: figures.scaled_squared_radius,
+        scaled_lower_bound: figures.scaled_lower_bound,
+        settled: u32::from(figures.ending == Ending::Settled),
+        moves: figures.moves,
+    };
+    let answer = judge_given(given, &figures.types, &figures.scaled_centre, text);
+    accepted(answer.number, answer.line)?;
+    Ok(match answer.verdict {
+        1 => Verdict::Quiet,
+        _ => Verdict::Alarm {
+            excess: answer.excess,
+        },
+    })
+}
+
+/// The library's own call of [`judge`], which takes and answers numbers. `types` and `centre` lend
+/// at least n places, of which the first n count; fewer are refused by 8.
+pub fn judge_given(
+    figures: FiguresGiven,
+    types: &[u8],
+    centre: &[i64],
+    text: &[u8],
+) -> VerdictAnswer {
+    // SAFETY: each pointer and length are those of a live slice, which the library only reads, and
+    // it is proved to keep within the lengths for every n.
+    unsafe {
+        cundarivo_judge(
+            figures,
+            types.as_ptr(),
+            types.len(),
+            centre.as_ptr(),
+            centre.len(),
+            text.as_ptr(),
+            text.len(),
+        )
+    }
+}
+
 /// The library's own call of [`read_reference`], which answers with numbers.
 pub fn read_reference_into(text: &[u8], table: &mut [i32], types: &mut [u8]) -> ReferenceAnswer {
     // SAFETY: each pointer and length are those of a live slice, the written ones lent to nobody
@@ -423,6 +609,13 @@ pub fn label_part(text: &[u8], row: usize) -> LabelAnswer {
 /// places is refused, so that no count, however large, is allocated.
 fn places_for(count: usize, rows: &[i32]) -> usize {
     count.min(rows.len())
+}
+
+fn ending(settled: bool) -> Ending {
+    match settled {
+        true => Ending::Settled,
+        false => Ending::Budget,
+    }
 }
 
 fn accepted(number: u32, line: u32) -> Result<(), Refusal> {

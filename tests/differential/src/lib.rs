@@ -2,10 +2,14 @@
 //!
 //! - `compare`: one case through both, every figure and every place of lent memory compared.
 //! - `compare_text`: one reference text through both, in the same way.
+//! - `compare_reading`: one reading through both, in the same way.
+//! - `named`: tests by the names of known cases.
 //! - `tally`: what was compared and which refusals were reached.
 //! - `reached`: how often each outcome and each kind of input was met.
 
 pub mod compare;
+pub mod compare_reading;
 pub mod compare_text;
+pub mod named;
 pub mod reached;
 pub mod tally;

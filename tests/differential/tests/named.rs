@@ -2,6 +2,7 @@
 //! at its rules of the move, each by a test of its own.
 
 use differential::compare::{self, Lent, Room};
+use differential::named;
 use outside::cases::{Answer, Case};
 use outside::known::{self, Known};
 use outside::random::Random;
@@ -23,24 +24,6 @@ fn holds(list: Vec<Known>, name: &str) {
     let rooms = [Room::Exact, Room::Longer];
     answers(&mut Random::new(3), &known, &rooms, &known.answer);
     compare::compare_owned(&known.case);
-}
-
-/// A test by the name of each case, and one that none is left out.
-macro_rules! named {
-    ($module:ident, $list:path: $($name:ident)*) => {
-        mod $module {
-            $(#[test]
-            fn $name() {
-                super::holds($list(), stringify!($name));
-            })*
-
-            #[test]
-            fn every_case_has_a_test() {
-                let names: Vec<&str> = $list().iter().map(|known| known.name).collect();
-                assert_eq!(names, [$(stringify!($name)),*]);
-            }
-        }
-    };
 }
 
 named!(bad_input, outside::known::bad_input:

@@ -2,6 +2,7 @@
 //! of its own.
 
 use differential::compare_text::{ENOUGH, ROOMS, Room, Text};
+use differential::named;
 use outside::known_texts::{self, KnownText};
 use outside::random::Random;
 
@@ -21,39 +22,22 @@ fn holds(list: Vec<KnownText>, name: &str) {
     assert!(text.compare_labels(random) > 0);
 }
 
-/// A test by the name of each text, and one that none is left out.
-macro_rules! named {
-    ($list:ident: $($name:ident)*) => {
-        mod $list {
-            $(#[test]
-            fn $name() {
-                super::holds(outside::known_texts::$list(), stringify!($name));
-            })*
+named!(examples, outside::known_texts::examples:
+    record tags_of_two value_05 value_2001 label_twice heading_alone
+);
 
-            #[test]
-            fn every_text_has_a_test() {
-                let list = outside::known_texts::$list();
-                let names: Vec<&str> = list.iter().map(|known| known.name).collect();
-                assert_eq!(names, [$(stringify!($name)),*]);
-            }
-        }
-    };
-}
+named!(trials, outside::known_texts::trials: toc_2000 toc_2001 row_256 row_257);
 
-named!(examples: record tags_of_two value_05 value_2001 label_twice heading_alone);
+named!(lengths, outside::known_texts::lengths: empty_text bytes_65536 bytes_65537);
 
-named!(trials: toc_2000 toc_2001 row_256 row_257);
-
-named!(lengths: empty_text bytes_65536 bytes_65537);
-
-named!(headings:
+named!(headings, outside::known_texts::headings:
     heading_without_end
     channels_0 channels_9 channels_01 channels_above_64_bits
     tag_too_few tag_too_many tag_lower_case tag_and_byte_13
     word_lower_case heading_empty
 );
 
-named!(values:
+named!(values, outside::known_texts::values:
     minus_0 leading_0 plus_1 blank_after_1 value_empty
     below_alone below_twice below_0 below_minus_1 below_leading_0
     plain_0 minus_1 plain_2000 plain_2001
@@ -61,21 +45,23 @@ named!(values:
     above_32_bits above_64_bits
 );
 
-named!(largest: ends_of_every_range largest_accepted);
+named!(largest, outside::known_texts::largest: ends_of_every_range largest_accepted);
 
-named!(labels: label_0_bytes label_12_bytes label_13_bytes label_lower_case label_above_127);
+named!(labels, outside::known_texts::labels:
+    label_0_bytes label_12_bytes label_13_bytes label_lower_case label_above_127
+);
 
-named!(lines:
+named!(lines, outside::known_texts::lines:
     byte_13 empty_line empty_line_at_the_end
     field_too_many comma_at_the_end field_too_few one_field_of_two
     row_without_end
 );
 
-named!(row_counts:
+named!(row_counts, outside::known_texts::row_counts:
     row_257_out_of_form row_257_out_of_range row_257_repeated row_257_empty row_257_without_end
 );
 
-named!(orders:
+named!(orders, outside::known_texts::orders:
     repeated_and_out_of_range repeated_and_out_of_form repeated_without_end
     out_of_range_then_form
     range_line_before_form_line form_line_before_range_line

@@ -171,8 +171,12 @@ pub fn weighting(random: &mut Random) -> Weighting {
     if random.once_in(3) {
         random.pick(&WEIGHTINGS[6..])
     } else {
-        random.pick(&WEIGHTINGS[..6])
+        accepted_weighting(random)
     }
+}
+
+pub fn accepted_weighting(random: &mut Random) -> Weighting {
+    random.pick(&WEIGHTINGS[..6])
 }
 
 /// Weights of a kind, for a set within the limits and weights drawn for it.

@@ -66,6 +66,9 @@ const OTHERS: [Damage; 4] = [
     Damage::AboveTheLimit,
 ];
 
+/// The small kinds that any text takes: those of bytes, stretches and lines.
+pub const OF_ANY_TEXT: &[Damage] = SMALL.split_at(1).1;
+
 /// Bytes that texts are made of, and bytes next to these.
 const BYTES: &[u8] = b"0123456789<-+,\nABCREFTOZaz \r.;:/@[\t\"'\0\x7f\x80\xff";
 
@@ -126,11 +129,7 @@ fn lines(text: &[u8]) -> Vec<Vec<u8>> {
 }
 
 fn fields(line: &[u8]) -> Fields {
-    line.strip_suffix(b"\n")
-        .unwrap_or(line)
-        .split(|&byte| byte == b',')
-        .map(<[u8]>::to_vec)
-        .collect()
+    texts::fields(line.strip_suffix(b"\n").unwrap_or(line))
 }
 
 /// Puts a fault into a row, a repeated label below the first row; where there is none, into the

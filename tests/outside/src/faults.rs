@@ -59,7 +59,7 @@ pub fn row_fault(random: &mut Random) -> RowFault {
 }
 
 /// Value fields that are not in form.
-const NO_VALUES: [&str; 26] = [
+pub const NO_VALUES: [&str; 26] = [
     "", "-", "<", "<<1", "-0", "<-0", "00", "05", "-05", "<05", "<00", "+1", "--1", "-<1", "<1<",
     "1 ", " 1", "1.0", "1-", "0x1", "1e3", "A", "\"1\"", "١", "\0", "1\0",
 ];
@@ -98,7 +98,8 @@ pub fn put(
     }
 }
 
-fn no_label(random: &mut Random) -> Vec<u8> {
+/// A label that is not in form.
+pub fn no_label(random: &mut Random) -> Vec<u8> {
     match random.below(3) {
         0 => vec![b'A'; LABEL_LIMIT + 1 + random.index(20)],
         1 => vec![random.between(128, 255) as u8],
@@ -107,7 +108,7 @@ fn no_label(random: &mut Random) -> Vec<u8> {
 }
 
 /// A prefix and at least five digits, the first of them above 0.
-fn long_number(random: &mut Random, prefixes: &[&str]) -> Vec<u8> {
+pub fn long_number(random: &mut Random, prefixes: &[&str]) -> Vec<u8> {
     let digit = |random: &mut Random, low: u8| random.between(low.into(), b'9'.into()) as u8;
     let mut field = Vec::from(random.pick(prefixes));
     field.push(digit(random, b'1'));
@@ -118,7 +119,7 @@ fn long_number(random: &mut Random, prefixes: &[&str]) -> Vec<u8> {
 
 /// A value in form outside the range of a type: just outside, far, or one that is within the range
 /// in 16, 32 or 64 bits.
-fn out_of_range(random: &mut Random, channel: &ChannelType) -> String {
+pub fn out_of_range(random: &mut Random, channel: &ChannelType) -> String {
     let (low, high) = (i128::from(channel.low), i128::from(channel.high));
     let within = i128::from(random.between(1, channel.high));
     let wrapping = within + (1 << random.pick(&[16, 32, 64]));
@@ -165,7 +166,8 @@ const NO_COUNTS: [&str; 12] = [
     "18446744073709551617",
 ];
 
-const NO_TAGS: [&str; 12] = [
+/// Fields that are no tag.
+pub const NO_TAGS: [&str; 12] = [
     "", "toc", "Toc", "TO", "TOCX", "T0C", "TOC ", " TOC", "P", "PHX", "C\0D", "1",
 ];
 

@@ -3,6 +3,7 @@
 //!
 //! - `rules`: the figures, the move, the drawing, the check and their refusals.
 //! - `reference`: reading a reference text and finding its labels, and the refusals of both.
+//! - `readings`: the figures of an envelope, the verdict on a reading, and the refusals.
 //! - `random`: a seeded source of numbers.
 //! - `sets`: reference sets of many shapes and sizes, whole and damaged.
 //! - `cases`: arguments of the two calls, with budgets and weights of many kinds.
@@ -15,14 +16,25 @@
 //! - `sweeps`: every text that is close to a small one.
 //! - `known_texts`: the texts that document 01 and the list of bad input name.
 //! - `stored_texts`: a set of texts as the input and the output of a program.
+//! - `envelopes`: figures of envelopes, drawn, checked and arbitrary, and those outside the limits.
+//! - `reading_texts`: readings within the rules.
+//! - `reading_faults`: calls with one fault, and with two in both orders.
+//! - `reading_damage`: readings damaged in any way.
+//! - `known_readings`: the readings that document 01 and the list of bad input name.
 
 pub mod cases;
 pub mod damage;
 pub mod demands;
+pub mod envelopes;
 pub mod faults;
 pub mod known;
+pub mod known_readings;
 pub mod known_texts;
 pub mod random;
+pub mod reading_damage;
+pub mod reading_faults;
+pub mod reading_texts;
+pub mod readings;
 pub mod reference;
 pub mod rules;
 pub mod sets;

@@ -1,5 +1,5 @@
-//! Texts in full sweeps: every change of one byte, every short value field, every number near the
-//! ranges, every short tag.
+//! Texts and readings in full sweeps: every change of one byte, every short value field, every
+//! number near the ranges, every short tag.
 
 use crate::reference::{CHANNEL_TYPES, ChannelType};
 
@@ -8,6 +8,12 @@ pub const SMALL_TEXTS: [&str; 3] = [
     "REF,2,TOC,ORP\nA,0,-12\nB-1,<7,20\n",
     "REF,1,PH\nZ,1400\nZZ,0\n",
     "REF,3,TC,IC,TMP\n0,4000,<1,-200\n",
+];
+
+/// Small readings whose every byte is changed, with the codes of their types.
+pub const SMALL_READINGS: [(&str, &[u8]); 2] = [
+    ("A,TOC,0,CND,0\n", &[1, 4]),
+    ("B-1,ORP,-12,TMP,<7,PH,1400\n", &[8, 5, 6]),
 ];
 
 /// The bytes of value fields, and the most of them in a field.
@@ -43,29 +49,67 @@ fn one_value(channel: &ChannelType, field: &[u8]) -> Vec<u8> {
 
 /// Every field of at most five of the bytes that numbers are made of, under every type.
 pub fn short_values(mut visit: impl FnMut(&[u8])) {
-    for field in words(VALUE_BYTES, VALUE_LENGTH) {
-        for channel in &CHANNEL_TYPES {
-            visit(&one_value(channel, &field));
-        }
-    }
+    short_fields(|channel, field| visit(&one_value(channel, field)));
 }
 
 /// Every number in and round the ranges, plain and after `<`, under every type.
 pub fn near_numbers(mut visit: impl FnMut(&[u8])) {
-    for channel in &CHANNEL_TYPES {
-        for number in -NUMBERS..=NUMBERS {
-            visit(&one_value(channel, number.to_string().as_bytes()));
-            visit(&one_value(channel, format!("<{number}").as_bytes()));
-        }
-    }
+    near_fields(|channel, field| visit(&one_value(channel, field)));
 }
 
 /// Every tag of at most three capital letters.
 pub fn short_tags(mut visit: impl FnMut(&[u8])) {
-    let letters: Vec<u8> = (b'A'..=b'Z').collect();
-    for tag in words(&letters, TAG_LENGTH) {
+    for tag in short_words() {
         visit(&[b"REF,1,", &tag[..], b"\nA,1\n"].concat());
     }
+}
+
+/// A reading of one channel with this tag and this value.
+fn one_channel(tag: &[u8], field: &[u8]) -> Vec<u8> {
+    [b"A,", tag, b",", field, b"\n"].concat()
+}
+
+/// For every type, a reading of one channel with each short field, and with each number in and
+/// round the ranges, plain and after `<`.
+pub fn values_of_readings(mut visit: impl FnMut(&ChannelType, &[u8])) {
+    let mut reading = |channel: &ChannelType, field: &[u8]| {
+        visit(channel, &one_channel(channel.tag.as_bytes(), field));
+    };
+    short_fields(&mut reading);
+    near_fields(&mut reading);
+}
+
+/// For every type, a reading of one channel with each tag of at most three capital letters, once
+/// with a value that is within every range and once with one that is within none.
+pub fn tags_of_readings(mut visit: impl FnMut(&ChannelType, &[u8])) {
+    for tag in short_words() {
+        for channel in &CHANNEL_TYPES {
+            visit(channel, &one_channel(&tag, b"1"));
+            visit(channel, &one_channel(&tag, b"4001"));
+        }
+    }
+}
+
+fn short_fields(mut visit: impl FnMut(&ChannelType, &[u8])) {
+    for field in words(VALUE_BYTES, VALUE_LENGTH) {
+        for channel in &CHANNEL_TYPES {
+            visit(channel, &field);
+        }
+    }
+}
+
+fn near_fields(mut visit: impl FnMut(&ChannelType, &[u8])) {
+    for channel in &CHANNEL_TYPES {
+        for number in -NUMBERS..=NUMBERS {
+            visit(channel, number.to_string().as_bytes());
+            visit(channel, format!("<{number}").as_bytes());
+        }
+    }
+}
+
+fn short_words() -> Vec<Vec<u8>> {
+    let letters: Vec<u8> = (b'A'..=b'Z').collect();
+    words(&letters, TAG_LENGTH)
 }
 
 /// Every word of at most so many letters, the empty one included.

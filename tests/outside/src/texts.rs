@@ -72,6 +72,13 @@ pub fn line(fields: &[Vec<u8>]) -> Vec<u8> {
     bytes
 }
 
+/// The fields of a line without its byte 10.
+pub fn fields(line: &[u8]) -> Fields {
+    line.split(|&byte| byte == b',')
+        .map(<[u8]>::to_vec)
+        .collect()
+}
+
 /// Row and channel counts: most texts are small, some are full.
 pub fn size(random: &mut Random) -> (usize, usize) {
     let n = 1 + random.index(CHANNEL_LIMIT);
@@ -103,13 +110,18 @@ fn labels(random: &mut Random, count: usize) -> Vec<Vec<u8>> {
     list
 }
 
+/// A label of any of the bytes that labels are made of.
+pub fn any_label(random: &mut Random) -> Vec<u8> {
+    label(random, LABEL_BYTES)
+}
+
 fn label(random: &mut Random, letters: &[u8]) -> Vec<u8> {
     let length = 1 + random.index(LABEL_LIMIT);
     (0..length).map(|_| random.pick(letters)).collect()
 }
 
 /// A value field within the range of a type, and what it reads as.
-fn value(random: &mut Random, channel: &ChannelType) -> (String, i32) {
+pub fn value(random: &mut Random, channel: &ChannelType) -> (String, i32) {
     let ChannelType { low, high, .. } = *channel;
     let number = match random.below(10) {
         0 => low,

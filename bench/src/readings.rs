@@ -1,0 +1,98 @@
+//! The verdict on readings, measured.
+//!
+//! - of 8: readings of one channel of each type, values anywhere in their ranges, one in ten below
+//!   detection, labels of 2 to 11 bytes; judged against the envelope drawn from them, so that all
+//!   are Quiet.
+//! - of 1: the same of TOC alone.
+
+use crate::measure::{measure, print_header};
+use crate::random::Random;
+use crate::texts::{TAGS, value};
+use crate::verdict::{self, Verdict};
+use cundarivo::{Ending, Figures};
+
+const READINGS: usize = 256;
+const BUDGET: u32 = 10_000;
+
+struct Work<'a> {
+    figures: &'a Figures,
+    text: &'a [u8],
+}
+
+/// The verdict, or the refusal's number and line.
+type Outcome = Result<Verdict, verdict::Refusal>;
+
+type Judge = fn(&Work<'_>) -> Outcome;
+
+pub fn measure_readings(random: &mut Random) {
+    print_header("bytes");
+    for n in [8, 1] {
+        let (figures, texts) = drawn(random, n);
+        let work: Vec<Work<'_>> = texts
+            .iter()
+            .map(|text| Work {
+                figures: &figures,
+                text,
+            })
+            .collect();
+        for (way, plain) in [("fields", by_fields as Judge), ("one pass", in_one_pass)] {
+            let name = format!("judge {n}, {way}");
+            let medians = measure(&name, &work, proved, plain, quiet_bytes);
+            let [proved, plain] =
+                [medians.proved, medians.plain].map(|time| READINGS as f64 / time);
+            println!("{name}: {proved:.0} readings a second, plain {plain:.0}");
+        }
+    }
+}
+
+fn quiet_bytes(work: &Work<'_>, outcome: &Outcome) -> u64 {
+    assert_eq!(outcome, &Ok(Verdict::Quiet), "a row of the envelope");
+    work.text.len() as u64
+}
+
+/// Readings of n channels, and the figures of the envelope drawn from them.
+fn drawn(random: &mut Random, n: usize) -> (Figures, Vec<Vec<u8>>) {
+    let mut rows = Vec::with_capacity(READINGS * n);
+    let mut texts = Vec::with_capacity(READINGS);
+    for row in 0..READINGS {
+        let more = "ABCDEFGHI".get(..random.below(10)).unwrap_or_default();
+        let mut text = format!("{row:02X}{more}");
+        for channel in &TAGS[..n] {
+            let (field, reads) = value(random, *channel);
+            text += &format!(",{},{field}", channel.0);
+            rows.push(reads);
+        }
+        texts.push((text + "\n").into_bytes());
+    }
+    let drawing = cundarivo::draw(&rows, READINGS, n, BUDGET).expect("within limits");
+    let types: Vec<u8> = (1..=n as u8).collect();
+    (drawing.figures(&types), texts)
+}
+
+fn proved(work: &Work<'_>) -> Outcome {
+    match cundarivo::judge(work.figures, work.text) {
+        Ok(cundarivo::Verdict::Quiet) => Ok(Verdict::Quiet),
+        Ok(cundarivo::Verdict::Alarm { excess }) => Ok(Verdict::Alarm(excess)),
+        Err(refusal) => Err((refusal.number, refusal.line)),
+    }
+}
+
+fn by_fields(work: &Work<'_>) -> Outcome {
+    verdict::judge(&given(work.figures), work.text)
+}
+
+fn in_one_pass(work: &Work<'_>) -> Outcome {
+    verdict::judge_in_one_pass(&given(work.figures), work.text)
+}
+
+fn given(figures: &Figures) -> verdict::Figures<'_> {
+    verdict::Figures {
+        n: figures.n,
+        types: &figures.types,
+        scaled_centre: &figures.scaled_centre,
+        scaled_squared_radius: figures.scaled_squared_radius,
+        scaled_lower_bound: figures.scaled_lower_bound,
+        settled: u32::from(figures.ending == Ending::Settled),
+        moves: figures.moves,
+    }
+}
