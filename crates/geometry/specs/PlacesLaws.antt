@@ -3,11 +3,12 @@
 --     length-centreList                       X has eight places
 --     centreList-at, centreList-past          its places below n are X, those past n are 0
 --     centreList-by                           a list with these places is X's
+--     centreList-zeros                        so is one that starts with n coordinates and goes on with zeros
 --     centreList-most                         a bound on X is one on all places
 --     centreList-more                         one channel more
 --     centreList-cong                         only the places below n count
-use Prim.Native.Nat.{ℕ, zero, suc, _+_, _≤_, _<_}
-use mathlib.Core.Path.{_≡_, refl, sym, _∙_, ap}
+use Prim.Native.Nat.{ℕ, zero, suc, _+_, _-_, _≤_, _<_}
+use mathlib.Core.Path.{_≡_, refl, sym, _∙_, ap, ap₂}
 use mathlib.Core.Logic.{_≢_, _⊎_, inl, inr}
 use mathlib.Core.Bool.{Bool, cond}
 use mathlib.Core.List.{List, [], _∷_, _++_}
@@ -17,8 +18,8 @@ use borrow.Author.Count.{below-more}
 use borrow.Author.Tests.{lt-ltb, le-ltb}
 use lib.Dec.{ltb}
 use lib.IntN.{ℤ, pos, natAbs}
-use lib.ListN.{length, getD, set, length-set, length-append, List·getD-append, List·getD-eq-default}
-use lib.Seq.{getD-at, ext-getD, getD-set-same, getD-set-other}
+use lib.ListN.{length, getD, set, drop, replicate, length-set, length-append, length-drop, length-replicate, List·getD-append, List·getD-eq-default}
+use lib.Seq.{getD-at, getD-append-add, getD-drop, ext-getD, getD-set-same, getD-set-other}
 use Rattle.integers.specs.SumLaws.{last-or-below}
 use Rattle.geometry.specs.Limits.{channelLimit}
 use Rattle.geometry.specs.Places.{tabulate, centreList, centreOf}
@@ -76,6 +77,24 @@ module _ (n : ℕ) (X : ℕ → ℤ) where
       same : (k : ℕ) → k < channelLimit → Dec (k < n) → getD l k (pos 0) ≡ getD (centreList n X) k (pos 0)
       same k h (yes b) = at k b ∙ sym (getD-centreList k h ∙ place-at k b)
       same k h (no b) = past k (omega arith) ∙ sym (getD-centreList k h ∙ place-past k (omega arith))
+
+zeros-at : (count k : ℕ) → getD (replicate count (pos 0)) k (pos 0) ≡ pos 0
+zeros-at zero k = refl
+zeros-at (suc count) zero = refl
+zeros-at (suc count) (suc k) = zeros-at count k
+
+pub centreList-zeros : (n : ℕ) (x l : List ℤ) → n ≤ channelLimit → length l ≡ channelLimit → l ≡ x ++ drop n (replicate channelLimit (pos 0))
+    → l ≡ centreList n (centreOf x)
+centreList-zeros n x l most len e =
+    let zeros = replicate channelLimit (pos 0) in
+    let long : length x ≡ n =
+    omega (arith, ap length e, length-append x (drop n zeros), length-drop n zeros, length-replicate channelLimit (pos 0)) in
+    centreList-by n (centreOf x) l len
+    (λ k h. ap (λ l. getD l k (pos 0)) e ∙ List·getD-append x (drop n zeros) (pos 0) k (omega arith))
+    (λ k h.
+    let at : k ≡ length x + (k - n) = omega arith in
+    ap₂ (λ l i. getD l i (pos 0)) e at ∙ getD-append-add x (drop n zeros) (k - n) (pos 0)
+    ∙ getD-drop n zeros (k - n) (pos 0) ∙ zeros-at channelLimit (n + (k - n)))
 
 -- a bound on X is one on all places
 pub centreList-most : (n C : ℕ) (X : ℕ → ℤ) → n ≤ channelLimit → ((k : ℕ) → k < n → natAbs (X k) ≤ C) → (k : ℕ) → natAbs (centreOf (centreList n X) k) ≤ C

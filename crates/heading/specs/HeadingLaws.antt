@@ -3,7 +3,8 @@
 --     heading-printed    the line is their printing
 --     printed-heading    the printing of codes within the limit is read as them
 --     heading-free       no byte that stands in no label stands in the printing of codes, the comma apart
-use Prim.Native.Nat.{ℕ, zero, suc, _≤_}
+--     heading-length     how many bytes the printing of codes has at most, where no tag has more than three
+use Prim.Native.Nat.{ℕ, zero, suc, _+_, _*_, _^_, _≤_, _<_}
 use mathlib.Core.Path.{_≡_, refl, sym, _∙_, ap, ap₂}
 use mathlib.Core.Bool.{Bool, true, false, cond, _&&_}
 use mathlib.Core.List.{List, [], _∷_, map}
@@ -16,12 +17,14 @@ use lib.ListN.{length, length-map}
 use Rattle.text.specs.Parts.{comma, cut, join, same, free, allFree}
 use Rattle.integers.specs.Tests.{both, unlike, cond-some}
 use Rattle.lists.specs.Each.{Each, each-cons, each-head, each-tail}
-use Rattle.text.specs.PartsLaws.{same-eq, same-refl, join-cut, cut-join, join-free}
+use Rattle.text.specs.PartsLaws.{same-eq, same-refl, join-cut, cut-join, join-free, join-length}
 use Rattle.text.specs.Number.{plain, print}
-use Rattle.text.specs.NumberLaws.{plain-print, print-plain, print-free}
+use Rattle.text.specs.NumberLaws.{plain-print, print-plain, print-free, magnitude-short}
 use Rattle.text.specs.Label.{isLabel, isLabelByte}
 use Rattle.text.specs.LabelLaws.{label-free, no-digit, no-hyphen}
 use Rattle.channel.specs.Channel.{ChannelType, codeOf, tagOf}
+use Rattle.channel.specs.Answers.{tagLimit}
+use Rattle.channel.specs.AnswersLaws.{shortTags, type-short}
 use Rattle.channel.specs.ChannelLaws.{soundTypes, Known, code-tag, tag-code, known-code, known-some, tags-free}
 use Rattle.heading.specs.Heading.{countWithin, channelCount, andCode, codesOf, headingFields, headingOf, printHeading, CodesWithin}
 
@@ -152,3 +155,18 @@ module _ (types : List ChannelType) (types-sound : soundTypes types ≡ true) wh
           eq-eqb (length codes) (length codes) refl,
         )
         (printed-codes codes (within .each-known)))
+
+module _ (types : List ChannelType) (short : shortTags types ≡ true) where
+  tags-length : (first codes : List ℕ) → length (join comma (first ∷ map (tagOf types) codes)) ≤ length first + suc tagLimit * length codes
+  unfolding join
+  tags-length first [] = omega arith
+  tags-length first (code ∷ codes) =
+      let tag = tagOf types code in
+      omega (arith, join-length comma first tag (map (tagOf types) codes), type-short types short code, tags-length tag codes)
+
+  pub heading-length : (k : ℕ) (word codes : List ℕ) → 1 ≤ k → length codes < 10 ^ k
+      → length (printHeading word types codes) ≤ length word + suc k + suc tagLimit * length codes
+  unfolding printHeading print
+  heading-length k word codes some-digit below =
+      let count = print (pos (length codes)) in
+      omega (arith, join-length comma word count (map (tagOf types) codes), magnitude-short k (length codes) some-digit below, tags-length count codes)

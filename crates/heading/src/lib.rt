@@ -1,17 +1,23 @@
 // The heading of a reference text or a record: a word, n and n tags.
 ghost use mathlib.Core.Path.{_≡_};
 ghost use mathlib.Core.Option.{none};
-ghost use Prim.Native.Nat.{_≤_};
+ghost use Prim.Native.Nat.{_+_, _*_, _≤_};
+ghost use lib.ListN.{length, take};
 ghost use Rattle.geometry.specs.Limits.{channelLimit};
 ghost use Rattle.text.specs.Parts.{comma, partsFrom};
-ghost use Rattle.channel.specs.Channel.{channelTypes};
-ghost use Rattle.heading.specs.Heading.{headingOf, channelCount};
+ghost use Rattle.text.specs.Put.{Put};
+ghost use Rattle.channel.specs.Channel.{channelTypes, tagOf};
+ghost use Rattle.channel.specs.Answers.{tagLimit};
+ghost use Rattle.heading.specs.Heading.{headingOf, channelCount, printHeading};
 ghost use Rattle.heading.specs.Answers.{headingRead, tagsRead};
 use figures::limits::CHANNELS;
 use text::number::Plain;
 use text::number::plain_number;
+use text::parts::COMMA;
 use text::parts::field_end;
 use text::parts::same_bytes;
+use text::printing::put_bytes;
+use text::printing::put_numbers;
 
 // The types of a heading's n channels; n is 0 where the line is no heading.
 pub struct Heading {
@@ -95,4 +101,32 @@ pub fn read_heading(line: &[u8], word: &[u8]) -> Heading
         return no_heading();
     }
     read_tags(line, count_end + 1, n)
+}
+
+// The tag of a code.
+fn put_tag(out: &mut [u8], at: usize, code: u8) -> usize
+    requires { ⌜ at + tagLimit ≤ length (now out) ⌝ }
+    ensures { λ r. ⌜ Put (tagOf channelTypes code) (now (out .entry)) at (now (out .exit)) r ⌝ }
+{
+    let tag = channel::tag_of(code);
+    let bytes = tag.bytes;
+    let length = tag.length;
+    put_bytes(out, at, &bytes[..length])
+}
+
+// The heading with this word and the first n codes, printed into a lent slice. Answers the index after it.
+pub fn put_heading(out: &mut [u8], at: usize, word: &[u8], types: &[u8], n: usize) -> usize
+    requires { ⌜ (n ≤ channelLimit) × ((n ≤ length (now types)) × (at + length (now word) + 21 + n * 4 ≤ length (now out))) ⌝ }
+    ensures { λ r.
+        ⌜ Put (printHeading (now (word .entry)) channelTypes (take n (now (types .entry)))) (now (out .entry)) at (now (out .exit)) r ⌝ }
+{
+    let count = [n as i64];
+    let mut from = put_numbers(out, at, word, &count, 1);
+    let mut i = 0;
+    while i < n {
+        out[from] = COMMA;
+        from = put_tag(out, from + 1, types[i]);
+        i += 1;
+    }
+    from
 }

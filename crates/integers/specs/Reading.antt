@@ -6,19 +6,20 @@
 --     number                        a number of 0 or more
 --     addition, difference, product of two readings
 --     fits                          what an operation or a cast to i64 asks
+--     number-cast                   what a cast of a number of 0 or more to an unsigned type asks
 --     square-cast, square-is        the square of a reading, cast to u64
 --     passed, given, given₂         what a callee asks and gives of readings, as said of the integers themselves
 -- A numeric bound that computes is given as `tt`.
 -- A worked call stands at the end.
 use mathlib.Core.Path.{_≡_, refl, sym, ap, ap₂, subst, _∙_}
-use Prim.Native.Nat.{ℕ, _+_, _*_, _^_, _≤_}
+use Prim.Native.Nat.{ℕ, _+_, _*_, _^_, _≤_, _<_}
 use native.Mathlib.Nat.{le-refl, mul-le-mul}
 use native.Mathlib.Omega.{arith}
 use lib.Dec.{T, ltb, ltb→lt}
 use lib.IntN.{ℤ, pos, natAbs, _+ℤ_, _-ℤ_, _*ℤ_}
 use lib.Signed.{nonNeg}
 use mir.Syntax.{Width, w64}
-use mir.Val.{Fits, SFits, toZ, ofZ}
+use mir.Val.{Fits, SFits, bits, toZ, ofZ}
 use mir.Facts.{toZ-ofZ}
 use Rattle.integers.specs.Sum.{square}
 use Rattle.integers.specs.Absolute.{abs-add, abs-sub, abs-mul, fits64, square-pos, square-le}
@@ -58,14 +59,16 @@ module _ {z d : ℤ} {B : ℕ} (r : Reads z d B) where
   product {y} {e} {C} s =
       record { is = ap₂ _*ℤ_ (r .is) (s .is); most = subst (λ x. x ≤ B * C) (sym (abs-mul d e)) (mul-le-mul (r .most) (s .most)) }
 
+pub number-cast : (w : Width) {z : ℤ} (n : ℕ) → z ≡ pos n → n < 2 ^ bits w → T (nonNeg z) × Fits w (natAbs z)
+number-cast w n e h = subst (λ z. T (nonNeg z) × Fits w (natAbs z)) (sym e) (tt, record { fits = h })
+
 -- the square of a reading is the number `square d`
 squared : {z d : ℤ} {B : ℕ} → Reads z d B → T (ltb (B * B) (2 ^ 63)) → back w64 (z *ℤ z) ≡ pos (square d)
 squared {d = d} r l = kept (product r r) l .is ∙ sym (square-pos d)
 
 module _ {z d : ℤ} {B : ℕ} (r : Reads z d B) (l : T (ltb (B * B) (2 ^ 63))) where
   pub square-cast : T (nonNeg (back w64 (z *ℤ z))) × Fits w64 (natAbs (back w64 (z *ℤ z)))
-  square-cast = subst (λ x. T (nonNeg x) × Fits w64 (natAbs x)) (sym (squared r l))
-      (tt, record { fits = omega (arith, square-le d (r .most), ltb→lt (B * B) (2 ^ 63) l) })
+  square-cast = number-cast w64 (square d) (squared r l) (omega (arith, square-le d (r .most), ltb→lt (B * B) (2 ^ 63) l))
 
   pub square-is : Bounded (B * B) (natAbs (back w64 (z *ℤ z))) (square d)
   square-is = subst (λ x. Bounded (B * B) (natAbs x) (square d)) (sym (squared r l))

@@ -3,17 +3,23 @@
 --     unlike                                nothing is both there and missing
 --     both                                  both parts of a test that holds
 --     neither                               both parts of an alternative that does not hold
---     impossible                            what follows where two constructors are equal
+--     impossible, nonzero                   what follows where two constructors are equal, or a number above 0 is 0
+--     refuted                               a test that cannot hold
+--     test-same                             two tests that hold for the same reason
 --     cond-same                             a test that makes no difference
 --     cond-some                             what a choice against nothing answers
 --     range-in, range-under, range-over     whether a number is between two others
-use Prim.Native.Nat.{ℕ, _≤_, _<_}
-use mathlib.Core.Path.{_≡_, refl, ap, ap₂, _∙_}
-use mathlib.Core.Bool.{Bool, true, false, cond, _&&_, _||_, and-false}
+--     sameInteger, sameFlag                 the tests that two integers, two truth values are the same
+--     integer-eq, integer-refl              what the first says
+--     flag-eq, flag-refl                    what the second says
+use Prim.Native.Nat.{ℕ, suc, _≤_, _<_}
+use mathlib.Core.Path.{_≡_, refl, sym, ap, ap₂, _∙_}
+use mathlib.Core.Bool.{Bool, true, false, not, cond, _&&_, _||_, and-false}
 use mathlib.Core.Option.{Option, none, some}
 use native.Mathlib.Omega.{arith}
-use borrow.Author.Tests.{le-leb, lt-leb}
-use lib.Dec.{leb}
+use borrow.Author.Tests.{le-leb, lt-leb, eqb-true, eq-eqb}
+use lib.Dec.{eqb, leb}
+use lib.IntN.{ℤ, pos, negsuc}
 
 pub clash : {P : Type 0} {b : Bool} → b ≡ true → b ≡ false → P
 clash h k = let z : _≡_ {A = ℕ} 0 1 = cc in absurd (omega arith)
@@ -32,6 +38,18 @@ neither false b h = (refl, h)
 pub impossible : {P : Type 0} → _≡_ {A = ℕ} 0 1 → P
 impossible z = absurd (omega arith)
 
+pub refuted : (t : Bool) → (t ≡ true → ⊥) → false ≡ t
+refuted true h = absurd (h refl)
+refuted false h = refl
+
+pub test-same : (a b : Bool) → (a ≡ true → b ≡ true) → (b ≡ true → a ≡ true) → a ≡ b
+test-same true b f g = sym (f refl)
+test-same false true f g = g refl
+test-same false false f g = refl
+
+pub nonzero : {P : Type 0} {k : ℕ} → suc k ≡ 0 → P
+nonzero h = absurd (omega arith)
+
 pub cond-same : {A : Type 0} (t : Bool) (a : A) → cond t a a ≡ a
 cond-same true a = refl
 cond-same false a = refl
@@ -49,3 +67,34 @@ module _ (low high b : ℕ) where
 
   pub range-over : high < b → (leb low b && leb b high) ≡ false
   range-over h = ap (λ t. leb low b && t) (lt-leb b high h) ∙ and-false (leb low b)
+
+-- ---- the same
+
+abbrev pub sameInteger : ℤ → ℤ → Bool
+sameInteger (pos a) (pos b) = eqb a b
+sameInteger (pos a) (negsuc b) = false
+sameInteger (negsuc a) (pos b) = false
+sameInteger (negsuc a) (negsuc b) = eqb a b
+
+pub integer-eq : (a b : ℤ) → sameInteger a b ≡ true → a ≡ b
+integer-eq (pos a) (pos b) h = ap pos (eqb-true a b h)
+integer-eq (pos a) (negsuc b) h = clash h refl
+integer-eq (negsuc a) (pos b) h = clash h refl
+integer-eq (negsuc a) (negsuc b) h = ap negsuc (eqb-true a b h)
+
+pub integer-refl : (a : ℤ) → sameInteger a a ≡ true
+integer-refl (pos a) = eq-eqb a a refl
+integer-refl (negsuc a) = eq-eqb a a refl
+
+abbrev pub sameFlag : Bool → Bool → Bool
+sameFlag a b = cond a b (not b)
+
+pub flag-eq : (a b : Bool) → sameFlag a b ≡ true → a ≡ b
+flag-eq true true h = refl
+flag-eq true false h = clash h refl
+flag-eq false true h = clash h refl
+flag-eq false false h = refl
+
+pub flag-refl : (a : Bool) → sameFlag a a ≡ true
+flag-refl true = refl
+flag-refl false = refl

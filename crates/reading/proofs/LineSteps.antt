@@ -1,5 +1,5 @@
 -- A reading's line that is read pair by pair.
---     last-field, two-fields                         the fields from an index on, where one is left and where there are two
+--     two-fields                                     the fields from an index on, where there are two
 --     PairsSoFar, pairs-none, pairs-next             the pairs of a line as they are read, none and one more
 --     value-here                                     the value of a pair, as the walk over the values meets it
 --     pairs-malformed, pairs-few, pairs-many         what stops their walk
@@ -7,7 +7,7 @@
 --     FieldsRead, fields-no-label, fields-pairs      a line from its label and what its pairs are, whether or not a byte 10 stands in it
 --     line-ended, line-whole                         a line with a byte 10 in it, and one without
 --     line-malformed, line-agreed                    a line not in form, and one whose tags are those of the channels
-use Prim.Native.Nat.{ℕ, _+_, _-_, _≤_, _<_}
+use Prim.Native.Nat.{ℕ, _+_, _≤_, _<_}
 use mathlib.Core.Path.{_≡_, refl, sym, ap, ap₂, _∙_}
 use mathlib.Core.Bool.{Bool, true, false, not, cond, _&&_, and-true, and-assoc, and-comm}
 use mathlib.Core.List.{List, [], _∷_, _++_, map}
@@ -17,11 +17,11 @@ use native.Mathlib.Omega.{arith}
 use borrow.Author.Tests.{eq-eqb, ne-eqb}
 use lib.Dec.{eqb}
 use lib.IntN.{ℤ}
-use lib.ListN.{length, getD, take, drop, drop-of-length-le}
+use lib.ListN.{length, getD, drop, drop-of-length-le}
 use lib.Seq.{drop-cons}
 use Rattle.integers.specs.Tests.{cond-same, impossible}
 use Rattle.text.specs.Parts.{comma, lineEnd, free, cut, same, PartEnd, partsFrom}
-use Rattle.text.specs.PartsLaws.{parts-from, parts-none}
+use Rattle.text.specs.PartsLaws.{parts-from, partAt}
 use Rattle.text.specs.Label.{isLabel}
 use Rattle.channel.specs.Channel.{ChannelType, tagOf}
 use Rattle.channel.specs.ChannelLaws.{soundTypes}
@@ -37,16 +37,12 @@ use Rattle.reading.specs.declared.line.Line.the-variants.{Malformed, Tag
 
 -- ---- the fields from an index on
 
-module _ (line : List ℕ) (at e : ℕ) (h : at ≤ length line) (p : PartEnd comma line at e) where
-  pub last-field : length line ≡ e → partsFrom comma line at ≡ take (e - at) (drop at line) ∷ []
-  last-field last =
-      parts-from comma line at e h p ∙ ap (λ l. take (e - at) (drop at line) ∷ l) (parts-none comma line (e + 1) (omega arith))
-
-  pub two-fields : {end : ℕ} → (length line ≡ e → ⊥) → PartEnd comma line (e + 1) end
-      → partsFrom comma line at ≡ take (e - at) (drop at line) ∷ take (end - (e + 1)) (drop (e + 1) line) ∷ partsFrom comma line (end + 1)
-  two-fields {end} more q =
-      parts-from comma line at e h p
-      ∙ ap (λ l. take (e - at) (drop at line) ∷ l) (parts-from comma line (e + 1) end (omega (arith, p .high)) q)
+pub two-fields : (line : List ℕ) (at : ℕ) {e end : ℕ} → at ≤ length line → PartEnd comma line at e → (length line ≡ e → ⊥)
+    → PartEnd comma line (e + 1) end
+    → partsFrom comma line at ≡ partAt line at e ∷ partAt line (e + 1) end ∷ partsFrom comma line (end + 1)
+two-fields line at {e} {end} h p more q =
+    parts-from comma line at e h p
+    ∙ ap (λ l. partAt line at e ∷ l) (parts-from comma line (e + 1) end (omega (arith, p .high)) q)
 
 -- ---- the pairs
 

@@ -6,6 +6,7 @@
 --     digits-past                                digits after other digits
 --     digits-least                               more digits make no smaller number
 --     digits-free                                only digits stand in a field of digits
+--     decimal-none                               0 has none of the digits of `decimal`
 --     decimal-digits                             the digits of n make n
 --     decimal-first                              the first digit of a number other than 0 is not 0 (`Led`)
 --     decimal-more, decimal-past                 the digits of a number with one digit more, and with more digits
@@ -13,6 +14,7 @@
 --     print-digits, magnitude-print              a printed number is read as itself
 --     print-magnitude                            what is read as n is what n is printed as
 --     print-led                                  a printed number without a sign starts with a digit
+--     print-natural, print-negative              a printed number, by its magnitude and the test of its sign
 --     plain-empty, plain-signed, plain-unsigned  a plain number, by its first byte
 --     plain-print                                a printed number is read as itself
 --     print-plain                                what is read as z is what z is printed as
@@ -27,11 +29,13 @@ use mathlib.Core.Logic.{_⊎_, inl, inr}
 use mathlib.Core.Option.{Option, none, some, Option·map}
 use native.Mathlib.Nat.{pow-suc}
 use native.Mathlib.Omega.{arith}
-use borrow.Author.Tests.{leb-true, eqb-true, eqb-false, eq-eqb, ne-eqb}
+use borrow.Author.Tests.{leb-true, eqb-true, eqb-false, eq-eqb, ne-eqb, le-ltb}
 use lib.Dec.{eqb, leb}
 use lib.IntN.{ℤ, pos, negsuc, natAbs}
 use lib.ListN.{length, getD, drop, length-append}
 use lib.Seq.{append-snoc}
+use lib.Signed.{ltZ}
+use Rattle.integers.specs.Absolute.{abs-nonneg}
 use Rattle.integers.specs.Tests.{clash, unlike, both, range-in, range-under, range-over}
 use Rattle.text.specs.Parts.{free}
 use Rattle.text.specs.Number.{hyphen, isDigit, digitsFrom, magnitudeOf, negated, plain, decimal, printMagnitude, print}
@@ -94,7 +98,7 @@ digits-free c other (b ∷ l) n m h =
 
 -- ---- the digits of a number
 
-decimal-none : (f n : ℕ) → n ≡ 0 → decimal f n ≡ []
+pub decimal-none : (f n : ℕ) → n ≡ 0 → decimal f n ≡ []
 unfolding decimal
 decimal-none zero n e = refl
 decimal-none (suc f) zero e = refl
@@ -273,6 +277,15 @@ pub print-led : (n : ℕ) → Led 48 (printMagnitude n)
 unfolding printMagnitude
 print-led zero = record { first = 48; rest = []; is = refl; low = omega arith; high = omega arith }
 print-led (suc k) = led-lower (decimal (suc k) (suc k)) (decimal-first (suc k) (suc k) (omega arith) (omega arith))
+
+pub print-natural : (z : ℤ) → ltZ z (pos 0) ≡ false → print z ≡ printMagnitude (natAbs z)
+unfolding print
+print-natural z h = ap print (abs-nonneg z h)
+
+pub print-negative : (z : ℤ) → ltZ z (pos 0) ≡ true → print z ≡ hyphen ∷ printMagnitude (natAbs z)
+unfolding print
+print-negative (pos n) h = clash h (le-ltb n 0 zero-le)
+print-negative (negsuc k) h = refl
 
 plain-led : (l : List ℕ) → Led 48 l → plain l ≡ Option·map pos (magnitudeOf l)
 plain-led l led = rw (led .is) (plain-unsigned (led .first ∷ led .rest) (omega arith) (λ e. omega arith))

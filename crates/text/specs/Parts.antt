@@ -10,7 +10,8 @@
 --     partEnd c s at               where the part of s that starts at index at ends
 --     PartEnd c s at e             e is that end
 --     partsFrom c s at             the parts of s from index at on; none past the end
-use Prim.Native.Nat.{ℕ, _+_, _≤_}
+--     partStart c k s              where part k of s, counted from 0, starts; past the end where there is no such part
+use Prim.Native.Nat.{ℕ, zero, suc, _+_, _≤_}
 use mathlib.Core.Bool.{Bool, true, false, not, cond, _&&_}
 use mathlib.Core.List.{List, [], _∷_, _++_}
 use mathlib.Core.Path.{_≡_}
@@ -70,3 +71,8 @@ pub record PartEnd (c : ℕ) (s : List ℕ) (at e : ℕ) : Type 0 where
 
 unfoldable pub partsFrom : ℕ → List ℕ → ℕ → List (List ℕ)
 partsFrom c s at = cond (leb at (length s)) (cut c (drop at s)) []
+
+-- each part starts after the separator that ends the part before it
+unfoldable pub partStart : ℕ → ℕ → List ℕ → ℕ
+partStart c zero s = 0
+partStart c (suc k) s = suc (partEnd c s (partStart c k s))

@@ -9,28 +9,35 @@
 --     cut-keeps-free, join-free        a byte that stands nowhere still stands nowhere after cutting, and after joining by another byte
 --     free-append                      a byte stands in neither of two lists
 --     join-length                      the bytes of parts joined, by the first part
+--     join-more                        one part more
+--     parts-within                     the parts from an index within the text
 --     parts-whole, parts-none          the parts from 0 are those of the text; past the end there are none
 --     parts-some                       within the text there is one
 --     parts-from                       the first part from an index is up to its end, the others are those from the index after it
---     index-most, index-append         the first c is within the list or at its end; what follows the list does not move it
+--     part-end                         within the text a part ends within the text
 --     end-found                        what a search for c from an index on finds is where the part ends
 --     free-end                         no byte c stands in a text exactly where the end of its first part is that of the text
 --     end-of-first                     a part with one after it ends at its separator, whatever follows the list
 --     first-part                       a list starts with its first part
 --     first-part-from                  a text is its first part and the parts from past its end
-use Prim.Native.Nat.{ℕ, suc, _+_, _-_, _≤_, _<_, zero-le}
+--     partAt s at e                    the bytes of a text from one index to another
+--     last-empty, last-some, last-part a part that ends with the text is the last: with no byte, with one, and in general
+--     Followed, followed               one that ends before it is followed by another
+--     part-start                       the parts from where part k starts are all but the first k
+--     part-start-most                  part k starts within the text or just past it, as long as there are k parts
+use Prim.Native.Nat.{ℕ, zero, suc, _+_, _-_, _≤_, _<_, zero-le}
 use mathlib.Core.Path.{_≡_, refl, sym, ap, ap₂, _∙_}
 use mathlib.Core.Bool.{Bool, true, false, not, cond, _&&_, and-assoc}
-use mathlib.Core.List.{List, [], _∷_, _++_}
+use mathlib.Core.List.{List, [], _∷_, _++_, append-assoc}
 use native.Mathlib.Numerals.{add-one}
 use native.Mathlib.Omega.{arith}
 use borrow.Author.Tests.{eqb-true, eq-eqb, ne-eqb, le-leb, lt-leb, leb-false, leb-true, not-true}
 use lib.Dec.{eqb, leb}
-use lib.ListN.{length, getD, take, drop, length-append, length-take, drop-of-length-le}
+use lib.ListN.{length, getD, take, drop, length-append, length-drop, length-take, drop-of-length-le}
 use lib.Seq.{drop-cons, drop-drop, take-length}
 use Rattle.bytes.specs.Bytes.{indexOf, indexAfter, slice}
 use Rattle.integers.specs.Tests.{both, clash}
-use Rattle.text.specs.Parts.{textLimit, textWithin, same, extend, cut, join, free, allFree, partEnd, PartEnd, partsFrom}
+use Rattle.text.specs.Parts.{textLimit, textWithin, same, extend, cut, join, free, allFree, partEnd, PartEnd, partsFrom, partStart}
 
 pub text-within : (text : List ℕ) → textWithin text ≡ true → (1 ≤ length text) × (length text ≤ textLimit)
 text-within text h =
@@ -154,6 +161,12 @@ pub join-length : (c : ℕ) (p q : List ℕ) (ps : List (List ℕ)) → length (
 unfolding join
 join-length c p q ps = length-append p (c ∷ join c (q ∷ ps))
 
+pub join-more : (c : ℕ) (p q : List ℕ) (ps : List (List ℕ)) → join c ((p ∷ ps) ++ (q ∷ [])) ≡ join c (p ∷ ps) ++ (c ∷ q)
+unfolding join
+join-more c p q [] = refl
+join-more c p q (r ∷ ps) =
+    ap (λ (l : List ℕ). p ++ (c ∷ l)) (join-more c r q ps) ∙ sym (append-assoc p (c ∷ join c (r ∷ ps)) (c ∷ q))
+
 -- ---- bytes that stand nowhere
 
 extend-free : (d b : ℕ) (ps : List (List ℕ)) → eqb b d ≡ false → allFree d ps ≡ true → allFree d (extend b ps) ≡ true
@@ -198,7 +211,8 @@ join-free c d (p ∷ q ∷ ps) h e =
 
 -- ---- where a part ends
 
-pub index-most : (c : ℕ) (l : List ℕ) → indexOf c l ≤ length l
+-- the first c is within the list or at its end
+index-most : (c : ℕ) (l : List ℕ) → indexOf c l ≤ length l
 unfolding indexOf
 index-most c [] = zero-le
 index-most c (b ∷ l) = go (eqb b c) (index-most c l)
@@ -207,7 +221,8 @@ index-most c (b ∷ l) = go (eqb b c) (index-most c l)
     go true h = zero-le
     go false h = omega arith
 
-pub index-append : (c : ℕ) (l more : List ℕ) → indexOf c l < length l → indexOf c (l ++ more) ≡ indexOf c l
+-- what follows the list does not move it
+index-append : (c : ℕ) (l more : List ℕ) → indexOf c l < length l → indexOf c (l ++ more) ≡ indexOf c l
 unfolding indexOf
 index-append c [] more h = absurd (omega arith)
 index-append c (b ∷ l) more h = go (eqb b c) h (index-append c l more)
@@ -239,6 +254,10 @@ length-first c l p ps e =
     let f : p ≡ take (indexOf c l) l = cc (cut-first c l) in
     ap length f ∙ length-take (indexOf c l) l ∙ omega (arith, index-most c l)
 
+pub part-end : (c : ℕ) (s : List ℕ) (at : ℕ) → at ≤ length s → PartEnd c s at (partEnd c s at)
+unfolding partEnd
+part-end c s at h = record { is = refl; low = omega arith; high = omega (arith, index-most c (drop at s), length-drop at s) }
+
 pub end-found : (c : ℕ) (s : List ℕ) (at e : ℕ) → e ≡ at + indexOf c (slice at (length s) s) → e ≤ length s → PartEnd c s at e
 unfolding slice partEnd
 end-found c s at e f h = record { is = f ∙ ap (λ l. at + indexOf c (drop at l)) (take-length s); low = omega arith; high = h }
@@ -263,7 +282,7 @@ end-of-first c l more p q ps e =
 
 -- ---- the parts from an index
 
-parts-within : (c : ℕ) (s : List ℕ) (at : ℕ) → at ≤ length s → partsFrom c s at ≡ cut c (drop at s)
+pub parts-within : (c : ℕ) (s : List ℕ) (at : ℕ) → at ≤ length s → partsFrom c s at ≡ cut c (drop at s)
 unfolding partsFrom
 parts-within c s at h = ap (λ t. cond t (cut c (drop at s)) []) (le-leb at (length s) h)
 
@@ -306,3 +325,70 @@ pub first-part-from : (c : ℕ) (s : List ℕ) (e : ℕ) → PartEnd c s 0 e →
 first-part-from c s e h =
     let z : e - 0 ≡ e = omega arith in
     sym (parts-whole c s) ∙ parts-from c s 0 e zero-le h ∙ ap (λ k. take k s ∷ partsFrom c s (e + 1)) z
+
+-- ---- a part and what follows it
+
+abbrev pub partAt : List ℕ → ℕ → ℕ → List ℕ
+partAt s at e = take (e - at) (drop at s)
+
+pub record Followed (c : ℕ) (s : List ℕ) (at e : ℕ) : Type 0 where
+  pub next : List ℕ
+  pub others : List (List ℕ)
+  pub is : partsFrom c s at ≡ partAt s at e ∷ next ∷ others
+  pub after : partsFrom c s (e + 1) ≡ next ∷ others
+
+module _ (c : ℕ) (s : List ℕ) (at : ℕ) where
+  pub last-empty : at ≡ length s → partsFrom c s at ≡ [] ∷ []
+  unfolding cut
+  last-empty h = parts-within c s at (omega arith) ∙ ap (cut c) (drop-of-length-le s {i = at} (omega arith))
+
+  module _ (e : ℕ) (h : at ≤ length s) (p : PartEnd c s at e) where
+    pub last-part : e ≡ length s → partsFrom c s at ≡ partAt s at e ∷ []
+    last-part q = parts-from c s at e h p ∙ ap (λ l. partAt s at e ∷ l) (parts-none c s (e + 1) (omega arith))
+
+    pub followed : (e ≡ length s → ⊥) → Followed c s at e
+    followed q =
+        let next = parts-some c s (e + 1) (omega (arith, p .high)) in
+        record {
+          next = next .0;
+          others = next .1;
+          is = parts-from c s at e h p ∙ ap (λ l. partAt s at e ∷ l) (next .2);
+          after = next .2;
+        }
+
+  pub last-some : (e : ℕ) → at < length s → PartEnd c s at e → e ≡ length s → partsFrom c s at ≡ (getD s at 0 ∷ partAt s (suc at) e) ∷ []
+  last-some e h p q =
+      let one-more : e - at ≡ suc (e - suc at) = omega arith in
+      last-part e (omega arith) p q ∙ ap (λ l. l ∷ []) (ap₂ take one-more (drop-cons s at 0 h))
+
+-- ---- where a part starts
+
+-- the parts from past the end of the first part from an index
+parts-rest : (c : ℕ) (s : List ℕ) (at : ℕ) → drop 1 (partsFrom c s at) ≡ partsFrom c s (suc (partEnd c s at))
+unfolding partEnd
+parts-rest c s at = go (leb at (length s)) refl
+  where
+    go : (t : Bool) → leb at (length s) ≡ t → drop 1 (partsFrom c s at) ≡ partsFrom c s (suc (partEnd c s at))
+    go true k =
+        let h = leb-true at (length s) k in
+        ap (drop 1) (parts-from c s at (partEnd c s at) h (part-end c s at h)) ∙ ap (partsFrom c s) (add-one (partEnd c s at))
+    go false k =
+        let h = leb-false at (length s) k in
+        ap (drop 1) (parts-none c s at h) ∙ sym (parts-none c s (suc (partEnd c s at)) (omega arith))
+
+pub part-start : (c k : ℕ) (s : List ℕ) → partsFrom c s (partStart c k s) ≡ drop k (cut c s)
+unfolding partStart
+part-start c zero s = parts-whole c s
+part-start c (suc k) s =
+    sym (parts-rest c s (partStart c k s)) ∙ ap (drop 1) (part-start c k s) ∙ drop-drop 1 k (cut c s) ∙ ap (λ i. drop i (cut c s)) (add-one k)
+
+pub part-start-most : (c k : ℕ) (s : List ℕ) → k ≤ length (cut c s) → partStart c k s ≤ length s + 1
+unfolding partStart
+part-start-most c zero s h = omega arith
+part-start-most c (suc k) s h = go (partStart c k s) (part-start c k s) (leb (partStart c k s) (length s)) refl
+  where
+    go : (at : ℕ) → partsFrom c s at ≡ drop k (cut c s) → (t : Bool) → leb at (length s) ≡ t → suc (partEnd c s at) ≤ length s + 1
+    go at f true e = omega (arith, part-end c s at (leb-true at (length s) e) .high)
+    go at f false e =
+        let n : length (drop k (cut c s)) ≡ 0 = ap length (sym f ∙ parts-none c s at (leb-false at (length s) e)) in
+        absurd (omega (arith, length-drop k (cut c s)))

@@ -1,20 +1,18 @@
 -- The tests compare the number and the limit themselves. Past both the number is within the limit, so that their sum is a natural
 -- number.
-use borrow.Author.Needs.{needs}
 use Prim.Native.Nat.{ℕ, _+_, _≤_}
 use mathlib.Core.Path.{_≡_, sym, ap, ap₂, subst, _∙_}
 use mathlib.Core.Bool.{Bool, true, false, cond}
 use native.Mathlib.Omega.{arith}
-use lib.Dec.{T}
 use lib.IntN.{ℤ, pos, natAbs, _+ℤ_, _-ℤ_}
-use lib.Signed.{ltZ, nonNeg}
+use lib.Signed.{ltZ}
 use mir.Syntax.{w64}
-use mir.Val.{SFits, Fits}
+use mir.Val.{SFits}
 use mir.Facts.{toZ-ofZ}
 use Rattle.integers.specs.Solver.{#_, _⊕_, _⊖_}
 use Rattle.integers.specs.Order.{_⊑_, _≼_, _⇒_, ⊢_, deduce, nn-pos, ltZ-false, pos-le-inv}
 use Rattle.integers.specs.Absolute.{abs-le, fits64, back64}
-use Rattle.integers.specs.Reading.{back, Reads, held, kept, number, difference, fits}
+use Rattle.integers.specs.Reading.{back, Reads, held, kept, number, number-cast, difference, fits}
 use Rattle.case_io.specs.Numbers.{raisedBy}
 use Rattle.case_io.proofs.raised.Statement.{statement}
 use Rattle.case_io.proofs.raised.Tie as tie
@@ -121,9 +119,7 @@ cast-result c =
     let at-most : natAbs (start .args .most) ≤ largest = omega arith in
     let t = tests c in
     let n = bound (start .args .x) (start .args .most) (start .fits .x) (start .fits .most) at-most (t .0) (t .1) in
-    subst (λ (y : ℤ). T (nonNeg y) × Fits w64 (natAbs y))
-    (sym (sum-read (start .args .x) (start .args .most) (start .fits .x) (start .fits .most) at-most (t .0) (t .1)))
-    (tt, record { fits = omega arith })
+    number-cast w64 _ (sum-read (start .args .x) (start .args .most) (start .fits .x) (start .fits .most) at-most (t .0) (t .1)) (omega arith)
 
 returns-3 : tie.Need-returns-3
 returns-3 c =

@@ -15,10 +15,10 @@ use denote.Ref.{now}
 use mir.Syntax.{w32}
 use mir.Facts.{toZ-ofZ}
 use Rattle.text.specs.Parts.{comma, partsFrom}
-use Rattle.text.specs.PartsLaws.{parts-none, parts-some}
+use Rattle.text.specs.PartsLaws.{parts-none, parts-some, last-part}
 use Rattle.channel.specs.Channel.{channelTypes}
 use Rattle.value.proofs.ValuesSteps.{read-malformed, read-told, values-outside, values-within}
-use Rattle.reading.proofs.LineSteps.{last-field, two-fields, PairsSoFar, pairs-none, pairs-next, value-here}
+use Rattle.reading.proofs.LineSteps.{two-fields, PairsSoFar, pairs-none, pairs-next, value-here}
 use Rattle.reading.proofs.LineSteps.{pairs-malformed, pairs-few, pairs-many, pairs-done}
 use Rattle.reading.proofs.line.read_pairs.Statement.{statement}
 use Rattle.reading.proofs.line.read_pairs.Tie as tie
@@ -59,7 +59,7 @@ returns-2 c =
     let at-tag-end = c .before in
     let at-loop = at-tag-end .before .before .before in
     pairs-few (at-loop .loop .inv) (omega (arith, codes at-loop))
-    (last-field _ _ _ (at-tag-end .before .if1 .left) (at-tag-end .field-end .ensures) (c .if2 .taken)) (omega arith)
+    (last-part comma _ _ _ (at-tag-end .before .if1 .left) (at-tag-end .field-end .ensures) (sym (c .if2 .taken))) (omega arith)
 
 shared-slice-read-code : tie.Need-shared-slice-read-code Inv-loop μ-loop
 shared-slice-read-code c = omega arith
@@ -108,7 +108,7 @@ returns-3 c =
     let at-tag-end = at-more .before in
     let at-loop = at-tag-end .before .before .before in
     pairs-malformed (at-loop .loop .inv)
-    (two-fields _ _ _ (at-tag-end .before .if1 .left) (at-tag-end .field-end .ensures) (at-more .if2 .left) (at-value-end .field-end2 .ensures))
+    (two-fields _ _ (at-tag-end .before .if1 .left) (at-tag-end .field-end .ensures) (at-more .if2 .left) (at-value-end .field-end2 .ensures))
     (read-malformed channelTypes _ _ (sym (c .enum-told .given .1) ∙ at-value .read-value .ensures))
 
 enum-told-2 : tie.Need-enum-told-2 Inv-loop μ-loop
@@ -144,7 +144,7 @@ loop-again c =
     let turn = at-tag-end .before .before .loop-test .taken in
     let within : at-loop .loop .i < length (take (args .n) (now (args .types))) = omega (arith, codes at-loop) in
     let fields =
-    two-fields _ _ _ (at-tag-end .before .if1 .left) (at-tag-end .field-end .ensures) (at-more .if2 .left) (at-value-end .field-end2 .ensures) in
+    two-fields _ _ (at-tag-end .before .if1 .left) (at-tag-end .field-end .ensures) (at-more .if2 .left) (at-value-end .field-end2 .ensures) in
     let code = getD-take (args .n) (now (args .types)) (at-loop .loop .i) 0 turn in
     pairs-next (at-loop .loop .inv) within fields code (ap (λ b. b && at-loop .loop .tags-agree) (at-tag .is-tag .ensures))
     (⊎-elim

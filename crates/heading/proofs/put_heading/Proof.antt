@@ -1,0 +1,131 @@
+-- The word and n are printed as a word and a number. The loop's invariant: after them stand the tags of the first i codes, each after a
+-- comma and in at most 4 bytes with it. The measure is how many codes are left.
+use Prim.Native.Nat.{ℕ, _+_, _-_, _*_, _^_, _≤_, _<_}
+use mathlib.Core.Path.{_≡_, refl, sym, ap, ap₂, _∙_}
+use mathlib.Core.List.{List, [], _∷_, _++_}
+use native.Mathlib.Omega.{arith}
+use lib.IntN.{pos}
+use lib.ListN.{length, getD, set, take, length-set}
+use lib.Seq.{length-take-le}
+use mir.Syntax.{w64}
+use mir.Val.{toZ}
+use Rattle.integers.specs.Absolute.{fits64}
+use Rattle.geometry.specs.Limits.{channelLimit}
+use Rattle.text.specs.Parts.{comma}
+use Rattle.text.specs.Put.{numbersAfter, Put}
+use Rattle.text.specs.PutLaws.{put-none, put-byte, put-then, put-as, take-next, numbers-short}
+use Rattle.text.specs.UnsignedLaws.{Below, below-none, below-more, below-signed, held-signed, held-below}
+use Rattle.channel.specs.Channel.{channelTypes, tagOf}
+use Rattle.channel.specs.AnswersLaws.{house-short, type-short}
+use Rattle.heading.proofs.PrintSteps.{tagsAfter, tags-first, tags-more, heading-after}
+use Rattle.heading.proofs.put_heading.Statement.{statement}
+use Rattle.heading.proofs.put_heading.Tie as tie
+
+abbrev Inv-loop : tie.InvT-loop
+Inv-loop out₀ at word types n from₀ i₀ out from i =
+    (i ≤ n) × (from ≤ at + length word + 21 + i * 4) × Put (tagsAfter channelTypes (take i types)) out₀ from₀ out from
+
+abbrev μ-loop : tie.MeasureT-loop
+μ-loop out₀ at word types n from₀ i₀ out from i = n - i
+
+-- n is the only number after the word
+alone : (limit n : ℕ) → n < limit → Below limit (n ∷ [])
+alone limit n h = below-more limit n [] h (below-none limit)
+
+-- the word and n, in at most 21 bytes besides the word
+counted : (n : ℕ) → n ≤ channelLimit → (word : List ℕ) {out out′ : List ℕ} {at r : ℕ} → Put (numbersAfter word (toZ w64 n ∷ [])) out at out′ r
+    → (r ≤ at + length word + 21) × Put (numbersAfter word (pos n ∷ [])) out at out′ r
+counted n h word f =
+    let printed : Put (numbersAfter word (pos n ∷ [])) _ _ _ _ = put-as f (ap (numbersAfter word) (held-signed (n ∷ []) (alone (2 ^ 63) n (omega arith)))) refl in
+    (omega (arith, printed .next, numbers-short 1 word (pos n ∷ []) (omega arith) (below-signed 10 (n ∷ []) (alone 10 n (omega arith)))), printed)
+
+-- one tag more, of at most three bytes, after a comma
+tag-more : (types : List ℕ) (i : ℕ) → i < length types → {out₀ out out′ : List ℕ} {from₀ from r : ℕ} → from < length out
+    → Put (tagsAfter channelTypes (take i types)) out₀ from₀ out from
+    → Put (tagOf channelTypes (getD types i 0)) (set out from comma) (from + 1) out′ r
+    → (r ≤ from + 4) × Put (tagsAfter channelTypes (take (i + 1) types)) out₀ from₀ out′ r
+tag-more types i h {out} {from = from} within f p = (
+  omega (arith, p .next, type-short channelTypes house-short (getD types i 0)),
+  put-as (put-then f (put-then (put-byte out from comma within) p))
+      (tags-more channelTypes (take i types) (getD types i 0) ∙ ap (tagsAfter channelTypes) (take-next types i 0 h)) refl,
+)
+
+cast-t9 : tie.Need-cast-t9 Inv-loop μ-loop
+cast-t9 c = fits64 (pos (c .before .before .before .args .n)) (omega arith)
+
+slice-aggregate-put-numbers : tie.Need-slice-aggregate-put-numbers Inv-loop μ-loop
+slice-aggregate-put-numbers c = refl
+
+put-numbers-requires : tie.Need-put-numbers-requires Inv-loop μ-loop
+put-numbers-requires c κs =
+    let n = c .before .before .before .before .before .args .n in
+    (omega arith, (held-below (n ∷ []) (alone (2 ^ 63) n (omega arith)), omega arith))
+
+loop-holds : tie.Need-loop-holds Inv-loop μ-loop
+loop-holds c =
+    let start = c .before .before .before .before .before .before .before .before in
+    let first = counted (start .args .n) (omega arith) (start .args .word .now) (c .before .before .put-numbers .ensures) in
+    (omega arith, omega arith, put-as (put-none _ _) (sym (tags-first channelTypes)) refl)
+
+slice-write-out : tie.Need-slice-write-out Inv-loop μ-loop
+slice-write-out c = omega arith
+
+add-put-tag : tie.Need-add-put-tag Inv-loop μ-loop
+add-put-tag c = omega arith
+
+shared-slice-read-put-tag : tie.Need-shared-slice-read-put-tag Inv-loop μ-loop
+shared-slice-read-put-tag c = omega arith
+
+put-tag-requires : tie.Need-put-tag-requires Inv-loop μ-loop
+put-tag-requires c κs =
+    let at-loop = c .before .before .before in
+    omega (arith, length-set (at-loop .loop .out) (at-loop .loop .from) comma)
+
+add-i : tie.Need-add-i Inv-loop μ-loop
+add-i c = omega arith
+
+loop-less : tie.Need-loop-less Inv-loop μ-loop
+loop-less c = omega arith
+
+loop-again : tie.Need-loop-again Inv-loop μ-loop
+loop-again c =
+    let at-loop = c .before .before .before .before .before .before in
+    let start = at-loop .before .before .before .before .before .before .before .before .before in
+    let more = tag-more (start .args .types .now) (at-loop .loop .i) (omega arith) (omega arith) (at-loop .loop .inv .2) (c .before .before .put-tag .ensures) in
+    (omega arith, omega arith, more .1)
+
+same-length : tie.Need-same-length Inv-loop μ-loop
+same-length c = omega arith
+
+returns : tie.Need-returns Inv-loop μ-loop
+returns c =
+    let at-loop = c .before in
+    let start = at-loop .before .before .before .before .before .before .before .before .before in
+    let all : at-loop .loop .i ≡ start .args .n = omega arith in
+    let codes = take (start .args .n) (start .args .types .now) in
+    let n : start .args .n ≡ length codes = sym (length-take-le _ _ (omega arith)) in
+    let word = start .args .word .now in
+    let first = counted (start .args .n) (omega arith) word (at-loop .before .before .before .put-numbers .ensures) in
+    put-as (put-then (first .1) (at-loop .loop .inv .2))
+    (ap₂ (λ k j. numbersAfter word (pos k ∷ []) ++ tagsAfter channelTypes (take j (start .args .types .now))) n all
+    ∙ heading-after channelTypes word codes) refl
+
+pub put-heading-spec : {M : Type 1} → statement M
+put-heading-spec =
+    tie.close
+    (tie.spec
+    Inv-loop
+    μ-loop
+    cast-t9
+    slice-aggregate-put-numbers
+    put-numbers-requires
+    loop-holds
+    slice-write-out
+    add-put-tag
+    shared-slice-read-put-tag
+    put-tag-requires
+    add-i
+    loop-less
+    loop-again
+    same-length
+    returns)

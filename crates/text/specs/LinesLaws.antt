@@ -1,0 +1,38 @@
+-- Laws of lines.
+--     ended-printed     a text of lines is its parts with byte 10 between each two
+--     printed-ended     it is cut into its lines and an empty part
+--     printed-some      a text of a line or more has a byte
+use Prim.Native.Nat.{ℕ, _≤_}
+use mathlib.Core.Path.{_≡_, refl, sym, _∙_, ap}
+use mathlib.Core.Bool.{true}
+use mathlib.Core.List.{List, [], _∷_, _++_}
+use native.Mathlib.Omega.{arith}
+use lib.ListN.{length, length-append}
+use Rattle.integers.specs.Tests.{both}
+use Rattle.text.specs.Parts.{lineEnd, cut, join, free, allFree}
+use Rattle.text.specs.PartsLaws.{cut-join}
+use Rattle.text.specs.Lines.{printLines, ended}
+
+pub ended-printed : (lines : List (List ℕ)) → join lineEnd (ended lines) ≡ printLines lines
+unfolding join printLines
+ended-printed [] = refl
+ended-printed (line ∷ []) = refl
+ended-printed (line ∷ next ∷ lines) = ap (λ (l : List ℕ). line ++ (lineEnd ∷ l)) (ended-printed (next ∷ lines))
+
+ended-free : (lines : List (List ℕ)) → allFree lineEnd lines ≡ true → allFree lineEnd (ended lines) ≡ true
+unfolding allFree free
+ended-free [] h = refl
+ended-free (line ∷ lines) h =
+    let parts = both (free lineEnd line) (allFree lineEnd lines) h in
+    rw (parts .0) (ended-free lines (parts .1))
+
+cut-ended : (lines : List (List ℕ)) → allFree lineEnd lines ≡ true → cut lineEnd (join lineEnd (ended lines)) ≡ ended lines
+cut-ended [] h = cut-join lineEnd [] [] (ended-free [] h)
+cut-ended (line ∷ lines) h = cut-join lineEnd line (ended lines) (ended-free (line ∷ lines) h)
+
+pub printed-ended : (lines : List (List ℕ)) → allFree lineEnd lines ≡ true → cut lineEnd (printLines lines) ≡ ended lines
+printed-ended lines h = ap (cut lineEnd) (sym (ended-printed lines)) ∙ cut-ended lines h
+
+pub printed-some : (line : List ℕ) (lines : List (List ℕ)) → 1 ≤ length (printLines (line ∷ lines))
+unfolding printLines
+printed-some line lines = rw length-append (omega arith)
