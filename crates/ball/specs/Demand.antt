@@ -3,6 +3,7 @@
 --     run-keeps                              what a move keeps, a run keeps
 --     Kept, run-kept                         a run keeps the sum of the weights, and L rises by at least 1 with each move
 --     drawing-accepts, drawing-accepted      a drawing is accepted exactly where the limits hold and the budget is within its own
+--     drawing-zero, checking-zero            only an accepted drawing or check has the number 0
 --     drawing-is                             an accepted drawing is that of the whole run
 --     drawing-spent                          the moves are at most the budget, and all of it where the weights are not Settled
 --     drawing-total                          the weights of an accepted drawing sum to D
@@ -22,7 +23,7 @@ use lib.Dec.{leb, eqb, lit<}
 use lib.IntN.{ℤ, pos, natAbs, _-ℤ_, _*ℤ_}
 use lib.ListN.{length}
 use Rattle.integers.specs.Sum.{sumℕ}
-use Rattle.refusal.specs.Outcome.{refused}
+use Rattle.refusal.specs.Outcome.{refused, numberOf}
 use Rattle.refusal.specs.declared.Outcome.the-variants.{Accepted}
 use Rattle.geometry.specs.Figures.{scaledCentre, scaledSquaredDistance, scaledLowerBound}
 use Rattle.geometry.specs.Move.{settled, moved, weightOf}
@@ -123,10 +124,20 @@ weights-tight D limit rows m n ws positive within sum =
 refusal : {A : Type 0} {k : ℕ} → refused k ≡ Accepted → A
 refusal h = let z : _≡_ {A = ℕ} 0 1 = cc in absurd (omega arith)
 
+-- and none has the number 0
+numbered : {A : Type 0} {k : ℕ} → suc k ≡ 0 → A
+numbered h = absurd (omega arith)
+
 module _ (D limit : ℕ) (rows : List ℤ) (m n b : ℕ) where
   -- where the limits hold, and the budget is within its own, a drawing is accepted; the converse is `drawing-accepted`
   pub drawing-accepts : rowsWithin limit rows m n ≡ true → b ≤ budgetLimit → drawing D limit rows m n b .outcome ≡ Accepted
   drawing-accepts h k = ap (λ (r : Drawing). r .outcome) (drawing-drawn D limit rows m n b h k)
+
+  pub drawing-zero : numberOf (drawing D limit rows m n b .outcome) ≡ 0 → drawing D limit rows m n b .outcome ≡ Accepted
+  unfolding drawing
+  drawing-zero =
+      each-answer (λ (r : Drawing). numberOf (r .outcome) ≡ 0 → r .outcome ≡ Accepted)
+      (rowsWithin limit rows m n) (leb b budgetLimit) (λ _ _ _. refl) numbered numbered
 
   module _ (accepted : drawing D limit rows m n b .outcome ≡ Accepted) where
     -- what acceptance says; the converse is `drawing-accepts`
@@ -169,6 +180,12 @@ module _ (D limit : ℕ) (rows : List ℤ) (m n : ℕ) (ws : List ℕ) where
   -- where the limits hold, the list has m places and the sum is D, the check accepts; the converse is `checking-accepted`
   pub checking-accepts : rowsWithin limit rows m n ≡ true → length ws ≡ m → weightsTotal m ws ≡ D → checking D limit rows m n ws .outcome ≡ Accepted
   checking-accepts h k l = ap (λ (r : Checked). r .outcome) (checking-checked D limit rows m n ws h k l)
+
+  pub checking-zero : numberOf (checking D limit rows m n ws .outcome) ≡ 0 → checking D limit rows m n ws .outcome ≡ Accepted
+  unfolding checking
+  checking-zero =
+      each-answer (λ (r : Checked). numberOf (r .outcome) ≡ 0 → r .outcome ≡ Accepted)
+      (rowsWithin limit rows m n && eqb (length ws) m) (eqb (weightsTotal m ws) D) (λ _ _ _. refl) numbered numbered
 
   module _ (accepted : checking D limit rows m n ws .outcome ≡ Accepted) where
     -- what acceptance says; the converse is `checking-accepts`

@@ -1,10 +1,11 @@
 // The check of anybody's weights.
 ghost use mathlib.Core.Path.{_≡_};
 ghost use Prim.Native.Nat.{_≤_};
-ghost use Rattle.geometry.specs.Limits.{rowLimit};
+ghost use mathlib.Core.Bool.{true};
+ghost use Rattle.geometry.specs.Limits.{total, rowLimit, rowsWithin};
 ghost use lib.ListN.{length};
 ghost use Rattle.geometry.specs.Places.{weightsTotal};
-ghost use Rattle.ball.specs.Check.{notChecked};
+ghost use Rattle.ball.specs.Check.{notChecked, checking};
 ghost use Rattle.ball.specs.Promise.{CheckPromise};
 use crate::Checked;
 use crate::ball_of;
@@ -36,13 +37,11 @@ fn not_checked(outcome: Outcome) -> Checked
     Checked { outcome, ball }
 }
 
-// The figures of the weights that the caller lends, one for each of the first m rows of n channels. Refused: 8, then 12.
-pub fn check(rows: &[i32], m: usize, n: usize, weights: &[u32]) -> Checked
-    ensures { λ r. ⌜ CheckPromise (now (rows .entry)) m n (now (weights .entry)) r ⌝ }
+// The check of weights for rows that are known to be within limits. Refused: 8 for a list that is not of m places, then 12.
+pub fn check_weights(rows: &[i32], m: usize, n: usize, weights: &[u32]) -> Checked
+    requires { ⌜ rowsWithin rowLimit (now rows) m n ≡ true ⌝ }
+    ensures { λ r. ⌜ r ≡ checking total rowLimit (now (rows .entry)) m n (now (weights .entry)) ⌝ }
 {
-    if !rows_within(rows, m, n) {
-        return not_checked(refusal::refused_at(refusal::OUTSIDE_LIMITS, 0));
-    }
     if weights.len() != m {
         return not_checked(refusal::refused_at(refusal::OUTSIDE_LIMITS, 0));
     }
@@ -56,4 +55,14 @@ pub fn check(rows: &[i32], m: usize, n: usize, weights: &[u32]) -> Checked
         outcome: Outcome::Accepted,
         ball,
     }
+}
+
+// The figures of the weights that the caller lends, one for each of the first m rows of n channels. Refused: 8, then 12.
+pub fn check(rows: &[i32], m: usize, n: usize, weights: &[u32]) -> Checked
+    ensures { λ r. ⌜ CheckPromise (now (rows .entry)) m n (now (weights .entry)) r ⌝ }
+{
+    if !rows_within(rows, m, n) {
+        return not_checked(refusal::refused_at(refusal::OUTSIDE_LIMITS, 0));
+    }
+    check_weights(rows, m, n, weights)
 }

@@ -9,7 +9,7 @@
 --     drawn-within, checked-within        those of an accepted drawing and of an accepted check are within their limits
 use Prim.Native.Nat.{ℕ, _+_, _≤_, _<_}
 use mathlib.Core.Path.{_≡_, refl, sym, ap, ap₂, _∙_}
-use mathlib.Core.Bool.{Bool, true, false, _&&_}
+use mathlib.Core.Bool.{true, false, _&&_}
 use mathlib.Core.List.{List, [], _∷_, _++_}
 use native.Mathlib.Nat.{le-trans, not-suc-le-zero}
 use native.Mathlib.Numerals.{add-one}
@@ -19,7 +19,7 @@ use lib.Dec.{leb}
 use lib.IntN.{ℤ, natAbs}
 use lib.ListN.{length, getD, take}
 use lib.Seq.{take-suc, getD-take, length-take-le}
-use Rattle.integers.specs.Tests.{both, clash, range-in}
+use Rattle.integers.specs.Tests.{both, clash, refuted, range-in}
 use Rattle.lists.specs.Each.{Each, each-cons, each-head, each-tail, each-append}
 use Rattle.refusal.specs.declared.Outcome.the-variants.{Accepted}
 use Rattle.geometry.specs.Limits.{channelLimit, centreLimit, distanceLimit, budgetLimit, coordinate, placesWithin}
@@ -70,11 +70,7 @@ module _ (types : List ChannelType) where
 
   pub codes-fail : (codes : List ℕ) (n i : ℕ) → n ≤ length codes → i < n → known types (getD codes i 0) ≡ false
       → false ≡ codesKnown types (take n codes)
-  codes-fail codes n i l b e = go (codesKnown types (take n codes)) refl
-    where
-      go : (t : Bool) → codesKnown types (take n codes) ≡ t → false ≡ t
-      go true h = clash (taken-known codes n l h i b) e
-      go false h = refl
+  codes-fail codes n i l b e = refuted (codesKnown types (take n codes)) (λ h. clash (taken-known codes n l h i b) e)
 
 -- ---- the test of the limits, as a record
 
@@ -123,11 +119,7 @@ module _ (D : ℕ) (types : List ChannelType) (f : Figures) where
       }
 
   pub figures-refused : (Within D types f → ⊥) → false ≡ figuresWithin D types f
-  figures-refused h = go (figuresWithin D types f) refl
-    where
-      go : (t : Bool) → figuresWithin D types f ≡ t → false ≡ t
-      go true e = absurd (h (within-figures e))
-      go false e = refl
+  figures-refused h = refuted (figuresWithin D types f) (λ e. h (within-figures e))
 
   module _ (w : Within D types f) where
     pub figures-within : figuresWithin D types f ≡ true

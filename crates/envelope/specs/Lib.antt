@@ -1,3 +1,5 @@
--- Envelopes, in reading order: the figures with their limits, then the laws.
+-- Envelopes, in reading order: the figures with their limits, their laws; then agreement with rows, and its laws.
 pub mod Figures
 pub mod FigureLaws
+pub mod Agreement
+pub mod AgreementLaws

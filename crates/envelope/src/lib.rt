@@ -8,6 +8,9 @@ ghost use lib.ListN.{length, take};
 ghost use Rattle.geometry.specs.Limits.{total, centreLimit, placesWithin};
 ghost use Rattle.channel.specs.Channel.{channelTypes};
 ghost use Rattle.envelope.specs.Figures.{codesKnown, figuresWithin, lentFigures};
+
+pub mod agreement;
+
 use ball::Ball;
 use figures::limits::BUDGET_MOST;
 use figures::limits::CENTRE_MOST;
@@ -31,7 +34,7 @@ pub struct Envelope {
 }
 
 // Whether each of the first n codes is that of a type.
-fn types_known(types: &[u8], n: usize) -> bool
+pub fn types_known(types: &[u8], n: usize) -> bool
     requires { ⌜ n ≤ length (now types) ⌝ }
     ensures { λ r. ⌜ r ≡ codesKnown channelTypes (take n (now (types .entry))) ⌝ }
 {

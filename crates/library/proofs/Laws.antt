@@ -1,36 +1,26 @@
 -- What the proofs of the exported calls share.
---     as-number                                        a test in numbers
---     drawing-zero, checking-zero                      only an accepted drawing or check has the number 0
---     Export, draw-export, check-export                how a call's answer becomes one in numbers
---     Known, answer-is, unwritten, written             what such a call answers and leaves in the lent slices
---     draw-room, check-room                            the places of an accepted drawing and check
-use Prim.Native.Nat.{ℕ, suc, _≤_}
+--     as-number              a test in numbers
+--     room-accepted          what holds where the outcome of a call that fills lent slices has the number 0
+--     accepted-places        what holds where the outcome of a call on rows has it
+--     unwritten, written     what a call leaves in a lent slice
+--     part-copied            a lent slice that a part is copied to
+use Prim.Native.Nat.{ℕ, _≤_}
 use mathlib.Core.Path.{_≡_, refl, sym, ap, ap₂, _∙_}
-use mathlib.Core.Bool.{Bool, true, false, cond, _&&_}
-use mathlib.Core.List.{List}
+use mathlib.Core.Bool.{Bool, true, false, cond}
+use mathlib.Core.List.{List, _++_}
 use native.Mathlib.Omega.{arith}
-use borrow.Author.Tests.{leb-true}
-use lib.Dec.{leb, eqb}
 use lib.IntN.{ℤ}
-use lib.ListN.{length}
+use lib.ListN.{length, take, drop}
+use lib.Seq.{take-length, length-take-le}
 use mir.Val.{boolByte}
+use Rattle.integers.specs.Tests.{nonzero}
 use Rattle.refusal.specs.Outcome.{numberOf}
 use Rattle.refusal.specs.declared.Outcome.{Outcome}
 use Rattle.refusal.specs.declared.Outcome.the-variants.{Accepted, Refused}
-use Rattle.geometry.specs.Limits.{total, rowLimit, channelLimit, budgetLimit, rowsWithin}
-use Rattle.geometry.specs.Places.{weightsTotal}
-use Rattle.integers.specs.Tests.{both}
+use Rattle.geometry.specs.Limits.{rowLimit, channelLimit, rowsWithin}
 use Rattle.geometry.specs.TableLaws.{within-table}
-use Rattle.ball.specs.Draw.{drawing}
-use Rattle.ball.specs.Check.{checking}
-use Rattle.ball.specs.DrawLaws.{each-answer}
-use Rattle.ball.specs.Demand.{drawing-accepted, checking-accepted}
-use Rattle.ball.specs.declared.Drawing.{Drawing}
-use Rattle.ball.specs.declared.Checked.{Checked}
-use Rattle.library.specs.declared.DrawingAnswer.{DrawingAnswer}
-use Rattle.library.specs.declared.CheckAnswer.{CheckAnswer}
 use Rattle.lists.specs.Filled.{filled, filled-refused}
-use Rattle.library.specs.Export.{withRoom, drawingInNumbers, checkInNumbers}
+use Rattle.library.specs.Export.{withRoom}
 
 -- ---- answers in numbers
 
@@ -40,91 +30,35 @@ as-number false = refl
 
 -- ---- an outcome of number 0
 
-nonzero : {A : Type 0} {k : ℕ} → suc k ≡ 0 → A
-nonzero h = absurd (omega arith)
-
-room-accepted : (room : Bool) (o : Outcome) → (numberOf o ≡ 0 → o ≡ Accepted) → numberOf (withRoom room o) ≡ 0
-    → (room ≡ true) × (o ≡ Accepted)
-room-accepted true Accepted only h = (refl, refl)
+-- a call that fills lent slices has the number 0 only where they have room and the call itself has it
+pub room-accepted : {P : Type 0} (room : Bool) (o : Outcome) → (numberOf o ≡ 0 → (o ≡ Accepted) × P) → numberOf (withRoom room o) ≡ 0
+    → (room ≡ true) × P
+room-accepted true Accepted only h = (refl, only h .1)
 room-accepted false Accepted only h = nonzero h
-room-accepted room (Refused r) only h = let z : _≡_ {A = ℕ} 0 1 = cc (only h) in absurd (omega arith)
+room-accepted room (Refused r) only h = let z : _≡_ {A = ℕ} 0 1 = cc (only h .0) in absurd (omega arith)
 
-drawing-zero : (D limit : ℕ) (rows : List ℤ) (m n b : ℕ) → numberOf (drawing D limit rows m n b .outcome) ≡ 0
-    → drawing D limit rows m n b .outcome ≡ Accepted
-unfolding drawing
-drawing-zero D limit rows m n b =
-    each-answer (λ (d : Drawing). numberOf (d .outcome) ≡ 0 → d .outcome ≡ Accepted) (rowsWithin limit rows m n) (leb b budgetLimit)
-    (λ _ _ _. refl) nonzero nonzero
+-- what is known of a call that answers as it is defined, where its number is 0
+pub accepted-places : (rows : List ℤ) (m n : ℕ) {places : ℕ} {o defined : Outcome} → places ≡ rowLimit → o ≡ defined
+    → (numberOf defined ≡ 0 → defined ≡ Accepted) → (defined ≡ Accepted → rowsWithin rowLimit rows m n ≡ true)
+    → numberOf o ≡ 0 → (o ≡ Accepted) × ((n ≤ channelLimit) × (m ≤ places))
+accepted-places rows m n all is only within z =
+    let accepted = only (ap numberOf (sym is) ∙ z) in
+    let table = within-table rows m n (within accepted) in
+    (is ∙ accepted, (table .channels, omega (arith, table .rows-most)))
 
-checking-zero : (D limit : ℕ) (rows : List ℤ) (m n : ℕ) (ws : List ℕ) → numberOf (checking D limit rows m n ws .outcome) ≡ 0
-    → checking D limit rows m n ws .outcome ≡ Accepted
-unfolding checking
-checking-zero D limit rows m n ws =
-    each-answer (λ (k : Checked). numberOf (k .outcome) ≡ 0 → k .outcome ≡ Accepted) (rowsWithin limit rows m n && eqb (length ws) m)
-    (eqb (weightsTotal m ws) D) (λ _ _ _. refl) nonzero nonzero
+-- ---- a call on lent slices, whose answer has the number k
 
--- ---- a call on lent slices
+module _ {A : Type 0} {number k : ℕ} (e : number ≡ k) (count : ℕ) (source lent₀ : List A) where
+  pub unwritten : (k ≡ 0 → ⊥) → lent₀ ≡ filled number count source lent₀
+  unwritten refused = filled-refused number count source lent₀ (λ z. refused (sym e ∙ z))
 
--- how a call's answer of type K becomes one of type R in numbers
-pub record Export (K R : Type 0) : Type 0 where
-  pub outcome : K → Outcome
-  pub in-numbers : Outcome → K → R
-  pub number : R → ℕ
-  pub number-is : (o : Outcome) (k : K) → number (in-numbers o k) ≡ numberOf o
+  pub written : {lent : List A} → k ≡ 0 → lent ≡ filled 0 count source lent₀ → lent ≡ filled number count source lent₀
+  written z l = l ∙ ap (λ (j : ℕ). filled j count source lent₀) (sym (e ∙ z))
 
-abbrev pub draw-export : Export Drawing DrawingAnswer
-draw-export = record { outcome = λ d. d .outcome; in-numbers = drawingInNumbers; number = λ r. r .number; number-is = λ o d. refl }
+-- ---- a part that is copied
 
-abbrev pub check-export : Export Checked CheckAnswer
-check-export = record { outcome = λ k. k .outcome; in-numbers = checkInNumbers; number = λ r. r .number; number-is = λ o k. refl }
-
--- what is known before anything is written: the call's answer, the outcome with the lent places counted, and its number
-pub record Known {K R : Type 0} (E : Export K R) (defined : K) (room : Bool) : Type 0 where
-  pub called : K
-  pub result : Outcome
-  pub number : ℕ
-  pub is : called ≡ defined
-  pub answered : result ≡ withRoom room (E .outcome called)
-  pub numbered : number ≡ numberOf result
-
-module _ {K R : Type 0} {E : Export K R} {defined : K} {room : Bool} (h : Known E defined room) where
-  accepted : (numberOf (E .outcome defined) ≡ 0 → E .outcome defined ≡ Accepted) → h .number ≡ 0
-      → (room ≡ true) × (E .outcome defined ≡ Accepted)
-  accepted only z =
-      room-accepted room (E .outcome defined) only
-      (ap (λ (k : K). numberOf (withRoom room (E .outcome k))) (sym (h .is)) ∙ ap numberOf (sym (h .answered)) ∙ sym (h .numbered) ∙ z)
-
-  module _ (r : R) (e : r ≡ E .in-numbers (h .result) (h .called)) where
-    pub answer-is : r ≡ E .in-numbers (withRoom room (E .outcome defined)) defined
-    answer-is =
-        e ∙ ap (λ (o : Outcome). E .in-numbers o (h .called)) (h .answered)
-        ∙ ap (λ (k : K). E .in-numbers (withRoom room (E .outcome k)) k) (h .is)
-
-    number-is : E .number r ≡ h .number
-    number-is = ap (E .number) e ∙ E .number-is (h .result) (h .called) ∙ sym (h .numbered)
-
-    pub unwritten : {A : Type 0} (count : ℕ) (source lent : List A) → (h .number ≡ 0 → ⊥)
-        → lent ≡ filled (E .number r) count source lent
-    unwritten count source lent refused = filled-refused (E .number r) count source lent (λ z. refused (sym number-is ∙ z))
-
-    pub written : {A : Type 0} (count : ℕ) (part : K → List A) (lent₀ lent : List A) → h .number ≡ 0
-        → lent ≡ filled 0 count (part (h .called)) lent₀ → lent ≡ filled (E .number r) count (part defined) lent₀
-    written {A} count part lent₀ lent z l =
-        l ∙ ap₂ (λ (k : ℕ) (d : K). filled k count (part d) lent₀) (sym (number-is ∙ z)) (h .is)
-
--- the places of an accepted drawing
-pub draw-room : (rows : List ℤ) (m n b c w : ℕ) (h : Known draw-export (drawing total rowLimit rows m n b) (leb n c && leb m w))
-    → h .number ≡ 0 → ((n ≤ c) × (n ≤ channelLimit)) × ((m ≤ w) × (m ≤ rowLimit))
-draw-room rows m n b c w h z =
-    let both-hold = accepted h (drawing-zero total rowLimit rows m n b) z in
-    let room = both (leb n c) (leb m w) (both-hold .0) in
-    let table = within-table rows m n (drawing-accepted total rowLimit rows m n b (both-hold .1) .0) in
-    ((leb-true n c (room .0), table .channels), (leb-true m w (room .1), table .rows-most))
-
--- the places of an accepted check
-pub check-room : (rows : List ℤ) (m n : ℕ) (ws : List ℕ) (c : ℕ) (h : Known check-export (checking total rowLimit rows m n ws) (leb n c))
-    → h .number ≡ 0 → (n ≤ c) × (n ≤ channelLimit)
-check-room rows m n ws c h z =
-    let both-hold = accepted h (checking-zero total rowLimit rows m n ws) z in
-    let table = within-table rows m n (checking-accepted total rowLimit rows m n ws (both-hold .1) .0) in
-    (leb-true n c (both-hold .0), table .channels)
+pub part-copied : {A : Type 0} (count : ℕ) (source lent : List A) → count ≤ length source
+    → take (length (take count source)) (take count source) ++ drop (length (take count source)) lent ≡ filled 0 count source lent
+unfolding filled
+part-copied {A} count source lent h =
+    ap₂ (λ (l : List A) (k : ℕ). l ++ drop k lent) (take-length (take count source)) (length-take-le count source h)
