@@ -1,5 +1,5 @@
--- Document 01, "Trial figures": the cases marked with a star that concern the ball as one table, and one law that computes
--- them all. The panel's cases and the record's bytes join the table with the chart and the record.
+-- Document 01, "Trial figures": the cases marked with a star that concern the ball and the record as one table, and one law that
+-- computes them all. The panel's cases join the table with the chart.
 --     Trial             the figures that the definitions give, and those that document 01 states or that follow from them
 --     trials            the table, in document 01's order
 --     trials-agree      every case gives document 01's figures
@@ -18,6 +18,17 @@ use Rattle.geometry.specs.Places.{tabulate, centreList}
 use Rattle.ball.specs.Ball.{ballOf}
 use Rattle.ball.specs.Draw.{run, start, runFrom, drawing}
 use Rattle.ball.specs.declared.Drawing.{Drawing}
+use Rattle.text.specs.Parts.{join}
+use Rattle.text.specs.Lines.{printLines}
+use Rattle.text.specs.Number.{decimal, printMagnitude, print}
+use Rattle.text.specs.Put.{numbersAfter}
+use Rattle.channel.specs.Channel.{channelTypes, typeOf}
+use Rattle.heading.specs.Heading.{printHeading}
+use Rattle.envelope.specs.Agreement.{drawnEnvelope}
+use Rattle.record_form.specs.Lines.{printCentre, printResult, printWeight}
+use Rattle.record_form.specs.Record.{printRecord}
+use Rattle.record_form.specs.Weights.{listed}
+use Rattle.record_print.specs.Printed.{recordText}
 
 pub record Trial : Type 0 where
   pub computed : List ℤ
@@ -52,6 +63,15 @@ transferUnder rows ws = transfer total (length rows) 1 (coordinate rows 1) (weig
 right-triangle : List ℤ
 right-triangle = numbers (0 ∷ 0 ∷ 6 ∷ 0 ∷ 0 ∷ 8 ∷ [])
 
+-- `ENV`, 2, `TOC`, `CND`; `C`, 196608, 262144; `R`, 107374182400, 107374182400, 2, `S`; `W`, 2, 32768; `W`, 3, 32768
+exampleRecord : List ℕ
+exampleRecord =
+    (69 ∷ 78 ∷ 86 ∷ 44 ∷ 50 ∷ 44 ∷ 84 ∷ 79 ∷ 67 ∷ 44 ∷ 67 ∷ 78 ∷ 68 ∷ 10 ∷ [])
+    ++ (67 ∷ 44 ∷ 49 ∷ 57 ∷ 54 ∷ 54 ∷ 48 ∷ 56 ∷ 44 ∷ 50 ∷ 54 ∷ 50 ∷ 49 ∷ 52 ∷ 52 ∷ 10 ∷ [])
+    ++ (82 ∷ 44 ∷ 49 ∷ 48 ∷ 55 ∷ 51 ∷ 55 ∷ 52 ∷ 49 ∷ 56 ∷ 50 ∷ 52 ∷ 48 ∷ 48 ∷ 44 ∷ 49 ∷ 48 ∷ 55 ∷ 51 ∷ 55 ∷ 52 ∷ 49 ∷ 56 ∷ 50 ∷ 52 ∷ 48 ∷ 48 ∷ 44 ∷ 50 ∷ 44 ∷ 83 ∷ 10 ∷ [])
+    ++ (87 ∷ 44 ∷ 50 ∷ 44 ∷ 51 ∷ 50 ∷ 55 ∷ 54 ∷ 56 ∷ 10 ∷ [])
+    ++ (87 ∷ 44 ∷ 51 ∷ 44 ∷ 51 ∷ 50 ∷ 55 ∷ 54 ∷ 56 ∷ 10 ∷ [])
+
 pub trials : List Trial
 trials =
     -- Rows 0, 10: one move, t = 32,768, M = L = 107,374,182,400
@@ -78,6 +98,8 @@ trials =
       stated =
           numbers (2 ∷ 107374182400 ∷ 107374182400 ∷ 1 ∷ 196608 ∷ 262144 ∷ 0 ∷ 32768 ∷ 32768 ∷ []);
     }
+    -- its bytes, line by line as document 01 prints them
+    ∷ record { computed = numbers (recordText channelTypes (drawnEnvelope 2 (1 ∷ 4 ∷ []) (draw 2 right-triangle 3 10000))); stated = numbers exampleRecord }
     -- The same with budget 1: Budget, M = 223,338,299,392, L = 68,719,476,736
     ∷ record {
       computed = outline (draw 2 right-triangle 3 1);
@@ -96,5 +118,5 @@ trials =
     ∷ []
 
 pub trials-agree : map (λ (t : Trial). t .computed) trials ≡ map (λ (t : Trial). t .stated) trials
-unfolding trials numbers flag draw outline whole differenceUnder transferUnder right-triangle sumℤ sumℕ square squaredLength squaredDistance scaledCentre scaledSquaredDistance largest scaledSquaredRadius weightedSquaredLength scaledLowerBound farthest replaces nearest scaledSquaredDistanceOf farRow nearRow difference separation settled transfer moveWeight moved coordinate placesWithin rowsWithin tabulate centreList ballOf run start runFrom drawing
+unfolding trials numbers flag draw outline whole differenceUnder transferUnder right-triangle exampleRecord join printLines decimal printMagnitude print numbersAfter channelTypes typeOf printHeading printCentre printResult printWeight printRecord listed recordText sumℤ sumℕ square squaredLength squaredDistance scaledCentre scaledSquaredDistance largest scaledSquaredRadius weightedSquaredLength scaledLowerBound farthest replaces nearest scaledSquaredDistanceOf farRow nearRow difference separation settled transfer moveWeight moved coordinate placesWithin rowsWithin tabulate centreList ballOf run start runFrom drawing
 trials-agree = refl

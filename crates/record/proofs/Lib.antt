@@ -1,0 +1,3 @@
+-- What the proofs of the two calls on records use.
+pub mod ReadSteps
+pub mod WriteSteps

@@ -1,0 +1,157 @@
+-- What a text and a record in form answer, test by test; M and L of the latter are signed numbers of the code.
+--     read-faulty, read-sound         a text that is not in form, and one that is
+--     read-channels                   n of what is handed over
+--     sign-cast                       what the cast of a number of 0 or more asks
+--     codes-differ                    n or the tags are not those given
+--     radius-below, floor-below       M or L is below 0
+--     Signs s                         both are 0 or more
+--     ballRead s, envelopeRead s      the ball of such a record, and the answer where it agrees
+--     disagreeing, agreeing           its figures do not agree with the rows, or they do
+use Prim.Native.Nat.{ℕ, _≤_, zero-le}
+use mathlib.Core.Path.{_≡_, refl, sym, ap, ap₂, subst, _∙_}
+use mathlib.Core.Bool.{Bool, true, false, _&&_}
+use mathlib.Core.List.{List}
+use mathlib.Core.Option.{Option, none, some}
+use native.Mathlib.Omega.{arith}
+use borrow.Author.Tests.{ltb-true}
+use lib.Dec.{T}
+use lib.IntN.{ℤ, pos, negsuc, natAbs}
+use lib.ListN.{length, take}
+use lib.Signed.{ltZ, nonNeg}
+use mir.Syntax.{w64}
+use mir.Val.{Fits, SFits}
+use mir.Facts.{toZ-ofZ}
+use Rattle.integers.specs.Absolute.{abs-nonneg, fits-abs}
+use Rattle.integers.specs.Reading.{back, number-cast}
+use Rattle.refusal.specs.Number.{record-form, disagreement}
+use Rattle.refusal.specs.Outcome.{refused, refusedAt, choose}
+use Rattle.refusal.specs.declared.Outcome.the-variants.{Accepted}
+use Rattle.geometry.specs.Limits.{rowLimit, channelLimit}
+use Rattle.ball.specs.declared.Ball.{Ball}
+use Rattle.text.specs.Parts.{same}
+use Rattle.channel.specs.Channel.{ChannelType}
+use Rattle.channel.specs.ChannelLaws.{soundTypes}
+use Rattle.envelope.specs.Figures.{figuresOf}
+use Rattle.envelope.specs.Agreement.{agrees}
+use Rattle.record_form.specs.Record.{Record, Form, faulty, sound, form}
+use Rattle.record_form.specs.RecordLaws.{form-printed, form-faults}
+use Rattle.record_form.specs.Answers.{statedForm}
+use Rattle.record_form.specs.declared.form.Stated.{Stated}
+use Rattle.record.specs.declared.EnvelopeRead.{EnvelopeRead}
+use Rattle.record.specs.Answers.{notRead, statedBall, formAnswer, ballAnswer, statedAnswer}
+use Rattle.record.specs.HeldLaws.{Holding, held-answer}
+
+pub sign-cast : (z : ℤ) → SFits w64 z → ltZ (back w64 z) (pos 0) ≡ false → T (nonNeg (back w64 z)) × Fits w64 (natAbs (back w64 z))
+sign-cast z f h =
+    number-cast w64 (natAbs (back w64 z)) (abs-nonneg (back w64 z) h) (omega (arith, ap natAbs (toZ-ofZ f), fits-abs w64 z f))
+
+-- no number of 0 or more is below 0
+none-below : {P : Type 0} (k : ℕ) → ltZ (pos k) (pos 0) ≡ true → P
+none-below k h = absurd (omega (arith, ltb-true k 0 h))
+
+pub record Signs (s : Stated) : Type 0 where
+  pub radius-fits : SFits w64 (s .radius)
+  pub floor-fits : SFits w64 (s .floor)
+  pub radius-not : ltZ (back w64 (s .radius)) (pos 0) ≡ false
+  pub floor-not : ltZ (back w64 (s .floor)) (pos 0) ≡ false
+
+abbrev pub ballRead : Stated → Ball
+ballRead s =
+    record {
+      «scaled_centre» = s .centre;
+      «scaled_squared_radius» = natAbs (back w64 (s .radius));
+      «scaled_lower_bound» = natAbs (back w64 (s .floor));
+      settled = s .settled;
+    }
+
+abbrev pub envelopeRead : Stated → EnvelopeRead
+envelopeRead s =
+    record {
+      outcome = Accepted;
+      envelope = record { figures = figuresOf (s .n) (s .types) (ballRead s) (s .moves); weights = s .weights };
+    }
+
+module _ (D limit : ℕ) (rows : List ℤ) (m : ℕ) (codes : List ℕ) (s : Stated) where
+  abbrev turned : EnvelopeRead
+  turned = notRead limit (refused disagreement)
+
+  pub codes-differ : same codes (take (s .n) (s .types)) ≡ false → turned ≡ statedAnswer D limit rows m codes s
+  unfolding statedAnswer
+  codes-differ e = go (statedBall (s .centre) (s .radius) (s .floor) (s .settled))
+    where
+      go : (o : Option Ball) → turned ≡ ballAnswer D limit rows m codes s o
+      go none = refl
+      go (some ball) = rw e
+
+  pub radius-below : SFits w64 (s .radius) → ltZ (back w64 (s .radius)) (pos 0) ≡ true → turned ≡ statedAnswer D limit rows m codes s
+  unfolding statedAnswer
+  radius-below f h = go (s .radius) (ap (λ x. ltZ x (pos 0)) (sym (toZ-ofZ f)) ∙ h)
+    where
+      go : (M : ℤ) → ltZ M (pos 0) ≡ true → turned ≡ ballAnswer D limit rows m codes s (statedBall (s .centre) M (s .floor) (s .settled))
+      go (pos k) h = none-below k h
+      go (negsuc k) h = refl
+
+  pub floor-below : SFits w64 (s .floor) → ltZ (back w64 (s .floor)) (pos 0) ≡ true → turned ≡ statedAnswer D limit rows m codes s
+  unfolding statedAnswer
+  floor-below f h = go (s .radius) (s .floor) (ap (λ x. ltZ x (pos 0)) (sym (toZ-ofZ f)) ∙ h)
+    where
+      go : (M L : ℤ) → ltZ L (pos 0) ≡ true → turned ≡ ballAnswer D limit rows m codes s (statedBall (s .centre) M L (s .settled))
+      go (pos j) (pos k) h = none-below k h
+      go (pos j) (negsuc k) h = refl
+      go (negsuc j) L h = refl
+
+  module _ (signs : Signs s) where
+    stated : statedBall (s .centre) (s .radius) (s .floor) (s .settled) ≡ some (ballRead s)
+    stated =
+        ap₂ (λ M L. statedBall (s .centre) M L (s .settled))
+        (sym (toZ-ofZ (signs .radius-fits)) ∙ abs-nonneg (back w64 (s .radius)) (signs .radius-not))
+        (sym (toZ-ofZ (signs .floor-fits)) ∙ abs-nonneg (back w64 (s .floor)) (signs .floor-not))
+
+    -- n and the tags are those given
+    module _ (n : ℕ) (count : length codes ≡ n) (agreed : same codes (take (s .n) (s .types)) ≡ true) where
+      answer : (t : Bool) → agrees D limit rows m n (ballRead s) (s .weights) ≡ t
+          → choose t (λ _. envelopeRead s) (λ _. turned) ≡ statedAnswer D limit rows m codes s
+      unfolding statedAnswer
+      answer t h =
+          ap₂ (λ a b. choose (a && b) (λ _. envelopeRead s) (λ _. turned)) (sym agreed)
+          (sym h ∙ ap (λ j. agrees D limit rows m j (ballRead s) (s .weights)) (sym count))
+          ∙ ap (ballAnswer D limit rows m codes s) (sym stated)
+
+      pub disagreeing : agrees D limit rows m n (ballRead s) (s .weights) ≡ false → turned ≡ statedAnswer D limit rows m codes s
+      disagreeing = answer false
+
+      pub agreeing : agrees D limit rows m n (ballRead s) (s .weights) ≡ true → envelopeRead s ≡ statedAnswer D limit rows m codes s
+      agreeing = answer true
+
+-- ---- a text
+
+-- n of a record in form
+form-channels : (types : List ChannelType) → soundTypes types ≡ true → (text : List ℕ) (r : Record) → form rowLimit types text ≡ sound r
+    → length (r .codes) ≤ channelLimit
+form-channels types types-sound text r f = form-printed rowLimit types types-sound text r f .0 .heading .channels
+
+module _ (types : List ChannelType) (text : List ℕ) (s : Stated) (e : s ≡ statedForm (form rowLimit types text)) where
+  pub read-channels : soundTypes types ≡ true → s .n ≤ channelLimit
+  read-channels types-sound = subst (λ (x : Stated). x .n ≤ channelLimit) (sym e) (go (form rowLimit types text) refl)
+    where
+      go : (f : Form Record) → form rowLimit types text ≡ f → statedForm f .n ≤ channelLimit
+      go (faulty line) is = zero-le
+      go (sound r) is = form-channels types types-sound text r is
+
+  module _ (D : ℕ) (rows : List ℤ) (m : ℕ) (codes : List ℕ) where
+    pub read-faulty : (s .line ≡ 0 → ⊥)
+        → notRead rowLimit (refusedAt record-form (s .line)) ≡ formAnswer D rowLimit rows m codes (form rowLimit types text)
+    read-faulty h = go (form rowLimit types text) e
+      where
+        go : (f : Form Record) → s ≡ statedForm f → notRead rowLimit (refusedAt record-form (s .line)) ≡ formAnswer D rowLimit rows m codes f
+        go (faulty line) is = ap (λ (x : Stated). notRead rowLimit (refusedAt record-form (x .line))) is
+        go (sound r) is = absurd (h (ap (λ (x : Stated). x .line) is))
+
+    pub read-sound : soundTypes types ≡ true → Holding D → s .line ≡ 0
+        → statedAnswer D rowLimit rows m codes s ≡ formAnswer D rowLimit rows m codes (form rowLimit types text)
+    read-sound types-sound holding h = ap (statedAnswer D rowLimit rows m codes) e ∙ go (form rowLimit types text) refl e
+      where
+        go : (f : Form Record) → form rowLimit types text ≡ f → s ≡ statedForm f
+            → statedAnswer D rowLimit rows m codes (statedForm f) ≡ formAnswer D rowLimit rows m codes f
+        go (faulty line) is handed = absurd (omega (arith, form-faults rowLimit types text line is, ap (λ (x : Stated). x .line) handed))
+        go (sound r) is handed = held-answer D holding rows m codes r (form-channels types types-sound text r is)

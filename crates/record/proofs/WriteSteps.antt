@@ -1,0 +1,57 @@
+-- What stands in the buffer after a record is written, and the test of the figures.
+--     lent-within                           the test of lent figures is that of the figures
+--     printed-length, -text, -fits          the text stands in the first places of what was printed into
+--     buffer-filled                         the buffer after these are copied to it
+--     buffer-left                           a refusal leaves the buffer as it was
+use Prim.Native.Nat.{ℕ, suc, _≤_}
+use mathlib.Core.Path.{_≡_, refl, ap, _∙_}
+use mathlib.Core.List.{List, _++_}
+use native.Mathlib.Omega.{arith}
+use lib.ListN.{length, take, drop, length-take}
+use Rattle.lists.specs.Filled.{filled, filled-refused}
+use Rattle.refusal.specs.Outcome.{numberOf, refused}
+use Rattle.text.specs.Put.{Put}
+use Rattle.channel.specs.Channel.{ChannelType}
+use Rattle.envelope.specs.Figures.{figuresWithin, lentFigures}
+use Rattle.envelope.specs.declared.Figures.{Figures}
+use Rattle.envelope.specs.declared.Envelope.{Envelope}
+use Rattle.record_form.specs.Record.{printRecord}
+use Rattle.record_print.specs.Printed.{recordOf, recordText}
+use Rattle.record.specs.declared.RecordWritten.{RecordWritten}
+use Rattle.record.specs.Answers.{notWritten}
+
+-- the ending is not asked for
+pub lent-within : (D : ℕ) (types : List ChannelType) (f : Figures)
+    → figuresWithin D types
+    (lentFigures (f .n) (f .types) (f .ball .«scaled_centre») (f .ball .«scaled_squared_radius») (f .ball .«scaled_lower_bound») (f .moves))
+    ≡ figuresWithin D types f
+unfolding figuresWithin
+lent-within D types f = refl
+
+-- ---- what is written
+
+module _ (types : List ChannelType) (e : Envelope) (out₀ out : List ℕ) (r : ℕ)
+    (printed : Put (printRecord types (recordOf (e .figures) (e .weights))) out₀ 0 out r) where
+  pub printed-length : length (recordText types e) ≡ r
+  unfolding recordText
+  printed-length = omega (arith, printed .next)
+
+  pub printed-text : take r out ≡ recordText types e
+  unfolding recordText
+  printed-text = printed .is
+
+  pub printed-fits : r ≤ length out
+  printed-fits = omega (arith, length-take r out, ap length printed-text, printed-length)
+
+  pub buffer-filled : (buffer : List ℕ)
+      → take (length (take r out)) (take r out) ++ drop (length (take r out)) buffer ≡ filled 0 r (recordText types e) buffer
+  unfolding filled
+  buffer-filled buffer =
+      ap (λ (l : List ℕ). take (length l) l ++ drop (length l) buffer) printed-text
+      ∙ ap (λ k. take k (recordText types e) ++ drop k buffer) printed-length
+
+pub buffer-left : (w : RecordWritten) (k : ℕ) (source buffer : List ℕ) → w ≡ notWritten (refused (suc k))
+    → buffer ≡ filled (numberOf (w .outcome)) (w .length) source buffer
+buffer-left w k source buffer e =
+    filled-refused (numberOf (w .outcome)) (w .length) source buffer
+    (λ z. absurd (omega (arith, z, ap (λ (x : RecordWritten). numberOf (x .outcome)) e)))

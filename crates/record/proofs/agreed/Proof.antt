@@ -1,0 +1,147 @@
+-- The tests are those of the definition: n and the tags, then the signs of M and L, then the agreement of the figures with the rows.
+-- Any of them that fails answers 12.
+use mathlib.Core.Path.{_≡_, sym, _∙_}
+use mathlib.Core.Bool.{true}
+use native.Mathlib.Omega.{arith}
+use borrow.Author.Needs.{needs}
+use borrow.Author.Tests.{not-true, not-false}
+use lib.ListN.{length, take}
+use lib.Seq.{length-take-le}
+use denote.Ref.{now}
+use mir.Syntax.{w64}
+use mir.Val.{SFits}
+use Rattle.geometry.specs.Limits.{total, rowLimit, channelLimit}
+use Rattle.text.specs.Parts.{same}
+use Rattle.record.proofs.ReadSteps.{sign-cast, codes-differ, radius-below, floor-below, Signs, disagreeing, agreeing}
+use Rattle.record.proofs.agreed.Statement.{statement}
+use Rattle.record.proofs.agreed.Tie as tie
+
+-- the places of the arrays, and the two signed numbers fit their type
+type-places : (c : tie.Start) → length (c .args .stated .types) ≡ channelLimit
+type-places c = search needs
+
+weight-places : (c : tie.Start) → length (c .args .stated .weights) ≡ rowLimit
+weight-places c = search needs
+
+radius-fits : (c : tie.After-struct-told) → SFits w64 (c .before .before .before .before .before .before .before .args .stated .radius)
+radius-fits c = search needs
+
+floor-fits : (c : tie.After-struct-told) → SFits w64 (c .before .before .before .before .before .before .before .args .stated .floor)
+floor-fits c = search needs
+
+array-share-prefix-types : tie.Need-array-share-prefix-types
+array-share-prefix-types c = omega (arith, type-places (c .before .before), c .before .before .pre .channels)
+
+slice-aggregate-same-bytes : tie.Need-slice-aggregate-same-bytes
+slice-aggregate-same-bytes c = sym (length-take-le _ _ (array-share-prefix-types (c .before)))
+
+same-bytes-requires : tie.Need-same-bytes-requires
+same-bytes-requires c κs = search needs
+
+not-read-requires : tie.Need-not-read-requires
+not-read-requires c κs = search needs
+
+returns : tie.Need-returns
+returns c =
+    let test = c .before .before in
+    let args = test .before .before .before .before .args in
+    c .not-read .ensures
+    ∙ codes-differ total rowLimit (now (args .rows)) (args .m) (now (args .codes)) (args .stated)
+    (sym (test .same-bytes .ensures) ∙ not-true _ (c .before .if1 .taken))
+
+-- past the first test n and the tags are those given
+same-codes : (c : tie.Else1) → let args = c .before .before .before .before .before .args in
+    same (now (args .codes)) (take (args .stated .n) (args .stated .types)) ≡ true
+same-codes c = sym (c .before .same-bytes .ensures) ∙ not-false _ (c .if1 .left)
+
+not-read-requires-2 : tie.Need-not-read-requires-2
+not-read-requires-2 c κs = search needs
+
+returns-2 : tie.Need-returns-2
+returns-2 c =
+    let test = c .before .before in
+    let args = test .before .before .before .before .before .before .before .args in
+    c .not-read2 .ensures
+    ∙ radius-below total rowLimit (now (args .rows)) (args .m) (now (args .codes)) (args .stated) (radius-fits test) (c .before .if2 .taken)
+
+not-read-requires-3 : tie.Need-not-read-requires-3
+not-read-requires-3 c κs = search needs
+
+returns-3 : tie.Need-returns-3
+returns-3 c =
+    let told = c .before .before .before .before .before in
+    let args = told .before .before .before .before .before .before .before .args in
+    c .not-read3 .ensures
+    ∙ floor-below total rowLimit (now (args .rows)) (args .m) (now (args .codes)) (args .stated) (floor-fits told) (c .before .if3 .taken)
+
+-- past the tests of the signs
+abbrev start-of : tie.Else3 → tie.Start
+start-of c = c .before .before .before .before .before .before .before .before .before .before .before
+
+signs : (c : tie.Else3) → Signs (start-of c .args .stated)
+signs c =
+    let past-radius = c .before .before .before in
+    record {
+      radius-fits = radius-fits (past-radius .before);
+      floor-fits = floor-fits (past-radius .before);
+      radius-not = past-radius .if2 .left;
+      floor-not = c .if3 .left;
+    }
+
+cast-radius : tie.Need-cast-radius
+cast-radius c =
+    let s = signs (c .before .before) in
+    sign-cast _ (s .radius-fits) (s .radius-not)
+
+cast-floor : tie.Need-cast-floor
+cast-floor c =
+    let s = signs (c .before .before .before .before) in
+    sign-cast _ (s .floor-fits) (s .floor-not)
+
+slice-aggregate-agrees : tie.Need-slice-aggregate-agrees
+slice-aggregate-agrees c = sym (weight-places (start-of (c .before .before .before .before .before .before .before)))
+
+agrees-requires : tie.Need-agrees-requires
+agrees-requires c κs = start-of (c .before .before .before .before .before .before .before) .pre .within
+
+not-read-requires-4 : tie.Need-not-read-requires-4
+not-read-requires-4 c κs = search needs
+
+returns-4 : tie.Need-returns-4
+returns-4 c =
+    let test = c .before .before in
+    let past-signs = test .before .before .before .before .before .before .before .before in
+    let start = start-of past-signs in
+    c .not-read4 .ensures
+    ∙ disagreeing total rowLimit (now (start .args .rows)) (start .args .m) (now (start .args .codes)) (start .args .stated) (signs past-signs)
+    (start .args .n) (start .pre .count) (same-codes (past-signs .before .before .before .before .before .before))
+    (sym (test .agrees .ensures) ∙ not-true _ (c .before .if4 .taken))
+
+returns-5 : tie.Need-returns-5
+returns-5 c =
+    let past-signs = c .before .before .before .before .before .before .before .before .before in
+    let start = start-of past-signs in
+    agreeing total rowLimit (now (start .args .rows)) (start .args .m) (now (start .args .codes)) (start .args .stated) (signs past-signs)
+    (start .args .n) (start .pre .count) (same-codes (past-signs .before .before .before .before .before .before))
+    (sym (c .before .agrees .ensures) ∙ not-false _ (c .if4 .left))
+
+pub agreed-spec : {M : Type 1} → statement M
+agreed-spec =
+    tie.close
+    (tie.spec
+    array-share-prefix-types
+    slice-aggregate-same-bytes
+    same-bytes-requires
+    not-read-requires
+    returns
+    not-read-requires-2
+    returns-2
+    not-read-requires-3
+    returns-3
+    cast-radius
+    cast-floor
+    slice-aggregate-agrees
+    agrees-requires
+    not-read-requires-4
+    returns-4
+    returns-5)

@@ -1,0 +1,101 @@
+-- What holds of the two calls as they stand: D = 65,536, 256 rows and document 01's types.
+--     Arrays e                       what every envelope of the code has: 256 weights of 32 bits
+--     house-text                     a record has at most 65,536 bytes, so that 1 never meets one of ours
+--     house-written-read             2.11: a written record, read against the same rows and codes, gives its own envelope, cleared
+--     house-drawn-read               a drawn envelope's record, read against the same rows and codes, gives that envelope
+--     house-unread, house-refused    writing refuses with 12 exactly the envelopes whose record reading turns back
+use Prim.Native.Nat.{ℕ, _^_, _≤_}
+use mathlib.Core.Path.{_≡_}
+use mathlib.Core.Bool.{true}
+use mathlib.Core.List.{List}
+use native.Mathlib.Omega.{arith}
+use lib.IntN.{ℤ}
+use lib.ListN.{length}
+use Rattle.lists.specs.Padded.{padded}
+use Rattle.refusal.specs.Number.{disagreement}
+use Rattle.refusal.specs.Outcome.{refused, numberOf}
+use Rattle.refusal.specs.declared.Outcome.the-variants.{Accepted}
+use Rattle.geometry.specs.Limits.{total, rowLimit, channelLimit, rowsWithin}
+use Rattle.ball.specs.Draw.{drawing}
+use Rattle.ball.specs.DrawnWeights.{drawing-length}
+use Rattle.text.specs.Parts.{textLimit}
+use Rattle.text.specs.UnsignedLaws.{Below}
+use Rattle.channel.specs.Channel.{channelTypes}
+use Rattle.channel.specs.ChannelLaws.{house-sound}
+use Rattle.channel.specs.AnswersLaws.{house-short}
+use Rattle.envelope.specs.Figures.{codesKnown, figuresWithin}
+use Rattle.envelope.specs.FigureLaws.{within-figures}
+use Rattle.envelope.specs.Agreement.{cleared, drawnEnvelope}
+use Rattle.envelope.specs.AgreementLaws.{agrees-agreed, agreed-weight}
+use Rattle.envelope.specs.declared.Envelope.{Envelope}
+use Rattle.record_print.specs.Printed.{recordText}
+use Rattle.record_print.specs.PrintedLaws.{record-room}
+use Rattle.record.specs.Answers.{recordRead, notWritten, recordWritten}
+use Rattle.record.specs.declared.EnvelopeRead.{EnvelopeRead}
+use Rattle.record.specs.ReadLaws.{accepting}
+use Rattle.record.specs.WriteLaws.{within-printing, Writing, written-writing}
+use Rattle.record.specs.TripLaws.{Holds, written-envelope, disagreement-unread, unread-disagreement}
+use Rattle.record.specs.DrawnLaws.{drawn-writing, drawn-read}
+
+pub record Arrays (e : Envelope) : Type 0 where
+  pub rows : length (e .weights) ≡ rowLimit
+  pub fitting : Below (2 ^ 32) (e .weights)
+
+holding : (e : Envelope) → Arrays e → Holds rowLimit e
+holding e arrays = record { places = arrays .rows; short = λ i h. omega (arith, arrays .fitting i h) }
+
+pub house-text : (e : Envelope) → Arrays e → figuresWithin total channelTypes (e .figures) ≡ true → length (recordText channelTypes e) ≤ textLimit
+unfolding recordText
+house-text e arrays kept =
+    let figures = within-figures total channelTypes (e .figures) kept in
+    omega (
+      arith,
+      arrays .rows,
+      record-room (e .figures) (e .weights) (within-printing channelTypes (e .figures) (e .weights) kept (arrays .rows)) channelTypes house-short
+          (omega (arith, figures .moves-limit)) (λ i h. omega (arith, arrays .fitting i h)),
+    )
+
+module _ (rows : List ℤ) (m : ℕ) (e : Envelope) (arrays : Arrays e) (places : ℕ) where
+  -- what is read of the envelope's own text, against the same rows and codes
+  abbrev readBack : EnvelopeRead
+  readBack = recordRead total rowLimit channelTypes rows m (e .figures .n) (e .figures .types) (recordText channelTypes e)
+
+  pub house-written-read : recordWritten total rowLimit channelTypes rows m e places .outcome ≡ Accepted
+      → readBack ≡ accepting (cleared e)
+  house-written-read accepted =
+      let writing = written-writing total rowLimit channelTypes rows m e places accepted in
+      written-envelope total rowLimit channelTypes house-sound (omega arith) (omega arith) (omega arith) rows m e (holding e arrays) writing
+      (house-text e arrays (writing .figures-kept))
+
+  pub house-unread : numberOf (recordWritten total rowLimit channelTypes rows m e places .outcome) ≡ disagreement → readBack .outcome ≡ Accepted → ⊥
+  house-unread h =
+      disagreement-unread total rowLimit channelTypes house-sound (omega arith) (omega arith) (omega arith) rows m e (holding e arrays) places h
+
+  pub house-refused : figuresWithin total channelTypes (e .figures) ≡ true → rowsWithin rowLimit rows m (e .figures .n) ≡ true
+      → (readBack .outcome ≡ Accepted → ⊥) → recordWritten total rowLimit channelTypes rows m e places ≡ notWritten (refused disagreement)
+  house-refused kept rows-kept unread =
+      unread-disagreement total rowLimit channelTypes house-sound (omega arith) (omega arith) (omega arith) rows m e (holding e arrays) places kept
+      rows-kept (house-text e arrays kept) unread
+
+-- a drawing of n channels of these codes
+module _ (rows : List ℤ) (m n : ℕ) (codes : List ℕ) (coded : length codes ≡ n) (codes-known : codesKnown channelTypes codes ≡ true) (budget : ℕ)
+    (accepted : drawing total rowLimit rows m n budget .outcome ≡ Accepted) where
+  abbrev own : Envelope
+  own = drawnEnvelope n (padded channelLimit codes) (drawing total rowLimit rows m n budget)
+
+  own-writing : Writing total rowLimit channelTypes rows m own
+  own-writing = drawn-writing total rowLimit channelTypes (omega arith) rows m n codes coded codes-known budget accepted
+
+  own-arrays : Arrays own
+  own-arrays =
+      let r = drawing total rowLimit rows m n budget in
+      let agreed = agrees-agreed total rowLimit rows m n (r .ball) (r .weights) (own-writing .agreeing) in
+      record {
+        rows = drawing-length total rowLimit rows m n budget;
+        fitting = λ i h. omega (arith, agreed-weight total rowLimit rows m n (r .ball) (r .weights) agreed i);
+      }
+
+  pub house-drawn-read : recordRead total rowLimit channelTypes rows m n (padded channelLimit codes) (recordText channelTypes own) ≡ accepting own
+  house-drawn-read =
+      drawn-read total rowLimit channelTypes (omega arith) rows m n codes coded codes-known budget accepted house-sound (omega arith) (omega arith)
+      (house-text own own-arrays (own-writing .figures-kept))

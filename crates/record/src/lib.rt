@@ -1,0 +1,187 @@
+// Records (document 01, "Texts"): what the desk keeps of an envelope and the plant receives. A record is read against the rows and
+// tags that it is said to be drawn from, and written only where it would be read back.
+ghost use mathlib.Core.Path.{_≡_};
+ghost use lib.ListN.{length};
+ghost use Rattle.refusal.specs.Outcome.{numberOf, refusedAt};
+ghost use Rattle.geometry.specs.Limits.{total, rowLimit};
+ghost use Rattle.lists.specs.Filled.{filled};
+ghost use Rattle.channel.specs.Channel.{channelTypes};
+ghost use Rattle.record_print.specs.Printed.{recordText};
+ghost use Rattle.record.specs.Answers.{notRead, givenWithin, Agreeing, statedAnswer, recordRead, notWritten, recordWritten};
+use ball::Ball;
+use envelope::Envelope;
+use envelope::Figures;
+use envelope::agreement::agrees;
+use envelope::figures_within;
+use envelope::types_known;
+use figures::limits::CHANNELS;
+use figures::limits::ROWS;
+use figures::limits::rows_within;
+use record_form::form::Stated;
+use record_form::form::read_form;
+use record_print::print_record;
+use refusal::Outcome;
+use text::parts::same_bytes;
+use text::parts::text_within;
+
+// room enough for every record
+const RECORD_MOST: usize = 320 + ROWS * 18;
+
+// What reading a record answers. In a refusal every figure and weight is 0.
+pub struct EnvelopeRead {
+    pub outcome: Outcome,
+    pub envelope: Envelope,
+}
+
+// What writing a record answers. In a refusal the length is 0.
+pub struct RecordWritten {
+    pub outcome: Outcome,
+    pub length: usize,
+}
+
+fn not_read(number: u32, line: u32) -> EnvelopeRead
+    ensures { λ r. ⌜ r ≡ notRead rowLimit (refusedAt number line) ⌝ }
+{
+    let ball = Ball {
+        scaled_centre: [0i64; CHANNELS],
+        scaled_squared_radius: 0,
+        scaled_lower_bound: 0,
+        settled: false,
+    };
+    let figures = Figures {
+        n: 0,
+        types: [0; CHANNELS],
+        ball,
+        moves: 0,
+    };
+    let envelope = Envelope {
+        figures,
+        weights: [0; ROWS],
+    };
+    EnvelopeRead {
+        outcome: refusal::refused_at(number, line),
+        envelope,
+    }
+}
+
+// Whether rows and the n codes are within their limits.
+fn given_within(rows: &[i32], m: usize, n: usize, types: &[u8]) -> bool
+    ensures { λ r. ⌜ r ≡ givenWithin rowLimit channelTypes (now (rows .entry)) m n (now (types .entry)) ⌝ }
+{
+    if !rows_within(rows, m, n) {
+        return false;
+    }
+    if types.len() < n {
+        return false;
+    }
+    types_known(types, n)
+}
+
+// What a record in form states against rows and codes within their limits.
+fn agreed(rows: &[i32], m: usize, n: usize, codes: &[u8], stated: Stated) -> EnvelopeRead
+    requires { ⌜ Agreeing (now rows) m n (now codes) stated ⌝ }
+    ensures { λ r. ⌜ r ≡ statedAnswer total rowLimit (now (rows .entry)) m (now (codes .entry)) stated ⌝ }
+{
+    let types = stated.types;
+    if !same_bytes(codes, &types[..stated.n]) {
+        return not_read(refusal::DISAGREEMENT, 0);
+    }
+    if stated.radius < 0 {
+        return not_read(refusal::DISAGREEMENT, 0);
+    }
+    if stated.floor < 0 {
+        return not_read(refusal::DISAGREEMENT, 0);
+    }
+    let radius = stated.radius as u64;
+    let floor = stated.floor as u64;
+    let centre = stated.centre;
+    let ball = Ball {
+        scaled_centre: centre,
+        scaled_squared_radius: radius,
+        scaled_lower_bound: floor,
+        settled: stated.settled,
+    };
+    let weights = stated.weights;
+    if !agrees(rows, m, n, ball, &weights) {
+        return not_read(refusal::DISAGREEMENT, 0);
+    }
+    let figures = Figures {
+        n: stated.n,
+        types,
+        ball,
+        moves: stated.moves,
+    };
+    EnvelopeRead {
+        outcome: Outcome::Accepted,
+        envelope: Envelope { figures, weights },
+    }
+}
+
+// Reads a record against the first m rows of n channels and the first n codes of types. Refused: 8, 1, 11, 12.
+pub fn read(rows: &[i32], m: usize, n: usize, types: &[u8], text: &[u8]) -> EnvelopeRead
+    ensures { λ r.
+        ⌜ r ≡ recordRead total rowLimit channelTypes (now (rows .entry)) m n (now (types .entry)) (now (text .entry)) ⌝ }
+{
+    if !given_within(rows, m, n, types) {
+        return not_read(refusal::OUTSIDE_LIMITS, 0);
+    }
+    if !text_within(text) {
+        return not_read(refusal::TEXT_LENGTH, 0);
+    }
+    let stated = read_form(text);
+    if stated.line != 0 {
+        return not_read(refusal::RECORD_FORM, stated.line);
+    }
+    agreed(rows, m, n, &types[..n], stated)
+}
+
+fn not_written(number: u32) -> RecordWritten
+    ensures { λ r. ⌜ r ≡ notWritten (refusedAt number 0) ⌝ }
+{
+    RecordWritten {
+        outcome: refusal::refused_at(number, 0),
+        length: 0,
+    }
+}
+
+// Writes the record of an envelope, drawn from the first m rows, to the first places of the buffer, and to no other. Refused, with
+// the buffer as it was: 8, 12, 13.
+pub fn write(envelope: Envelope, rows: &[i32], m: usize, buffer: &mut [u8]) -> RecordWritten
+    ensures answer { λ r.
+        ⌜ r ≡ recordWritten total rowLimit channelTypes (now (rows .entry)) m envelope (length (now (buffer .entry))) ⌝ }
+    ensures buffer_filled { λ r.
+        ⌜ now (buffer .exit) ≡ filled (numberOf (r .outcome)) (r .length) (recordText channelTypes envelope) (now (buffer .entry)) ⌝ }
+{
+    let figures = envelope.figures;
+    let weights = envelope.weights;
+    let types = figures.types;
+    let ball = figures.ball;
+    let centre = ball.scaled_centre;
+    let n = figures.n;
+    if !figures_within(
+        n,
+        &types,
+        &centre,
+        ball.scaled_squared_radius,
+        ball.scaled_lower_bound,
+        figures.moves,
+    ) {
+        return not_written(refusal::OUTSIDE_LIMITS);
+    }
+    if !rows_within(rows, m, n) {
+        return not_written(refusal::OUTSIDE_LIMITS);
+    }
+    if !agrees(rows, m, n, ball, &weights) {
+        return not_written(refusal::DISAGREEMENT);
+    }
+    let mut text = [0u8; RECORD_MOST];
+    let length = print_record(figures, &weights, &mut text);
+    if buffer.len() < length {
+        return not_written(refusal::BUFFER_SHORT);
+    }
+    bytes::copy(&text[..length], buffer);
+    RecordWritten {
+        outcome: Outcome::Accepted,
+        length,
+    }
+}

@@ -1,0 +1,9 @@
+-- The form of a record, in reading order: the lines, the whole text and what may stand in it, the weights in their places; then the
+-- laws, and what the functions answer.
+pub mod Lines
+pub mod Record
+pub mod Weights
+pub mod LinesLaws
+pub mod RecordLaws
+pub mod WeightsLaws
+pub mod Answers

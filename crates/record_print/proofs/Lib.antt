@@ -1,0 +1,2 @@
+-- How the code prints a record line by line.
+pub mod PrintSteps

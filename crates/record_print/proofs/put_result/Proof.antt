@@ -1,0 +1,108 @@
+-- M, L and moves are printed as the numbers that they are, in at most 64 bytes with the word, which leaves room for the comma, the letter and
+-- byte 10. The letter is that of the ending in both branches.
+use Prim.Native.Nat.{_+_, _^_, _≤_}
+use mathlib.Core.Path.{_≡_, sym, ap, _∙_}
+use mathlib.Core.List.{[], _∷_}
+use mathlib.Core.Logic.{⊎-elim}
+use native.Mathlib.Omega.{arith}
+use lib.IntN.{pos}
+use lib.ListN.{length, length-set}
+use borrow.Author.Needs.{needs}
+use Rattle.text.specs.Parts.{comma}
+use Rattle.text.specs.UnsignedLaws.{Below, held-below}
+use Rattle.record_form.specs.Lines.{letterOf, printResult}
+use Rattle.record_print.specs.PrintedLaws.{letter-length, result-below}
+use Rattle.record_print.proofs.PrintSteps.{Line, numbers-put, result-put}
+use Rattle.record_print.proofs.put_result.Statement.{statement}
+use Rattle.record_print.proofs.put_result.Tie as tie
+
+below : (c : tie.Start) → Below (2 ^ 63) (c .args .radius ∷ c .args .floor ∷ c .args .moves ∷ [])
+below c = result-below (c .args .radius) (c .args .floor) (c .args .moves) (omega arith) (omega arith) (omega arith)
+
+cast-t12 : tie.Need-cast-t12
+cast-t12 c = search needs
+
+cast-t13 : tie.Need-cast-t13
+cast-t13 c = search needs
+
+cast-t14 : tie.Need-cast-t14
+cast-t14 c = search needs
+
+slice-aggregate-put-numbers : tie.Need-slice-aggregate-put-numbers
+slice-aggregate-put-numbers c = search needs
+
+slice-aggregate-put-numbers-2 : tie.Need-slice-aggregate-put-numbers-2
+slice-aggregate-put-numbers-2 c = search needs
+
+put-numbers-requires : tie.Need-put-numbers-requires
+put-numbers-requires c κs =
+    let start = c .before .before .before .before in
+    (omega arith, (held-below (start .args .radius ∷ start .args .floor ∷ start .args .moves ∷ []) (below start), omega arith))
+
+letter : (c : tie.Joined1)
+    → let start = c .before .before .before .before .before .before .before .before in
+    c .if1 .letter ≡ letterOf (start .args .settled)
+letter c = ⊎-elim (λ w. w .1 ∙ sym (ap letterOf (w .0 .taken))) (λ w. w .1 ∙ sym (ap letterOf (w .0 .left))) (c .if1 .came)
+
+letter-one : (c : tie.Joined1) → length (c .if1 .letter) ≡ 1
+letter-one c = ap length (letter c) ∙ letter-length (c .before .before .before .before .before .before .before .before .args .settled)
+
+numbers-room : (c : tie.After-put-numbers) → c .put-numbers .result + 3 ≤ length (c .put-numbers .last .0)
+numbers-room c =
+    let start = c .before .before .before .before .before in
+    let end = numbers-put (start .args .radius) (start .args .floor) (start .args .moves) (below start) (c .put-numbers .ensures) .0 in
+    omega arith
+
+line : (c : tie.After-put-bytes)
+    → let start = c .before .before .before .before .before .before .before .before .before .before .before in
+    Line (printResult (record { radius = pos (start .args .radius); floor = pos (start .args .floor); moves = start .args .moves; settled = start .args .settled })) (start .args .out .now) (start .args .at) (c .put-bytes .last .0) (c .put-bytes .result)
+line c =
+    let at-numbers = c .before .before .before .before .before .before in
+    let start = at-numbers .before .before .before .before .before in
+    result-put (start .args .radius) (start .args .floor) (start .args .moves) (below start) (start .args .settled) (c .before .before .before .if1 .letter)
+    (letter (c .before .before .before)) (omega arith) (at-numbers .put-numbers .ensures) (c .put-bytes .ensures)
+
+slice-write-out : tie.Need-slice-write-out
+slice-write-out c = omega (arith, numbers-room (c .before .before))
+
+add-put-bytes : tie.Need-add-put-bytes
+add-put-bytes c = omega (arith, numbers-room (c .before .before .before .before))
+
+slice-aggregate-put-bytes : tie.Need-slice-aggregate-put-bytes
+slice-aggregate-put-bytes c = sym (letter-one (c .before .before))
+
+put-bytes-requires : tie.Need-put-bytes-requires
+put-bytes-requires c κs =
+    let numbers = c .before .before .before .before .before .put-numbers in
+    omega (arith, letter-one (c .before .before), numbers-room (c .before .before .before .before .before), length-set (numbers .last .0) (numbers .result) comma)
+
+slice-write-out-2 : tie.Need-slice-write-out-2
+slice-write-out-2 c = line (c .before .before) .within
+
+add-result : tie.Need-add-result
+add-result c = omega (arith, line (c .before .before) .room)
+
+same-length : tie.Need-same-length
+same-length c = line (c .before .before) .ended .same-length
+
+returns : tie.Need-returns
+returns c = line (c .before .before) .ended
+
+pub put-result-spec : {M : Type 1} → statement M
+put-result-spec =
+    tie.close
+    (tie.spec
+    cast-t12
+    cast-t13
+    cast-t14
+    slice-aggregate-put-numbers
+    slice-aggregate-put-numbers-2
+    put-numbers-requires
+    slice-write-out
+    add-put-bytes
+    slice-aggregate-put-bytes
+    put-bytes-requires
+    slice-write-out-2
+    add-result
+    same-length
+    returns)

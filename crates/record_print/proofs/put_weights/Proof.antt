@@ -1,0 +1,69 @@
+-- The loop's invariant: what is printed so far, followed by the lines from the next row on, is the whole, and each row passed took at most 18
+-- bytes. The measure is how many weights are left.
+use Prim.Native.Nat.{_-_}
+use native.Mathlib.Omega.{arith}
+use lib.ListN.{length}
+use Rattle.record_print.proofs.PrintSteps.{WeightsSoFar, weights-none, weights-zero, weights-more, weights-done}
+use Rattle.record_print.proofs.put_weights.Statement.{statement}
+use Rattle.record_print.proofs.put_weights.Tie as tie
+
+abbrev Inv-loop : tie.InvT-loop
+Inv-loop out₀ at weights from₀ i₀ out from i = WeightsSoFar weights out₀ at out from i
+
+abbrev μ-loop : tie.MeasureT-loop
+μ-loop out₀ at weights from₀ i₀ out from i = length weights - i
+
+loop-holds : tie.Need-loop-holds Inv-loop μ-loop
+loop-holds c = weights-none _ _ _
+
+mul-weight : tie.Need-mul-weight Inv-loop μ-loop
+mul-weight c = omega arith
+
+shared-slice-read-weight : tie.Need-shared-slice-read-weight Inv-loop μ-loop
+shared-slice-read-weight c = omega arith
+
+add-i : tie.Need-add-i Inv-loop μ-loop
+add-i c = omega arith
+
+put-weight-requires : tie.Need-put-weight-requires Inv-loop μ-loop
+put-weight-requires c κs = omega arith
+
+loop-less : tie.Need-loop-less Inv-loop μ-loop
+loop-less c = omega arith
+
+loop-again : tie.Need-loop-again Inv-loop μ-loop
+loop-again c =
+    let at-test = c .before .before .before .before in
+    let at-loop = at-test .before .before .before in
+    let weight = at-test .before .shared-slice-known2 .given (at-loop .loop .i) in
+    weights-more (at-loop .loop .inv) (omega arith) (at-test .if1 .taken) (omega arith) (omega arith) (c .before .before .put-weight .ensures)
+
+loop-less-2 : tie.Need-loop-less-2 Inv-loop μ-loop
+loop-less-2 c = omega arith
+
+loop-again-2 : tie.Need-loop-again-2 Inv-loop μ-loop
+loop-again-2 c = weights-zero (c .before .before .before .loop .inv) (omega arith) (c .if1 .left)
+
+same-length : tie.Need-same-length Inv-loop μ-loop
+same-length c = omega arith
+
+returns : tie.Need-returns Inv-loop μ-loop
+returns c = weights-done (c .before .loop .inv) (omega arith)
+
+pub put-weights-spec : {M : Type 1} → statement M
+put-weights-spec =
+    tie.close
+    (tie.spec
+    Inv-loop
+    μ-loop
+    loop-holds
+    mul-weight
+    shared-slice-read-weight
+    add-i
+    put-weight-requires
+    loop-less
+    loop-again
+    loop-less-2
+    loop-again-2
+    same-length
+    returns)

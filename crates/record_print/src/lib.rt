@@ -1,0 +1,115 @@
+// The text of a record (document 01, "Texts"), printed line by line into a lent slice that has room for the longest. The words and
+// letters are those that the reader compares with.
+ghost use mathlib.Core.List.{[], _∷_, _++_};
+ghost use Prim.Native.Nat.{ℕ, _+_, _*_, _^_, _≤_, _<_};
+ghost use lib.IntN.{pos, natAbs};
+ghost use lib.ListN.{length, getD, take};
+ghost use Rattle.text.specs.Parts.{lineEnd};
+ghost use Rattle.text.specs.Put.{Put};
+ghost use Rattle.channel.specs.Channel.{channelTypes};
+ghost use Rattle.record_form.specs.Lines.{printCentre, printResult, printWeight};
+ghost use Rattle.record_form.specs.Record.{printRecord};
+ghost use Rattle.record_print.specs.Printed.{recordOf, lineRoom, recordRoom, Printing, weightLines};
+use envelope::Figures;
+use heading::put_heading;
+use record_form::words::BUDGET_LETTER;
+use record_form::words::CENTRE_WORD;
+use record_form::words::RECORD_WORD;
+use record_form::words::RESULT_WORD;
+use record_form::words::SETTLED_LETTER;
+use record_form::words::WEIGHT_WORD;
+use text::parts::COMMA;
+use text::parts::LINE_END;
+use text::printing::put_bytes;
+use text::printing::put_numbers;
+
+// `C` and X, with its byte 10.
+fn put_centre(out: &mut [u8], at: usize, centre: &[i64], n: usize) -> usize
+    requires { ⌜ (n ≤ length (now centre)) × (((k : ℕ) → k < n → natAbs (getD (now centre) k (pos 0)) < 2 ^ 63)
+        × (at + 2 + n * 21 ≤ length (now out))) ⌝ }
+    ensures { λ r.
+        ⌜ Put (printCentre (take n (now (centre .entry))) ++ (lineEnd ∷ [])) (now (out .entry)) at (now (out .exit)) r ⌝ }
+{
+    let end = put_numbers(out, at, &CENTRE_WORD, centre, n);
+    out[end] = LINE_END;
+    end + 1
+}
+
+// `R`, M, L, moves and the letter, with its byte 10.
+fn put_result(
+    out: &mut [u8],
+    at: usize,
+    radius: u64,
+    floor: u64,
+    moves: u32,
+    settled: bool,
+) -> usize
+    requires { ⌜ (radius < 2 ^ 63) × ((floor < 2 ^ 63) × (at + 67 ≤ length (now out))) ⌝ }
+    ensures { λ r.
+        ⌜ Put (printResult (record { radius = pos radius; floor = pos floor; moves = moves; settled = settled }) ++ (lineEnd ∷ []))
+        (now (out .entry)) at (now (out .exit)) r ⌝ }
+{
+    let numbers = [radius as i64, floor as i64, moves as i64];
+    let end = put_numbers(out, at, &RESULT_WORD, &numbers, 3);
+    out[end] = COMMA;
+    let letter = if settled {
+        SETTLED_LETTER
+    } else {
+        BUDGET_LETTER
+    };
+    let next = put_bytes(out, end + 1, &letter);
+    out[next] = LINE_END;
+    next + 1
+}
+
+// `W`, row and weight, with its byte 10.
+fn put_weight(out: &mut [u8], at: usize, row: usize, weight: u32) -> usize
+    requires { ⌜ (row ≤ 9999) × (at + 44 ≤ length (now out)) ⌝ }
+    ensures { λ r.
+        ⌜ Put (printWeight (record { row = row; weight = weight }) ++ (lineEnd ∷ [])) (now (out .entry)) at (now (out .exit)) r ⌝ }
+{
+    let numbers = [row as i64, weight as i64];
+    let end = put_numbers(out, at, &WEIGHT_WORD, &numbers, 2);
+    out[end] = LINE_END;
+    end + 1
+}
+
+// The `W` lines of the weights above 0.
+fn put_weights(out: &mut [u8], at: usize, weights: &[u32]) -> usize
+    requires { ⌜ (length (now weights) ≤ 9999) × (at + length (now weights) * lineRoom + 44 ≤ length (now out)) ⌝ }
+    ensures { λ r. ⌜ Put (weightLines (now (weights .entry))) (now (out .entry)) at (now (out .exit)) r ⌝ }
+{
+    let mut from = at;
+    let mut i = 0;
+    while i < weights.len() {
+        let weight = weights[i];
+        i += 1;
+        if weight != 0 {
+            from = put_weight(out, from, i, weight);
+        }
+    }
+    from
+}
+
+// Prints the record of an envelope at the start of a lent slice, and answers its length.
+pub fn print_record(figures: Figures, weights: &[u32], out: &mut [u8]) -> usize
+    requires { ⌜ Printing figures (now weights) × (recordRoom (length (now weights)) ≤ length (now out)) ⌝ }
+    ensures { λ r. ⌜ Put (printRecord channelTypes (recordOf figures (now (weights .entry)))) (now (out .entry)) 0 (now (out .exit)) r ⌝ }
+{
+    let n = figures.n;
+    let types = figures.types;
+    let ball = figures.ball;
+    let centre = ball.scaled_centre;
+    let heading_end = put_heading(out, 0, &RECORD_WORD, &types, n);
+    out[heading_end] = LINE_END;
+    let centre_end = put_centre(out, heading_end + 1, &centre, n);
+    let result_end = put_result(
+        out,
+        centre_end,
+        ball.scaled_squared_radius,
+        ball.scaled_lower_bound,
+        figures.moves,
+        ball.settled,
+    );
+    put_weights(out, result_end, weights)
+}
