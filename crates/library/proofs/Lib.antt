@@ -1,3 +1,4 @@
 pub mod Laws
 pub mod ReferenceLaws
 pub mod ReadingLaws
+pub mod RecordLaws

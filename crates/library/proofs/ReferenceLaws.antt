@@ -4,7 +4,7 @@
 --     answered                       the answer where both fit
 --     unwritten                      a lent slice that a refusal leaves
 --     table-filled, types-filled     what the lent slices hold where both fit
-use Prim.Native.Nat.{ℕ, zero, suc, _+_, _*_, _≤_, _<_}
+use Prim.Native.Nat.{ℕ, zero, suc, _*_, _≤_, _<_}
 use mathlib.Core.Path.{_≡_, refl, sym, ap, ap₂, _∙_, subst}
 use mathlib.Core.Bool.{Bool, cond}
 use mathlib.Core.List.{List, _++_}
@@ -13,7 +13,7 @@ use borrow.Author.Tests.{le-leb, lt-leb}
 use lib.Dec.{leb, leb·zero}
 use lib.IntN.{ℤ}
 use lib.ListN.{length, take, drop}
-use lib.Seq.{take-at, take-length, length-take-le}
+use lib.Seq.{take-at, length-take-le}
 use Rattle.refusal.specs.Number.{table-short, buffer-short}
 use Rattle.refusal.specs.Outcome.{numberOf, lineOf, refused}
 use Rattle.geometry.specs.Limits.{rowLimit}
@@ -25,6 +25,7 @@ use Rattle.reference.specs.Answers.{refusedReference, answerOf, withTable, refe
 use Rattle.reference.specs.AnswerLaws.{table-fits, table-too-short}
 use Rattle.reference.specs.declared.read.Reference.{Reference}
 use Rattle.library.specs.declared.reference_text.ReferenceAnswer.{ReferenceAnswer}
+use Rattle.library.proofs.Laws.{part-copied}
 use Rattle.library.specs.ReferenceText.{referenceInNumbers, referenceAnswer, refusedAnswer}
 
 -- the first places of a list that was itself filled are the source's
@@ -48,8 +49,7 @@ table-of (sound codes rows) first values lent l e =
     ∙ filled-again (length rows * length codes) (valuesIn (sound codes rows)) first lent l
 
 types-of : (c : Content) (lent : List ℕ)
-    → take (answerOf c .n) (answerOf c .types) ++ drop (answerOf c .n) lent
-    ≡ filled (numberOf (answerOf c .outcome)) (answerOf c .n) (answerOf c .types) lent
+    → filled 0 (answerOf c .n) (answerOf c .types) lent ≡ filled (numberOf (answerOf c .outcome)) (answerOf c .n) (answerOf c .types) lent
 unfolding filled
 types-of (faulty zero line) lent = refl
 types-of (faulty (suc number) line) lent = refl
@@ -109,7 +109,7 @@ module _ (text : List ℕ) (r : Reference) (is : r ≡ answerOf (content rowLimi
           → take (length (take (r .n) (r .types))) (take (r .n) (r .types)) ++ drop (length (take (r .n) (r .types))) lent
           ≡ filled number (r .n) (referenceRead rowLimit channelTypes text tablePlaces .types) lent
       types-filled lent l =
-          ap₂ (λ (x : List ℕ) (y : ℕ). x ++ drop y lent) (take-length (take (r .n) (r .types))) (length-take-le (r .n) (r .types) l)
-          ∙ subst (λ (a : Reference). take (a .n) (a .types) ++ drop (a .n) lent ≡ filled (numberOf (a .outcome)) (a .n) (a .types) lent) (sym is)
+          part-copied (r .n) (r .types) lent l
+          ∙ subst (λ (a : Reference). filled 0 (a .n) (a .types) lent ≡ filled (numberOf (a .outcome)) (a .n) (a .types) lent) (sym is)
           (types-of (content rowLimit channelTypes text) lent)
           ∙ ap₂ (λ (x : ℕ) (y : List ℕ). filled x (r .n) y lent) (sym e) (ap (λ (a : Reference). a .types) fits)

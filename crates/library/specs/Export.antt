@@ -1,7 +1,7 @@
 -- What the exported drawing and check answer in numbers.
 --     withRoom room o                    the outcome of a call that fills lent slices: 13, tested last, where they are too short
 --     figure o f                         a figure of an answer with the outcome o
---     drawingInNumbers o d               a drawing in numbers, with the outcome o
+--     envelopeInNumbers o ball moves     the figures of a drawing or a record in numbers, with the outcome o
 --     checkInNumbers o k                 a check in numbers, with the outcome o
 --     drawAnswer d m n c w               the answer to a drawing that is lent c places for X and w for the weights
 --     checkAnswer k n c                  the answer to a check that is lent c places for X
@@ -12,9 +12,10 @@ use Rattle.refusal.specs.Number.{buffer-short}
 use Rattle.refusal.specs.Outcome.{refused, numberOf, lineOf}
 use Rattle.refusal.specs.declared.Outcome.{Outcome}
 use Rattle.refusal.specs.declared.Outcome.the-variants.{Accepted, Refused}
+use Rattle.ball.specs.declared.Ball.{Ball}
 use Rattle.ball.specs.declared.Drawing.{Drawing}
 use Rattle.ball.specs.declared.Checked.{Checked}
-use Rattle.library.specs.declared.DrawingAnswer.{DrawingAnswer}
+use Rattle.library.specs.declared.EnvelopeAnswer.{EnvelopeAnswer}
 use Rattle.library.specs.declared.CheckAnswer.{CheckAnswer}
 
 -- a refusal of the call comes before 13
@@ -27,15 +28,15 @@ abbrev pub figure : Outcome → ℕ → ℕ
 figure Accepted f = f
 figure (Refused r) f = 0
 
-abbrev pub drawingInNumbers : Outcome → Drawing → DrawingAnswer
-drawingInNumbers o d =
+abbrev pub envelopeInNumbers : Outcome → Ball → ℕ → EnvelopeAnswer
+envelopeInNumbers o b moves =
     record {
       number = numberOf o;
       line = lineOf o;
-      settled = figure o (cond (d .ball .settled) 1 0);
-      moves = figure o (d .moves);
-      «scaled_squared_radius» = figure o (d .ball .«scaled_squared_radius»);
-      «scaled_lower_bound» = figure o (d .ball .«scaled_lower_bound»);
+      settled = figure o (cond (b .settled) 1 0);
+      moves = figure o moves;
+      «scaled_squared_radius» = figure o (b .«scaled_squared_radius»);
+      «scaled_lower_bound» = figure o (b .«scaled_lower_bound»);
     }
 
 abbrev pub checkInNumbers : Outcome → Checked → CheckAnswer
@@ -49,9 +50,9 @@ checkInNumbers o k =
     }
 
 -- X needs n places, the weights m
-abbrev pub drawAnswer : Drawing → ℕ → ℕ → ℕ → ℕ → DrawingAnswer
+abbrev pub drawAnswer : Drawing → ℕ → ℕ → ℕ → ℕ → EnvelopeAnswer
 drawAnswer d m n centrePlaces weightsPlaces =
-    drawingInNumbers (withRoom (leb n centrePlaces && leb m weightsPlaces) (d .outcome)) d
+    envelopeInNumbers (withRoom (leb n centrePlaces && leb m weightsPlaces) (d .outcome)) (d .ball) (d .moves)
 
 abbrev pub checkAnswer : Checked → ℕ → ℕ → CheckAnswer
 checkAnswer k n centrePlaces = checkInNumbers (withRoom (leb n centrePlaces) (k .outcome)) k

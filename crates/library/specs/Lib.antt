@@ -1,4 +1,5 @@
--- What the exported calls answer: the ball, the reference text, then the reading.
+-- What the exported calls answer: the ball, the reference text, the reading, then the record.
 pub mod Export
 pub mod ReferenceText
 pub mod ReadingText
+pub mod RecordText

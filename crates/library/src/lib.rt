@@ -1,6 +1,7 @@
 // The calls for C and Rust, on numbers, lent slices and small structs of numbers. X and the weights are
 // written to slices of the caller's, so that these structs stay as they are where the row limit changes.
 pub mod reading_text;
+pub mod record_text;
 pub mod reference_text;
 
 ghost use Prim.Native.Nat.{_≤_};
@@ -8,20 +9,22 @@ ghost use mathlib.Core.Path.{_≡_};
 ghost use mathlib.Core.Bool.{_&&_};
 ghost use lib.Dec.{leb};
 ghost use lib.ListN.{length};
-ghost use Rattle.geometry.specs.Limits.{total, rowLimit};
+ghost use Rattle.refusal.specs.Outcome.{numberOf};
+ghost use Rattle.refusal.specs.declared.Outcome.the-variants.{Accepted};
+ghost use Rattle.geometry.specs.Limits.{total, rowLimit, channelLimit};
 ghost use Rattle.ball.specs.Draw.{drawing};
 ghost use Rattle.ball.specs.Check.{checking};
-ghost use Rattle.library.specs.Export.{withRoom, drawingInNumbers, checkInNumbers, drawAnswer, checkAnswer};
+ghost use Rattle.library.specs.Export.{withRoom, envelopeInNumbers, checkInNumbers, drawAnswer, checkAnswer};
 ghost use Rattle.lists.specs.Filled.{filled};
+use ball::Ball;
 use ball::Checked;
-use ball::Drawing;
 use refusal::Outcome;
 use refusal::Refusal;
 
-// What a drawing answers: number 0 where accepted, else the refusal's number and line, every other figure being 0.
-// `settled` is 1 for Settled, else 0.
+// What a drawing or a record that is read answers: number 0 where accepted, else the refusal's number and line, every other figure
+// being 0. `settled` is 1 for Settled, else 0.
 #[repr(C)]
-pub struct DrawingAnswer {
+pub struct EnvelopeAnswer {
     pub number: u32,
     pub line: u32,
     pub settled: u32,
@@ -70,19 +73,19 @@ fn both_fit(n: usize, centre_places: usize, m: usize, weights_places: usize) -> 
     }
 }
 
-fn drawing_in_numbers(outcome: Outcome, drawing: Drawing) -> DrawingAnswer
-    ensures { λ r. ⌜ r ≡ drawingInNumbers outcome drawing ⌝ }
+fn envelope_in_numbers(outcome: Outcome, ball: Ball, moves: u32) -> EnvelopeAnswer
+    ensures { λ r. ⌜ r ≡ envelopeInNumbers outcome ball moves ⌝ }
 {
     match outcome {
-        Outcome::Accepted => DrawingAnswer {
+        Outcome::Accepted => EnvelopeAnswer {
             number: 0,
             line: 0,
-            settled: drawing.ball.settled as u32,
-            moves: drawing.moves,
-            scaled_squared_radius: drawing.ball.scaled_squared_radius,
-            scaled_lower_bound: drawing.ball.scaled_lower_bound,
+            settled: ball.settled as u32,
+            moves,
+            scaled_squared_radius: ball.scaled_squared_radius,
+            scaled_lower_bound: ball.scaled_lower_bound,
         },
-        Outcome::Refused(refusal) => DrawingAnswer {
+        Outcome::Refused(refusal) => EnvelopeAnswer {
             number: refusal.number,
             line: refusal.line,
             settled: 0,
@@ -136,6 +139,38 @@ fn fill_weights(lent: &mut [u32], source: &[u32], count: usize)
     }
 }
 
+// Hands out a drawing or a record. It fills the first n places of `centre` with X and the first m places of `weights` where
+// accepted and both fit, and writes nothing else. Refused: as answered, then 13.
+fn hand_out(
+    answered: Outcome,
+    ball: Ball,
+    moves: u32,
+    drawn: &[u32],
+    m: usize,
+    n: usize,
+    centre: &mut [i64],
+    weights: &mut [u32],
+) -> EnvelopeAnswer
+    requires { ⌜ (numberOf answered ≡ 0 → (answered ≡ Accepted) × ((n ≤ channelLimit) × (m ≤ length (now drawn)))) ⌝ }
+    ensures answer { λ r.
+        ⌜ r ≡ envelopeInNumbers
+        (withRoom (leb n (length (now (centre .entry))) && leb m (length (now (weights .entry)))) answered) ball moves ⌝ }
+    ensures centre_filled { λ r.
+        ⌜ now (centre .exit) ≡ filled (r .number) n (ball .«scaled_centre») (now (centre .entry)) ⌝ }
+    ensures weights_filled { λ r.
+        ⌜ now (weights .exit) ≡ filled (r .number) m (now (drawn .entry)) (now (weights .entry)) ⌝ }
+{
+    let room = both_fit(n, centre.len(), m, weights.len());
+    let outcome = with_room(answered, room);
+    if refusal::number_of(outcome) != 0 {
+        return envelope_in_numbers(outcome, ball, moves);
+    }
+    let scaled_centre = ball.scaled_centre;
+    fill_centre(centre, &scaled_centre, n);
+    fill_weights(weights, drawn, m);
+    envelope_in_numbers(outcome, ball, moves)
+}
+
 // The drawing of the first m rows of n channels with a budget of moves. It fills the first n places of `centre` with X and
 // the first m places of `weights` where accepted, and writes nothing else. Refused: 8, 9, then 13.
 #[no_mangle]
@@ -146,7 +181,7 @@ pub extern "C" fn cundarivo_draw(
     budget: u32,
     centre: &mut [i64],
     weights: &mut [u32],
-) -> DrawingAnswer
+) -> EnvelopeAnswer
     ensures answer { λ r.
         ⌜ r ≡ drawAnswer (drawing total rowLimit (now (rows .entry)) m n budget) m n
         (length (now (centre .entry))) (length (now (weights .entry))) ⌝ }
@@ -158,17 +193,10 @@ pub extern "C" fn cundarivo_draw(
         (drawing total rowLimit (now (rows .entry)) m n budget .weights) (now (weights .entry)) ⌝ }
 {
     let drawing = ball::draw::draw(rows, m, n, budget);
-    let answered = drawing.outcome;
-    let room = both_fit(n, centre.len(), m, weights.len());
-    let outcome = with_room(answered, room);
-    if refusal::number_of(outcome) != 0 {
-        return drawing_in_numbers(outcome, drawing);
-    }
-    let scaled_centre = drawing.ball.scaled_centre;
-    fill_centre(centre, &scaled_centre, n);
+    let outcome = drawing.outcome;
+    let ball = drawing.ball;
     let drawn = drawing.weights;
-    fill_weights(weights, &drawn, m);
-    drawing_in_numbers(outcome, drawing)
+    hand_out(outcome, ball, drawing.moves, &drawn, m, n, centre, weights)
 }
 
 // The figures of the weights that the caller lends. It fills the first n places of `centre` with X where accepted, and

@@ -1,33 +1,24 @@
 -- The answer is the defined one at every return, by what the calls give. Where its number is 0 the check accepted and X fits
 -- the lent places, so that they are filled; else they are as they were lent.
-use mathlib.Core.Path.{_≡_}
+use mathlib.Core.Path.{_≡_, refl, sym, ap, _∙_}
 use borrow.Author.Needs.{needs}
+use borrow.Author.Tests.{leb-true}
 use native.Mathlib.Omega.{arith}
 use lib.Dec.{leb}
 use lib.ListN.{length}
 use denote.Ref.{now}
+use Rattle.lists.specs.Filled.{filled}
+use Rattle.refusal.specs.Outcome.{numberOf}
+use Rattle.refusal.specs.declared.Outcome.{Outcome}
 use Rattle.geometry.specs.Limits.{total, rowLimit, channelLimit}
 use Rattle.ball.specs.Check.{checking}
+use Rattle.ball.specs.Demand.{checking-zero, checking-accepted}
 use Rattle.ball.specs.declared.Checked.{Checked}
-use Rattle.library.proofs.Laws.{Known, check-export, check-room, answer-is, unwritten, written}
+use Rattle.library.specs.Export.{checkInNumbers, checkAnswer}
+use Rattle.library.specs.declared.CheckAnswer.{CheckAnswer}
+use Rattle.library.proofs.Laws.{room-accepted, accepted-places, unwritten, written}
 use Rattle.library.proofs.cundarivo_check.Statement.{statement}
 use Rattle.library.proofs.cundarivo_check.Tie as tie
-
-abbrev known : (c : tie.After-number-of)
-    → let args = c .before .before .before .before .args in
-    Known check-export (checking total rowLimit (now (args .rows)) (args .m) (args .n) (now (args .weights)))
-    (leb (args .n) (length (now (args .centre))))
-known c =
-    let at-outcome = c .before in
-    let at-check = at-outcome .before in
-    record {
-      called = at-check .check .result;
-      result = at-outcome .with-room .result;
-      number = c .number-of .result;
-      is = at-check .check .ensures .is;
-      answered = at-outcome .with-room .ensures;
-      numbered = c .number-of .ensures;
-    }
 
 check-requires : tie.Need-check-requires
 check-requires c κs = search needs
@@ -41,14 +32,26 @@ number-of-requires c κs = search needs
 check-in-numbers-requires : tie.Need-check-in-numbers-requires
 check-in-numbers-requires c κs = search needs
 
+-- the answer is the defined one, and its number that of the outcome
+abbrev answered : (c : tie.After-number-of) {r : CheckAnswer}
+    → let args = c .before .before .before .before .args in
+    r ≡ checkInNumbers (c .before .with-room .result) (c .before .before .check .result)
+    → (r ≡ checkAnswer (checking total rowLimit (now (args .rows)) (args .m) (args .n) (now (args .weights))) (args .n) (length (now (args .centre))))
+    × (r .number ≡ c .number-of .result)
+answered c e =
+    let at-check = c .before .before in
+    let args = at-check .before .before .args in (
+      e ∙ ap (λ (o : Outcome). checkInNumbers o (at-check .check .result)) (c .before .with-room .ensures)
+          ∙ ap (λ (k : Checked). checkAnswer k (args .n) (length (now (args .centre)))) (at-check .check .ensures .is),
+      ap (λ (r : CheckAnswer). r .number) e ∙ sym (c .number-of .ensures),
+    )
+
 returns : tie.Need-returns
 returns c =
     let at-number = c .before .before in
     let args = at-number .before .before .before .before .args in
-    let h = known at-number in (
-      answer-is h (c .check-in-numbers .result) (c .check-in-numbers .ensures),
-      unwritten h (c .check-in-numbers .result) (c .check-in-numbers .ensures) (args .n) _ (now (args .centre)) (c .before .if1 .taken),
-    )
+    let (answer, number) = answered at-number (c .check-in-numbers .ensures) in
+    (answer, unwritten number (args .n) _ (now (args .centre)) (c .before .if1 .taken))
 
 slice-aggregate-fill-centre : tie.Need-slice-aggregate-fill-centre
 slice-aggregate-fill-centre c = search needs
@@ -56,12 +59,17 @@ slice-aggregate-fill-centre c = search needs
 fill-centre-requires : tie.Need-fill-centre-requires
 fill-centre-requires c κs =
     let at-number = c .before .before .before .before in
-    let args = at-number .before .before .before .before .args in
+    let at-check = at-number .before .before in
+    let args = at-check .before .before .args in
+    let fits = leb (args .n) (length (now (args .centre))) in
     let places =
-    check-room (now (args .rows)) (args .m) (args .n) (now (args .weights)) (length (now (args .centre))) (known at-number)
-    (c .before .before .before .if1 .left) in
-    let eight : channelLimit ≡ length (at-number .before .before .check .result .ball .«scaled_centre») = slice-aggregate-fill-centre c in
-    (places .0, omega arith)
+    room-accepted fits (at-check .check .result .outcome)
+    (accepted-places (now (args .rows)) (args .m) (args .n) refl (ap (λ (k : Checked). k .outcome) (at-check .check .ensures .is))
+    (checking-zero total rowLimit (now (args .rows)) (args .m) (args .n) (now (args .weights)))
+    (λ e. checking-accepted total rowLimit (now (args .rows)) (args .m) (args .n) (now (args .weights)) e .0))
+    (ap numberOf (sym (at-number .before .with-room .ensures)) ∙ sym (at-number .number-of .ensures) ∙ c .before .before .before .if1 .left) in
+    let eight : channelLimit ≡ length (at-check .check .result .ball .«scaled_centre») = slice-aggregate-fill-centre c in
+    (leb-true _ _ (places .0), omega (arith, places .1 .0))
 
 check-in-numbers-requires-2 : tie.Need-check-in-numbers-requires-2
 check-in-numbers-requires-2 c κs = search needs
@@ -72,11 +80,14 @@ same-length c = search needs
 returns-2 : tie.Need-returns-2
 returns-2 c =
     let at-number = c .before .before .before .before .before .before .before in
-    let args = at-number .before .before .before .before .args in
-    let h = known at-number in (
-      answer-is h (c .check-in-numbers2 .result) (c .check-in-numbers2 .ensures),
-      written h (c .check-in-numbers2 .result) (c .check-in-numbers2 .ensures) (args .n) (λ (k : Checked). k .ball .«scaled_centre») (now (args .centre))
-          _ (c .before .before .before .before .before .before .if1 .left) (c .before .before .fill-centre .ensures),
+    let at-check = at-number .before .before in
+    let args = at-check .before .before .args in
+    let (answer, number) = answered at-number (c .check-in-numbers2 .ensures) in
+    let accepted = c .before .before .before .before .before .before .if1 .left in (
+      answer,
+      written number (args .n) _ (now (args .centre)) accepted (c .before .before .fill-centre .ensures)
+          ∙ ap (λ (k : Checked). filled (c .check-in-numbers2 .result .number) (args .n) (k .ball .«scaled_centre») (now (args .centre)))
+          (at-check .check .ensures .is),
     )
 
 pub cundarivo-check-spec : {M : Type 1} → statement M
