@@ -2,11 +2,16 @@
 //! rounds of both alternate. The times are those of the median round, and the ratio of proved to
 //! plain is given of the medians and of the minima.
 
+mod bytes;
 mod measure;
 mod plain;
 mod random;
 mod reader;
 mod readings;
+mod record;
+mod record_fields;
+mod record_pass;
+mod records;
 mod texts;
 mod verdict;
 
@@ -36,6 +41,7 @@ fn main() {
     measure_ball(&mut random);
     texts::measure_texts(&mut random);
     readings::measure_readings(&mut random);
+    records::measure_records(&mut random);
 }
 
 fn measure_ball(random: &mut Random) {

@@ -17,10 +17,10 @@ pub struct Figures {
 }
 
 /// Rows within the limits.
-struct Table<'a> {
+pub struct Table<'a> {
     places: &'a [i32],
-    m: usize,
-    n: usize,
+    pub m: usize,
+    pub n: usize,
 }
 
 /// The weights and the X that belongs to them.
@@ -38,7 +38,7 @@ struct Pair {
 }
 
 impl Table<'_> {
-    fn new(places: &[i32], m: usize, n: usize) -> Result<Table<'_>, u32> {
+    pub fn new(places: &[i32], m: usize, n: usize) -> Result<Table<'_>, u32> {
         if n == 0 || n > CHANNELS || m == 0 || m > ROWS || places.len() < m * n {
             return Err(8);
         }
@@ -133,6 +133,25 @@ impl Table<'_> {
         (TOTAL * weighted - centre) as u64
     }
 
+    /// The figures and X of m weights; a refusal is its number.
+    pub fn check(&self, weights: &[u32]) -> Result<(Figures, [i64; CHANNELS]), u32> {
+        if weights.iter().map(|&weight| u64::from(weight)).sum::<u64>() != TOTAL as u64 {
+            return Err(12);
+        }
+        let mut state = State {
+            weights: [0; ROWS],
+            centre: [0; CHANNELS],
+        };
+        state.weights[..self.m].copy_from_slice(weights);
+        for (row, &weight) in weights.iter().enumerate() {
+            for (place, &coordinate) in state.centre.iter_mut().zip(self.row(row)) {
+                *place += i64::from(weight) * i64::from(coordinate);
+            }
+        }
+        let pair = self.pair(&state);
+        Ok((self.figures(&state, &pair, 0), state.centre))
+    }
+
     fn figures(&self, state: &State, pair: &Pair, moves: u32) -> Figures {
         Figures {
             settled: pair.g <= pair.squared_distance,
@@ -189,23 +208,8 @@ pub fn check(
     if weights.len() != m {
         return Err(8);
     }
-    if weights.iter().map(|&weight| u64::from(weight)).sum::<u64>() != TOTAL as u64 {
-        return Err(12);
-    }
-    if centre.len() < n {
-        return Err(13);
-    }
-    let mut state = State {
-        weights: [0; ROWS],
-        centre: [0; CHANNELS],
-    };
-    state.weights[..m].copy_from_slice(weights);
-    for (row, &weight) in weights.iter().enumerate() {
-        for (place, &coordinate) in state.centre.iter_mut().zip(table.row(row)) {
-            *place += i64::from(weight) * i64::from(coordinate);
-        }
-    }
-    let pair = table.pair(&state);
-    centre[..n].copy_from_slice(&state.centre[..n]);
-    Ok(table.figures(&state, &pair, 0))
+    let (figures, own) = table.check(weights)?;
+    let filled = centre.get_mut(..n).ok_or(13_u32)?;
+    filled.copy_from_slice(&own[..n]);
+    Ok(figures)
 }

@@ -85,7 +85,8 @@ fn in_one_pass(work: &Work<'_>) -> Outcome {
     verdict::judge_in_one_pass(&given(work.figures), work.text)
 }
 
-fn given(figures: &Figures) -> verdict::Figures<'_> {
+/// The figures as plain Rust takes them.
+pub fn given(figures: &Figures) -> verdict::Figures<'_> {
     verdict::Figures {
         n: figures.n,
         types: &figures.types,

@@ -1,5 +1,6 @@
 //! Safe calls of the proved library: reference texts read into rows, a tight ball round them drawn
-//! in whole numbers, the check of weights that anybody has chosen, and the verdict on a reading.
+//! in whole numbers, the check of weights that anybody has chosen, the verdict on a reading, and the
+//! records of envelopes written and read.
 //!
 //! There are m rows (1 to 256) of n channels (1 to 8); each coordinate is a whole number from
 //! -4,000 to 4,000. Rows are lent as one list, row by row: the first m·n places count, and the
@@ -71,6 +72,40 @@
 //! assert_eq!(verdict, Verdict::Alarm { excess: 47_244_640_256 }); // 36 - 25, times D²
 //! # Ok::<(), cundarivo::Refusal>(())
 //! ```
+//!
+//! A *record* is the text of an envelope: `ENV`, n and the tags; `C` and X; `R`, M, L, the moves and
+//! `S` for Settled or `B` for Budget; then `W`, row and weight, for each weight above 0, rows
+//! counted from 1 and rising.
+//!
+//! ```text
+//! ENV,2,TOC,CND
+//! C,196608,262144
+//! R,107374182400,107374182400,2,S
+//! W,2,32768
+//! W,3,32768
+//! ```
+//!
+//! [`write_record`] writes the record of an envelope that agrees with its rows, and [`read_record`]
+//! reads one back, whoever wrote it: every figure is compared with what [`check`] gives of the
+//! weights, and only the moves are taken as written. [`write_record_into`] and [`read_record_into`]
+//! are the library's own calls.
+//!
+//! ```
+//! let (rows, types) = ([0, 0, 6, 0, 0, 8], [1, 4]); // TOC and CND
+//! let envelope = cundarivo::draw(&rows, 3, 2, 10_000)?.envelope(&types);
+//! let text = cundarivo::write_record(&envelope, &rows, 3)?;
+//! assert!(text.starts_with(b"ENV,2,TOC,CND\nC,196608,262144\n"));
+//! let read = cundarivo::read_record(&rows, 3, 2, &types, &text)?;
+//! assert_eq!(read, envelope);
+//! # Ok::<(), cundarivo::Refusal>(())
+//! ```
+
+mod record;
+
+pub use record::{
+    Envelope, RECORD_BYTES, WrittenAnswer, read_record, read_record_into, write_record,
+    write_record_into,
+};
 
 use std::error::Error;
 use std::fmt;
@@ -96,10 +131,11 @@ pub const TOTAL: u32 = 65_536;
 /// | 5 | a label that an earlier row has |
 /// | 6 | no row, or a 257th |
 /// | 7 | a lent table of fewer than m·n places |
-/// | 8 | n, m, a coordinate, a type code or a figure of an envelope outside its limits, rows of fewer than m·n places, a weight list not of m places, types or X of fewer than n places, an ending that is neither 0 nor 1 |
+/// | 8 | n, m, a coordinate, a type code or a figure of an envelope outside its limits, rows of fewer than m·n places, a weight list not of m places or, in an envelope, of fewer than m or more than [`ROWS`], types or X of fewer than n places, an ending that is neither 0 nor 1 |
 /// | 9 | a budget above 1,000,000 |
 /// | 10 | a tag of a reading that is not the envelope's |
-/// | 12 | weights whose sum is not [`TOTAL`] |
+/// | 11 | a record that is not in form |
+/// | 12 | weights whose sum is not [`TOTAL`], or a record or an envelope that disagrees with the rows |
 /// | 13 | a lent slice too short for what is to be written |
 #[derive(Clone, Copy, Debug, PartialEq, Eq, Hash)]
 pub struct Refusal {
@@ -120,7 +156,8 @@ impl fmt::Display for Refusal {
             8 => "rows, channels, a coordinate, the weight list or a figure outside the limits",
             9 => "budget above 1,000,000",
             10 => "tag that is not the envelope's",
-            12 => "weights that do not sum to 65,536",
+            11 => "record not in form",
+            12 => "weights, record or envelope that disagree with the rows",
             13 => "a lent slice too short",
             _ => "input turned back",
         };
@@ -192,7 +229,28 @@ pub struct Figures {
     pub moves: u32,
 }
 
+impl Figures {
+    /// The figures as the library's own calls take them, beside the types and X.
+    pub fn given(&self) -> FiguresGiven {
+        FiguresGiven {
+            n: self.n,
+            scaled_squared_radius: self.scaled_squared_radius,
+            scaled_lower_bound: self.scaled_lower_bound,
+            settled: u32::from(self.ending == Ending::Settled),
+            moves: self.moves,
+        }
+    }
+}
+
 impl Drawing {
+    /// The drawn envelope, whose channels are of these types.
+    pub fn envelope(&self, types: &[u8]) -> Envelope {
+        Envelope {
+            figures: self.figures(types),
+            weights: self.weights.clone(),
+        }
+    }
+
     /// The figures of the drawn envelope, whose channels are of these types.
     pub fn figures(&self, types: &[u8]) -> Figures {
         Figures {
@@ -235,10 +293,11 @@ pub enum Verdict {
     },
 }
 
-/// What the library answers to a drawing, in numbers; see [`draw_into`].
+/// What the library answers of an envelope, drawn or read from a record, in numbers; see
+/// [`draw_into`] and [`read_record_into`].
 #[repr(C)]
 #[derive(Clone, Copy, Debug, PartialEq, Eq, Hash)]
-pub struct DrawingAnswer {
+pub struct EnvelopeAnswer {
     /// 0 where accepted, else the refusal's number; then every figure below is 0.
     pub number: u32,
     /// The line at fault, 0 where none is.
@@ -300,7 +359,7 @@ pub struct LabelAnswer {
 }
 
 /// The figures of an envelope as they are given to the library, but for its types and X; see
-/// [`judge_given`].
+/// [`judge_given`] and [`write_record_into`].
 #[repr(C)]
 #[derive(Clone, Copy, Debug, PartialEq, Eq, Hash)]
 pub struct FiguresGiven {
@@ -339,7 +398,7 @@ unsafe extern "C" {
         centre_len: usize,
         weights: *mut u32,
         weights_len: usize,
-    ) -> DrawingAnswer;
+    ) -> EnvelopeAnswer;
 
     fn cundarivo_check(
         rows: *const i32,
@@ -422,7 +481,7 @@ pub fn draw_into(
     budget: u32,
     centre: &mut [i64],
     weights: &mut [u32],
-) -> DrawingAnswer {
+) -> EnvelopeAnswer {
     // SAFETY: each pointer and length are those of a live slice, the written ones lent to nobody
     // else, and the library is proved to keep within the lengths for every m and n.
     unsafe {
@@ -542,14 +601,12 @@ pub fn label(text: &[u8], row: usize) -> &[u8] {
 ///
 /// Refusals 8, 1, 3, 10, then 4: see [`Refusal`].
 pub fn judge(figures: &Figures, text: &[u8]) -> Result<Verdict, Refusal> {
-    let given = FiguresGiven {
-        n: figures.n,
-        scaled_squared_radius: figures.scaled_squared_radius,
-        scaled_lower_bound: figures.scaled_lower_bound,
-        settled: u32::from(figures.ending == Ending::Settled),
-        moves: figures.moves,
-    };
-    let answer = judge_given(given, &figures.types, &figures.scaled_centre, text);
+    let answer = judge_given(
+        figures.given(),
+        &figures.types,
+        &figures.scaled_centre,
+        text,
+    );
     accepted(answer.number, answer.line)?;
     Ok(match answer.verdict {
         1 => Verdict::Quiet,

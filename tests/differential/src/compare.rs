@@ -93,7 +93,7 @@ fn product(case: &Case, lent: &mut Lent) -> Answer {
     answer
 }
 
-fn drawing(answer: cundarivo::DrawingAnswer) -> Answer {
+fn drawing(answer: cundarivo::EnvelopeAnswer) -> Answer {
     Answer {
         number: answer.number,
         line: answer.line,
@@ -106,7 +106,7 @@ fn drawing(answer: cundarivo::DrawingAnswer) -> Answer {
 }
 
 fn checked(answer: cundarivo::CheckAnswer) -> Answer {
-    drawing(cundarivo::DrawingAnswer {
+    drawing(cundarivo::EnvelopeAnswer {
         number: answer.number,
         line: answer.line,
         settled: answer.settled,

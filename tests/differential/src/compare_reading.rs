@@ -1,5 +1,6 @@
 //! One reading through the product and through the outside implementation.
 
+use crate::lent::{self, Followed};
 use outside::readings::{self, EnvelopeFigures, Verdict};
 use outside::rules::Refusal;
 
@@ -9,33 +10,13 @@ const BEHIND_TEXT: &[u8] = b"\n,TOC,1\n";
 const BEHIND_TYPES: [u8; 9] = [1; 9];
 const BEHIND_CENTRE: [i64; 9] = [0; 9];
 
-/// A lent slice, and what lies behind it.
-#[derive(Clone, Debug, PartialEq, Eq)]
-struct Lent<Number> {
-    places: Vec<Number>,
-    length: usize,
-}
-
-impl<Number: Copy> Lent<Number> {
-    fn new(lent: &[Number], behind: &[Number]) -> Lent<Number> {
-        Lent {
-            places: [lent, behind].concat(),
-            length: lent.len(),
-        }
-    }
-
-    fn slice(&self) -> &[Number] {
-        &self.places[..self.length]
-    }
-}
-
 /// A reading and the figures that it is judged against, in memory, with what both must say of it.
 #[derive(Clone, Debug)]
 pub struct Reading {
     figures: EnvelopeFigures,
-    types: Lent<u8>,
-    centre: Lent<i64>,
-    text: Lent<u8>,
+    types: Followed<u8>,
+    centre: Followed<i64>,
+    text: Followed<u8>,
     /// The answer by the rules.
     pub outcome: Result<Verdict, Refusal>,
 }
@@ -43,9 +24,9 @@ pub struct Reading {
 impl Reading {
     pub fn new(figures: &EnvelopeFigures, text: &[u8]) -> Reading {
         Reading {
-            types: Lent::new(&figures.types, &BEHIND_TYPES),
-            centre: Lent::new(&figures.scaled_centre, &BEHIND_CENTRE),
-            text: Lent::new(text, BEHIND_TEXT),
+            types: Followed::new(&figures.types, &BEHIND_TYPES),
+            centre: Followed::new(&figures.scaled_centre, &BEHIND_CENTRE),
+            text: Followed::new(text, BEHIND_TEXT),
             outcome: readings::judge(figures, text),
             figures: figures.clone(),
         }
@@ -54,13 +35,7 @@ impl Reading {
     /// Judges the reading through both, and stops the tests where they differ in number, line,
     /// verdict or excess, or where a lent place has changed.
     pub fn compare(&self) {
-        let given = cundarivo::FiguresGiven {
-            n: self.figures.n,
-            scaled_squared_radius: self.figures.scaled_squared_radius,
-            scaled_lower_bound: self.figures.scaled_lower_bound,
-            settled: self.figures.settled,
-            moves: self.figures.moves,
-        };
+        let given = given(&self.figures);
         let lent = (self.types.clone(), self.centre.clone(), self.text.clone());
         let (types, centre, text) = &lent;
         let answer = cundarivo::judge_given(given, types.slice(), centre.slice(), text.slice());
@@ -71,19 +46,8 @@ impl Reading {
 
     /// The same through the wrapper, which takes no other endings than the two.
     pub fn compare_wrapper(&self) {
-        let ending = match self.figures.settled {
-            0 => cundarivo::Ending::Budget,
-            1 => cundarivo::Ending::Settled,
-            _ => return,
-        };
-        let figures = cundarivo::Figures {
-            n: self.figures.n,
-            types: self.figures.types.clone(),
-            scaled_centre: self.figures.scaled_centre.clone(),
-            scaled_squared_radius: self.figures.scaled_squared_radius,
-            scaled_lower_bound: self.figures.scaled_lower_bound,
-            ending,
-            moves: self.figures.moves,
+        let Some(figures) = owned(&self.figures) else {
+            return;
         };
         let given = cundarivo::judge(&figures, self.text.slice());
         let owed = match self.outcome {
@@ -99,11 +63,37 @@ impl Reading {
 
     /// The figures and the beginning of the text, for messages.
     pub fn shown(&self) -> String {
-        let text = self.text.slice();
-        let beginning = text[..text.len().min(200)].escape_ascii();
-        let (length, figures) = (text.len(), &self.figures);
-        format!("{length} bytes: {beginning}, {figures:?}")
+        format!("{}, {:?}", lent::shown(self.text.slice()), self.figures)
     }
+}
+
+/// The figures as they are given to the library's own calls.
+pub fn given(figures: &EnvelopeFigures) -> cundarivo::FiguresGiven {
+    cundarivo::FiguresGiven {
+        n: figures.n,
+        scaled_squared_radius: figures.scaled_squared_radius,
+        scaled_lower_bound: figures.scaled_lower_bound,
+        settled: figures.settled,
+        moves: figures.moves,
+    }
+}
+
+/// The figures as the wrapper takes them; it takes no other endings than the two.
+pub fn owned(figures: &EnvelopeFigures) -> Option<cundarivo::Figures> {
+    let ending = match figures.settled {
+        0 => cundarivo::Ending::Budget,
+        1 => cundarivo::Ending::Settled,
+        _ => return None,
+    };
+    Some(cundarivo::Figures {
+        n: figures.n,
+        types: figures.types.clone(),
+        scaled_centre: figures.scaled_centre.clone(),
+        scaled_squared_radius: figures.scaled_squared_radius,
+        scaled_lower_bound: figures.scaled_lower_bound,
+        ending,
+        moves: figures.moves,
+    })
 }
 
 fn narrow(excess: i128) -> u64 {

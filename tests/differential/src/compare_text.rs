@@ -1,67 +1,12 @@
 //! One reference text through the product and through the outside implementation.
 
+use crate::lent::{self, Guarded, Room};
 use outside::random::Random;
 use outside::reference::{self, Part, Reference, TABLE_LIMIT};
 use outside::rules::{CHANNEL_LIMIT, Refusal};
 
-/// Places before and after a lent slice, which nobody may touch.
-const GUARD: usize = 3;
-
 /// What follows a text in memory: a product that read past the end would take it for the text's.
 const BEHIND: &[u8] = b"1\nB,1\n\n,1,1,1,1,1,1,1\nC,1\n";
-
-/// How many places are lent, against those that an accepted text fills.
-#[derive(Clone, Copy, Debug, PartialEq, Eq)]
-pub enum Room {
-    None,
-    OneFewer,
-    Exact,
-    OneMore,
-    /// As many as the largest text fills.
-    Full,
-}
-
-pub const ROOMS: [Room; 5] = [
-    Room::None,
-    Room::OneFewer,
-    Room::Exact,
-    Room::OneMore,
-    Room::Full,
-];
-
-/// The rooms that are enough for every text.
-pub const ENOUGH: [Room; 3] = [Room::Exact, Room::OneMore, Room::Full];
-
-impl Room {
-    fn places(self, filled: usize, full: usize) -> usize {
-        match self {
-            Room::None => 0,
-            Room::OneFewer => filled.saturating_sub(1),
-            Room::Exact => filled,
-            Room::OneMore => filled + 1,
-            Room::Full => full,
-        }
-    }
-}
-
-/// A lent slice of random numbers between guards of the same, so that a place written or left is
-/// told apart.
-#[derive(Clone, Debug, PartialEq, Eq)]
-struct Guarded<Number> {
-    places: Vec<Number>,
-}
-
-impl<Number> Guarded<Number> {
-    fn new(count: usize, mut number: impl FnMut() -> Number) -> Guarded<Number> {
-        let places = (0..count + 2 * GUARD).map(|_| number()).collect();
-        Guarded { places }
-    }
-
-    fn lent(&mut self) -> &mut [Number] {
-        let end = self.places.len() - GUARD;
-        &mut self.places[GUARD..end]
-    }
-}
 
 /// The slices lent to be written.
 #[derive(Clone, Debug, PartialEq, Eq)]
@@ -179,10 +124,7 @@ impl Text {
 
     /// The beginning of the text, for messages.
     pub fn shown(&self) -> String {
-        let beginning = self.bytes().iter().take(1_000).copied();
-        let escaped: Vec<u8> = beginning.flat_map(std::ascii::escape_default).collect();
-        let length = self.length;
-        format!("{length} bytes: {}", String::from_utf8_lossy(&escaped))
+        lent::shown(self.bytes())
     }
 }
 

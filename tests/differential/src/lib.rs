@@ -3,13 +3,17 @@
 //! - `compare`: one case through both, every figure and every place of lent memory compared.
 //! - `compare_text`: one reference text through both, in the same way.
 //! - `compare_reading`: one reading through both, in the same way.
+//! - `compare_record`: one record read and one envelope written through both, in the same way.
+//! - `lent`: slices lent to the product, with what lies round them.
 //! - `named`: tests by the names of known cases.
 //! - `tally`: what was compared and which refusals were reached.
 //! - `reached`: how often each outcome and each kind of input was met.
 
 pub mod compare;
 pub mod compare_reading;
+pub mod compare_record;
 pub mod compare_text;
+pub mod lent;
 pub mod named;
 pub mod reached;
 pub mod tally;

@@ -1,7 +1,8 @@
 //! Bad texts, texts at the limits and the examples and trial figures of document 01, each by a test
 //! of its own.
 
-use differential::compare_text::{ENOUGH, ROOMS, Room, Text};
+use differential::compare_text::Text;
+use differential::lent::{ENOUGH, ROOMS, Room};
 use differential::named;
 use outside::known_texts::{self, KnownText};
 use outside::random::Random;

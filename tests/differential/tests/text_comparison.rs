@@ -2,7 +2,8 @@
 //! damaged, and on full sweeps. SEED and TEXTS in the environment give another seed and another
 //! number of seeded texts.
 
-use differential::compare_text::{ENOUGH, ROOMS, Room, Text};
+use differential::compare_text::Text;
+use differential::lent::{ENOUGH, ROOMS, Room};
 use differential::reached::Reached;
 use outside::damage;
 use outside::faults::{self, Faulty};

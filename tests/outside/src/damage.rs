@@ -1,6 +1,6 @@
 //! Damage done to a text as bytes, so that one kind can follow another.
 
-use crate::faults::{self, ROW_FAULTS, RowFault};
+use crate::faults::{self, NO_WORDS, ROW_FAULTS, RowFault};
 use crate::random::Random;
 use crate::reference::{ChannelType, TEXT_LIMIT};
 use crate::rules::ROW_LIMIT;
@@ -155,7 +155,7 @@ fn put_in_heading(random: &mut Random, text: &mut Vec<u8>) {
     let mut lines = lines(text);
     let mut heading = fields(&lines[0]);
     if heading.len() > 2 {
-        faults::put_in_heading(random, &mut heading);
+        faults::put_in_heading(random, &mut heading, &NO_WORDS);
         lines[0] = texts::line(&heading);
         *text = lines.concat();
     }

@@ -4,7 +4,7 @@
 use crate::cases;
 use crate::random::Random;
 use crate::readings::{self, CENTRE_LIMIT, DISTANCE_LIMIT, EnvelopeFigures};
-use crate::reference::ChannelType;
+use crate::reference::{self, ChannelType};
 use crate::rules::{self, BUDGET_LIMIT, CHANNEL_LIMIT, Figures, TOTAL};
 use crate::sets::Set;
 use crate::texts::Draft;
@@ -66,28 +66,15 @@ fn draw(random: &mut Random, set: &Set) -> rules::Drawing {
 }
 
 /// Figures of the rules as they are lent.
-fn lent(
+pub fn lent(
     random: &mut Random,
     types: &[ChannelType],
     figures: &Figures,
     moves: u32,
 ) -> EnvelopeFigures {
-    let centre = figures.scaled_centre.iter().map(|&place| place as i64);
-    let mut given = EnvelopeFigures {
-        n: types.len(),
-        types: codes(types),
-        scaled_centre: centre.collect(),
-        scaled_squared_radius: figures.scaled_squared_radius as u64,
-        scaled_lower_bound: figures.scaled_lower_bound as u64,
-        settled: figures.settled.into(),
-        moves,
-    };
+    let mut given = EnvelopeFigures::new(types, figures, moves);
     add_places(random, &mut given);
     given
-}
-
-pub fn codes(types: &[ChannelType]) -> Vec<u8> {
-    types.iter().map(|channel| channel.code).collect()
 }
 
 /// Places past n, which do not count: none, or up to 12 of any numbers.
@@ -104,7 +91,7 @@ fn add_places(random: &mut Random, figures: &mut EnvelopeFigures) {
 pub fn any(random: &mut Random, types: &[ChannelType]) -> EnvelopeFigures {
     let mut figures = EnvelopeFigures {
         n: types.len(),
-        types: codes(types),
+        types: reference::codes(types),
         scaled_centre: types.iter().map(|_| any_centre(random)).collect(),
         scaled_squared_radius: any_distance(random),
         scaled_lower_bound: any_distance(random),
@@ -140,7 +127,7 @@ fn any_distance(random: &mut Random) -> u64 {
     }
 }
 
-fn any_moves(random: &mut Random) -> u32 {
+pub fn any_moves(random: &mut Random) -> u32 {
     match random.below(4) {
         0 => 0,
         1 => BUDGET_LIMIT,

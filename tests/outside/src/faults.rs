@@ -139,7 +139,8 @@ pub fn out_of_range(random: &mut Random, channel: &ChannelType) -> String {
     }
 }
 
-const NO_WORDS: [&str; 8] = [
+/// Words that no heading of a reference text begins with.
+pub const NO_WORDS: [&str; 8] = [
     "",
     "ref",
     "RE",
@@ -171,12 +172,12 @@ pub const NO_TAGS: [&str; 12] = [
     "", "toc", "Toc", "TO", "TOCX", "T0C", "TOC ", " TOC", "P", "PHX", "C\0D", "1",
 ];
 
-/// Puts a fault into the fields of a heading within the rules.
-pub fn put_in_heading(random: &mut Random, heading: &mut Fields) {
+/// Puts a fault into the fields of a heading within the rules; its word becomes one of these.
+pub fn put_in_heading(random: &mut Random, heading: &mut Fields, words: &[&str]) {
     let place = 2 + random.index(heading.len() - 2);
     let tags = heading.len() - 2;
     match random.below(6) {
-        0 => heading[0] = random.pick(&NO_WORDS).into(),
+        0 => heading[0] = random.pick(words).into(),
         1 => heading[1] = random.pick(&NO_COUNTS).into(),
         2 => heading[1] = random.pick(&[tags - 1, tags + 1]).to_string().into_bytes(),
         3 => heading[place] = random.pick(&NO_TAGS).into(),
@@ -203,7 +204,7 @@ pub fn two_faults(random: &mut Random) -> Vec<Faulty> {
     };
     let mut draft = Draft::new(random, m, n);
     if random.once_in(12) {
-        put_in_heading(random, &mut draft.heading);
+        put_in_heading(random, &mut draft.heading, &NO_WORDS);
     }
     let faults = [row_fault(random), row_fault(random)];
     let first = first_place(random, m);

@@ -31,7 +31,7 @@ pub fn record() -> EnvelopeFigures {
 }
 
 /// The same rows drawn with budget 1: the centre is (0, 4), the squared radius 52.
-fn record_with_budget_1() -> EnvelopeFigures {
+pub fn record_with_budget_1() -> EnvelopeFigures {
     EnvelopeFigures {
         scaled_centre: vec![0, 262_144],
         scaled_squared_radius: 223_338_299_392,

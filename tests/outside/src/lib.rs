@@ -4,6 +4,7 @@
 //! - `rules`: the figures, the move, the drawing, the check and their refusals.
 //! - `reference`: reading a reference text and finding its labels, and the refusals of both.
 //! - `readings`: the figures of an envelope, the verdict on a reading, and the refusals.
+//! - `records`: reading and writing the record of an envelope, and the refusals of both.
 //! - `random`: a seeded source of numbers.
 //! - `sets`: reference sets of many shapes and sizes, whole and damaged.
 //! - `cases`: arguments of the two calls, with budgets and weights of many kinds.
@@ -21,6 +22,14 @@
 //! - `reading_faults`: calls with one fault, and with two in both orders.
 //! - `reading_damage`: readings damaged in any way.
 //! - `known_readings`: the readings that document 01 and the list of bad input name.
+//! - `record_texts`: rows, types, envelopes of them, and their records as lines of fields.
+//! - `record_faults`: records out of form.
+//! - `record_disagreements`: records in form that disagree with their rows or types.
+//! - `record_calls`: calls that read a record with one fault, and with two in both orders.
+//! - `record_damage`: records damaged in any way.
+//! - `writing_faults`: envelopes with one fault, and with two.
+//! - `known_records`: the records that document 01 and the list of bad input name.
+//! - `known_writings`: the envelopes that they name.
 
 pub mod cases;
 pub mod damage;
@@ -29,12 +38,20 @@ pub mod envelopes;
 pub mod faults;
 pub mod known;
 pub mod known_readings;
+pub mod known_records;
 pub mod known_texts;
+pub mod known_writings;
 pub mod random;
 pub mod reading_damage;
 pub mod reading_faults;
 pub mod reading_texts;
 pub mod readings;
+pub mod record_calls;
+pub mod record_damage;
+pub mod record_disagreements;
+pub mod record_faults;
+pub mod record_texts;
+pub mod records;
 pub mod reference;
 pub mod rules;
 pub mod sets;
@@ -42,3 +59,4 @@ pub mod stored;
 pub mod stored_texts;
 pub mod sweeps;
 pub mod texts;
+pub mod writing_faults;

@@ -189,6 +189,11 @@ pub const DAMAGES: [Damage; 13] = [
     Damage::RowsLong,
 ];
 
+/// The damages by which a set is refused.
+pub const REFUSED: &[Damage] = DAMAGES.split_at(11).0;
+/// Those of them that change the places or m alone, but for the largest counts.
+pub const REFUSED_ROWS: &[Damage] = REFUSED.split_at(9).0.split_at(2).1;
+
 pub fn damage(random: &mut Random, set: &mut Set, damage: Damage) {
     let counted = set.places.len();
     let above = COORDINATE_LIMIT + 1;

@@ -1,5 +1,5 @@
-//! Texts and readings in full sweeps: every change of one byte, every short value field, every
-//! number near the ranges, every short tag.
+//! Texts, readings and records in full sweeps: every change of one byte, of the lines and of a number,
+//! every short value field, every number near the ranges, every short tag.
 
 use crate::reference::{CHANNEL_TYPES, ChannelType};
 
@@ -38,6 +38,46 @@ pub fn one_byte_changes(text: &[u8], mut visit: impl FnMut(&[u8])) {
                 visit(&[before, &[value], rest].concat());
             }
         }
+    }
+}
+
+/// The text with each line dropped, with each put in again before each line and at the end, and with
+/// each two lines exchanged.
+pub fn line_changes(text: &[u8], mut visit: impl FnMut(&[u8])) {
+    let lines: Vec<&[u8]> = text.split_inclusive(|&byte| byte == b'\n').collect();
+    for one in 0..lines.len() {
+        let mut dropped = lines.clone();
+        dropped.remove(one);
+        visit(&dropped.concat());
+        for other in 0..=lines.len() {
+            let mut doubled = lines.clone();
+            doubled.insert(other, lines[one]);
+            visit(&doubled.concat());
+        }
+        for other in one + 1..lines.len() {
+            let mut exchanged = lines.clone();
+            exchanged.swap(one, other);
+            visit(&exchanged.concat());
+        }
+    }
+}
+
+/// The text with each field that is a number changed to each of the fields that `others` gives for
+/// it.
+pub fn number_changes(
+    text: &[u8],
+    others: impl Fn(i128) -> Vec<String>,
+    mut visit: impl FnMut(&[u8]),
+) {
+    let is_field = |byte: &u8| !matches!(byte, b',' | b'\n');
+    let mut start = 0;
+    for field in text.split(|byte| !is_field(byte)) {
+        let (before, after) = (&text[..start], &text[start + field.len()..]);
+        let number = std::str::from_utf8(field).ok().and_then(|f| f.parse().ok());
+        for other in number.map_or(Vec::new(), &others) {
+            visit(&[before, other.as_bytes(), after].concat());
+        }
+        start += field.len() + 1;
     }
 }
 

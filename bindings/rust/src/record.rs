@@ -1,0 +1,211 @@
+//! The records of envelopes, written and read.
+
+use crate::{EnvelopeAnswer, Figures, FiguresGiven, ROWS, Refusal, accepted, ending, places_for};
+
+/// Bytes that are enough for every record: at most 38 for the heading, 90 for X, 52 for M, L and the
+/// moves, and 12 for each of 256 weights.
+pub const RECORD_BYTES: usize = 38 + 90 + 52 + 12 * ROWS;
+
+/// An envelope: its figures, and the weights of its rows.
+#[derive(Clone, Debug, PartialEq, Eq, Hash)]
+pub struct Envelope {
+    pub figures: Figures,
+    /// The weight of each row, at least m places and at most [`ROWS`]; those past m are 0.
+    pub weights: Vec<u32>,
+}
+
+/// What the library answers to the writing of a record, in numbers; see [`write_record_into`].
+#[repr(C)]
+#[derive(Clone, Copy, Debug, PartialEq, Eq, Hash)]
+pub struct WrittenAnswer {
+    /// 0 where accepted, else the refusal's number; then the length is 0.
+    pub number: u32,
+    /// The line at fault, 0 where none is.
+    pub line: u32,
+    /// How many bytes the record has.
+    pub length: usize,
+}
+
+unsafe extern "C" {
+    fn cundarivo_read_record(
+        rows: *const i32,
+        rows_len: usize,
+        m: usize,
+        n: usize,
+        types: *const u8,
+        types_len: usize,
+        text: *const u8,
+        text_len: usize,
+        centre: *mut i64,
+        centre_len: usize,
+        weights: *mut u32,
+        weights_len: usize,
+    ) -> EnvelopeAnswer;
+
+    fn cundarivo_write_record(
+        figures: FiguresGiven,
+        types: *const u8,
+        types_len: usize,
+        centre: *const i64,
+        centre_len: usize,
+        weights: *const u32,
+        weights_len: usize,
+        rows: *const i32,
+        rows_len: usize,
+        m: usize,
+        buffer: *mut u8,
+        buffer_len: usize,
+    ) -> WrittenAnswer;
+}
+
+/// Reads the record of an envelope of these rows, whose channels are of these types, whoever wrote
+/// it. Of the types and the coordinates the first n and m·n places count.
+///
+/// ```
+/// let rows = [0, 10];
+/// let read = |text: &[u8]| cundarivo::read_record(&rows, 2, 1, &[1], text);
+/// let text = "ENV,1,TOC\nC,327680\nR,107374182400,107374182400,1,S\nW,1,32768\nW,2,32768\n";
+/// let envelope = read(text.as_bytes())?;
+/// assert_eq!(envelope.weights, [32_768, 32_768]);
+/// assert_eq!(envelope.figures.moves, 1);
+///
+/// // A lower bound that is one off disagrees with the rows; a row 0 is not in form.
+/// let refusal = read(text.replace("400,1,S", "401,1,S").as_bytes()).unwrap_err();
+/// assert_eq!((refusal.number, refusal.line), (12, 0));
+/// let refusal = read(text.replace("W,1", "W,0").as_bytes()).unwrap_err();
+/// assert_eq!((refusal.number, refusal.line), (11, 4));
+/// # Ok::<(), cundarivo::Refusal>(())
+/// ```
+///
+/// # Errors
+///
+/// Refusals 8, 1, 11, then 12: see [`Refusal`].
+pub fn read_record(
+    rows: &[i32],
+    m: usize,
+    n: usize,
+    types: &[u8],
+    text: &[u8],
+) -> Result<Envelope, Refusal> {
+    let mut scaled_centre = vec![0; places_for(n, rows)];
+    let mut weights = vec![0; places_for(m, rows)];
+    let answer = read_record_into(rows, m, n, types, text, &mut scaled_centre, &mut weights);
+    accepted(answer.number, answer.line)?;
+    let figures = Figures {
+        n,
+        types: types[..n].to_vec(),
+        scaled_centre,
+        scaled_squared_radius: answer.scaled_squared_radius,
+        scaled_lower_bound: answer.scaled_lower_bound,
+        ending: ending(answer.settled == 1),
+        moves: answer.moves,
+    };
+    Ok(Envelope { figures, weights })
+}
+
+/// Writes the record of an envelope of m rows, whoever made it.
+///
+/// ```
+/// use cundarivo::{draw, read_record, write_record};
+///
+/// let text = b"REF,2,TOC,CND\nA,0,0\nB,6,0\nC,0,8\n";
+/// let (mut rows, mut types) = ([0; 6], [0; 2]);
+/// let counts = cundarivo::read_reference(text, &mut rows, &mut types)?;
+/// let envelope = draw(&rows, counts.m, counts.n, 10_000)?.envelope(&types);
+///
+/// let record = write_record(&envelope, &rows, counts.m)?;
+/// let expected = "ENV,2,TOC,CND\n\
+///     C,196608,262144\n\
+///     R,107374182400,107374182400,2,S\n\
+///     W,2,32768\n\
+///     W,3,32768\n";
+/// assert_eq!(record, expected.as_bytes());
+/// assert_eq!(read_record(&rows, counts.m, counts.n, &types, &record)?, envelope);
+///
+/// // An envelope of other rows has no record with these.
+/// let other = draw(&rows, 2, counts.n, 10_000)?.envelope(&types);
+/// assert_eq!(write_record(&other, &rows, counts.m).unwrap_err().number, 8); // two weights
+/// let mut other = envelope;
+/// other.weights.swap(0, 1);
+/// assert_eq!(write_record(&other, &rows, counts.m).unwrap_err().number, 12);
+/// # Ok::<(), cundarivo::Refusal>(())
+/// ```
+///
+/// # Errors
+///
+/// Refusals 8, then 12: see [`Refusal`].
+pub fn write_record(envelope: &Envelope, rows: &[i32], m: usize) -> Result<Vec<u8>, Refusal> {
+    let Envelope { figures, weights } = envelope;
+    let (types, centre) = (&figures.types, &figures.scaled_centre);
+    let mut text = vec![0; RECORD_BYTES];
+    let answer = write_record_into(figures.given(), types, centre, weights, rows, m, &mut text);
+    accepted(answer.number, answer.line)?;
+    text.truncate(answer.length);
+    Ok(text)
+}
+
+/// The library's own call of [`read_record`], which answers with numbers. Accepted, it fills the
+/// first n places of `centre` with X and the first m places of `weights`, and no other; refused, it
+/// changes nothing. After the refusals of [`read_record`] comes 13 for a `centre` of fewer than n or
+/// `weights` of fewer than m places.
+pub fn read_record_into(
+    rows: &[i32],
+    m: usize,
+    n: usize,
+    types: &[u8],
+    text: &[u8],
+    centre: &mut [i64],
+    weights: &mut [u32],
+) -> EnvelopeAnswer {
+    // SAFETY: as in `draw_into`, and the library is proved to keep within the lengths for every
+    // text.
+    unsafe {
+        cundarivo_read_record(
+            rows.as_ptr(),
+            rows.len(),
+            m,
+            n,
+            types.as_ptr(),
+            types.len(),
+            text.as_ptr(),
+            text.len(),
+            centre.as_mut_ptr(),
+            centre.len(),
+            weights.as_mut_ptr(),
+            weights.len(),
+        )
+    }
+}
+
+/// The library's own call of [`write_record`], which takes and answers numbers. Accepted, it fills
+/// the first places of `buffer` with the record, and no other; refused, it changes nothing. `types`
+/// and `centre` lend at least n places, of which the first n count, and `weights` at least m and at
+/// most [`ROWS`], of which those past m are 0. After the refusals of [`write_record`] comes 13 for a
+/// `buffer` that is too short; [`RECORD_BYTES`] are always enough.
+pub fn write_record_into(
+    figures: FiguresGiven,
+    types: &[u8],
+    centre: &[i64],
+    weights: &[u32],
+    rows: &[i32],
+    m: usize,
+    buffer: &mut [u8],
+) -> WrittenAnswer {
+    // SAFETY: as in `draw_into`.
+    unsafe {
+        cundarivo_write_record(
+            figures,
+            types.as_ptr(),
+            types.len(),
+            centre.as_ptr(),
+            centre.len(),
+            weights.as_ptr(),
+            weights.len(),
+            rows.as_ptr(),
+            rows.len(),
+            m,
+            buffer.as_mut_ptr(),
+            buffer.len(),
+        )
+    }
+}
