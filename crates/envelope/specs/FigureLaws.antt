@@ -4,6 +4,8 @@
 --     Within D types f                    each limit on the figures, as a fact
 --     within-figures, figures-within      the test of the limits, as the record
 --     figures-refused                     a limit that is not kept
+--     within-centre                       X of figures within their limits, as the numeric functions ask for it at the total that the
+--                                         contracts fix
 --     tight-within                        2.14: the figures of a ball of which demand 3 holds are within their limits
 --     drawnFigures n codes drawing        the figures of a drawing for n channels of these codes
 --     drawn-within, checked-within        those of an accepted drawing and of an accepted check are within their limits
@@ -22,7 +24,8 @@ use lib.Seq.{take-suc, getD-take, length-take-le}
 use Rattle.integers.specs.Tests.{both, clash, refuted, range-in}
 use Rattle.lists.specs.Each.{Each, each-cons, each-head, each-tail, each-append}
 use Rattle.refusal.specs.declared.Outcome.the-variants.{Accepted}
-use Rattle.geometry.specs.Limits.{channelLimit, centreLimit, distanceLimit, budgetLimit, coordinate, placesWithin}
+use Rattle.geometry.specs.Limits.{total, channelLimit, centreLimit, distanceLimit, budgetLimit, coordinate, placesWithin}
+use Rattle.geometry.specs.Asked.{CentreWithin}
 use Rattle.geometry.specs.Places.{centreOf}
 use Rattle.geometry.specs.PlacesLaws.{length-centreList}
 use Rattle.geometry.specs.TableLaws.{placesWithin-at, placesWithin-by, within-limits}
@@ -135,6 +138,10 @@ module _ (D : ℕ) (types : List ChannelType) (f : Figures) where
         (ap₂ _&&_ (le-leb (f .ball .«scaled_squared_radius») limit (w .radius-limit))
         (le-leb (f .ball .«scaled_lower_bound») limit (w .floor-limit)))
         (le-leb (f .moves) budgetLimit (w .moves-limit))))))
+
+-- what the numeric functions ask of X
+pub within-centre : {types : List ChannelType} {f : Figures} → Within total types f → CentreWithin (f .n) (f .ball .«scaled_centre»)
+within-centre w = record { places = w .places; bound = w .centre-limit }
 
 -- ---- 2.14: the figures that are handed out are within their limits
 

@@ -4,10 +4,12 @@
 --     centreList-at, centreList-past          its places below n are X, those past n are 0
 --     centreList-by                           a list with these places is X's
 --     centreList-zeros                        so is one that starts with n coordinates and goes on with zeros
+--     zeros-at                                every place of a list of zeros is 0
 --     centreList-most                         a bound on X is one on all places
 --     centreList-more                         one channel more
+--     centreList-stored                       the same as a loop stores it
 --     centreList-cong                         only the places below n count
-use Prim.Native.Nat.{ℕ, zero, suc, _+_, _-_, _≤_, _<_}
+use Prim.Native.Nat.{ℕ, zero, suc, _+_, _-_, _^_, _≤_, _<_}
 use mathlib.Core.Path.{_≡_, refl, sym, _∙_, ap, ap₂}
 use mathlib.Core.Logic.{_≢_, _⊎_, inl, inr}
 use mathlib.Core.Bool.{Bool, cond}
@@ -20,7 +22,11 @@ use lib.Dec.{ltb}
 use lib.IntN.{ℤ, pos, natAbs}
 use lib.ListN.{length, getD, set, drop, replicate, length-set, length-append, length-drop, length-replicate, List·getD-append, List·getD-eq-default}
 use lib.Seq.{getD-at, getD-append-add, getD-drop, ext-getD, getD-set-same, getD-set-other}
+use mir.Syntax.{Width}
+use mir.Val.{hbits}
 use Rattle.integers.specs.SumLaws.{last-or-below}
+use Rattle.integers.specs.Absolute.{backw}
+use Rattle.integers.specs.Reading.{back}
 use Rattle.geometry.specs.Limits.{channelLimit}
 use Rattle.geometry.specs.Places.{tabulate, centreList, centreOf}
 
@@ -78,7 +84,7 @@ module _ (n : ℕ) (X : ℕ → ℤ) where
       same k h (yes b) = at k b ∙ sym (getD-centreList k h ∙ place-at k b)
       same k h (no b) = past k (omega arith) ∙ sym (getD-centreList k h ∙ place-past k (omega arith))
 
-zeros-at : (count k : ℕ) → getD (replicate count (pos 0)) k (pos 0) ≡ pos 0
+pub zeros-at : (count k : ℕ) → getD (replicate count (pos 0)) k (pos 0) ≡ pos 0
 zeros-at zero k = refl
 zeros-at (suc count) zero = refl
 zeros-at (suc count) (suc k) = zeros-at count k
@@ -121,3 +127,9 @@ module _ (X : ℕ → ℤ) (k : ℕ) (h : k < channelLimit) where
     where
       other : (j : ℕ) → j ≢ k → getD (set (centreList k X) k (X k)) j (pos 0) ≡ getD (centreList k X) j (pos 0)
       other j e = getD-set-other (centreList k X) k j (X k) (pos 0) e
+
+  -- as a loop has it: r, as the machine reads it, is stored in x
+  pub centreList-stored : (w : Width) (x : List ℤ) (r : ℤ) → natAbs (X k) < 2 ^ hbits w → x ≡ centreList k X → r ≡ X k
+      → set x k (back w r) ≡ centreList (k + 1) X
+  centreList-stored w x r small e f =
+      ap₂ (λ y z. set y k (back w z)) e f ∙ ap (set (centreList k X) k) (backw w (X k) small) ∙ centreList-more

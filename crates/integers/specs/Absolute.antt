@@ -5,6 +5,7 @@
 --     abs-neg, abs-mul           of a negation and a product, equal
 --     abs-add, abs-sub, abs-sum  of a sum, a difference, a sum over a range, at most
 --     abs-zero                   only 0 has the absolute value 0
+--     abs-same                   two integers with the same absolute value, at most 1 apart, are equal
 --     square-pos                 the square as an integer
 --     square-neg, square-mul     of a negation and a product
 --     square-le, square-inv      natAbs z ≤ B exactly when square z ≤ B * B
@@ -55,6 +56,13 @@ abs-neg (negsuc n) = refl
 pub abs-zero : (z : ℤ) → natAbs z ≡ 0 → z ≡ pos 0
 abs-zero (pos n) e = ap pos e
 abs-zero (negsuc n) e = absurd (omega arith)
+
+pub abs-same : (a b : ℤ) → natAbs a ≡ natAbs b → natAbs (a -ℤ b) ≤ 1 → a ≡ b
+abs-same (pos m) (pos n) e h = ap pos e
+abs-same (pos m) (negsuc n) e h = absurd (omega arith)
+abs-same (negsuc m) (pos zero) e h = absurd (omega arith)
+abs-same (negsuc m) (pos (suc n)) e h = absurd (omega arith)
+abs-same (negsuc m) (negsuc n) e h = let k : m ≡ n = omega arith in ap negsuc k
 
 pub abs-add : (a b : ℤ) → natAbs (a +ℤ b) ≤ natAbs a + natAbs b
 abs-add a b = abs-ℕ (a +ℤ b) (natAbs a + natAbs b) .1

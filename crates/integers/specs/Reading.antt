@@ -7,22 +7,26 @@
 --     addition, difference, product of two readings
 --     fits                          what an operation or a cast to i64 asks
 --     number-cast                   what a cast of a number of 0 or more to an unsigned type asks
+--     sign-read                     the test of a reading's sign is that of the integer
+--     opposite-fits, opposite-read  where it is below 0, 0 less the reading fits an i64 and is the magnitude
+--     natural-read                  where it is not, the reading is the magnitude
 --     square-cast, square-is        the square of a reading, cast to u64
 --     passed, given, given₂         what a callee asks and gives of readings, as said of the integers themselves
 -- A numeric bound that computes is given as `tt`.
 -- A worked call stands at the end.
 use mathlib.Core.Path.{_≡_, refl, sym, ap, ap₂, subst, _∙_}
 use Prim.Native.Nat.{ℕ, _+_, _*_, _^_, _≤_, _<_}
+use mathlib.Core.Bool.{Bool, true, false}
 use native.Mathlib.Nat.{le-refl, mul-le-mul}
 use native.Mathlib.Omega.{arith}
 use lib.Dec.{T, ltb, ltb→lt}
-use lib.IntN.{ℤ, pos, natAbs, _+ℤ_, _-ℤ_, _*ℤ_}
-use lib.Signed.{nonNeg}
+use lib.IntN.{ℤ, pos, natAbs, negℤ, _+ℤ_, _-ℤ_, _*ℤ_, +ℤ-idl, negℤ-negℤ}
+use lib.Signed.{nonNeg, ltZ}
 use mir.Syntax.{Width, w64}
 use mir.Val.{Fits, SFits, bits, toZ, ofZ}
 use mir.Facts.{toZ-ofZ}
 use Rattle.integers.specs.Sum.{square}
-use Rattle.integers.specs.Absolute.{abs-add, abs-sub, abs-mul, fits64, square-pos, square-le}
+use Rattle.integers.specs.Absolute.{abs-add, abs-sub, abs-mul, abs-nonneg, abs-negative, fits64, back64, square-pos, square-le}
 
 pub record Bounded (limit r defined : ℕ) : Type 0 where
   pub is : r ≡ defined
@@ -61,6 +65,33 @@ module _ {z d : ℤ} {B : ℕ} (r : Reads z d B) where
 
 pub number-cast : (w : Width) {z : ℤ} (n : ℕ) → z ≡ pos n → n < 2 ^ bits w → T (nonNeg z) × Fits w (natAbs z)
 number-cast w n e h = subst (λ z. T (nonNeg z) × Fits w (natAbs z)) (sym e) (tt, record { fits = h })
+
+-- ---- a signed value by its sign and magnitude
+
+module _ (z : ℤ) (most : natAbs z < 2 ^ 63) where
+  pub sign-read : (t : Bool) → ltZ (back w64 z) (pos 0) ≡ t → ltZ z (pos 0) ≡ t
+  sign-read t e = ap (λ x. ltZ x (pos 0)) (sym (back64 z most)) ∙ e
+
+  module _ (negative : ltZ (back w64 z) (pos 0) ≡ true) where
+    opposite : pos 0 -ℤ back w64 z ≡ pos (natAbs z)
+    opposite =
+        ap (λ x. pos 0 -ℤ x) (back64 z most ∙ abs-negative z (sign-read true negative))
+        ∙ +ℤ-idl (negℤ (negℤ (pos (natAbs z))))
+        ∙ negℤ-negℤ (pos (natAbs z))
+
+    opposite-small : natAbs (pos 0 -ℤ back w64 z) < 2 ^ 63
+    opposite-small = omega (arith, ap natAbs opposite)
+
+    pub opposite-fits : SFits w64 (pos 0 -ℤ back w64 z)
+    opposite-fits = fits64 (pos 0 -ℤ back w64 z) opposite-small
+
+    pub opposite-read : back w64 (pos 0 -ℤ back w64 z) ≡ pos (natAbs z)
+    opposite-read = back64 (pos 0 -ℤ back w64 z) opposite-small ∙ opposite
+
+  pub natural-read : ltZ (back w64 z) (pos 0) ≡ false → back w64 z ≡ pos (natAbs z)
+  natural-read natural = back64 z most ∙ abs-nonneg z (sign-read false natural)
+
+-- ---- squares
 
 -- the square of a reading is the number `square d`
 squared : {z d : ℤ} {B : ℕ} → Reads z d B → T (ltb (B * B) (2 ^ 63)) → back w64 (z *ℤ z) ≡ pos (square d)

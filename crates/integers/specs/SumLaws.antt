@@ -10,7 +10,7 @@
 --     sumℤ-mono, sumℕ-mono            smaller terms, smaller sum
 --     sumℤ-nn                         a sum of numbers that are 0 or more
 --     sumℕ-bound                      n terms of at most B
---     sumℕ-term                       a term is at most the sum
+--     sumℕ-term, sumℕ-two             a term, and two different terms, are at most the sum
 --     sumℕ-positive                   a positive sum has a positive term
 --     sumℤ-change, sumℕ-change        one term changed
 --     sumℤ-change₂, sumℕ-change₂      two terms changed
@@ -183,6 +183,17 @@ sumℕ-term f (suc n) j h = go (last-or-below n j h) (sumℕ-term f n j)
     go : (j ≡ n) ⊎ (j < n) → (j < n → f j ≤ sumℕ n f) → f j ≤ sumℕ n f + f n
     go (inl e) r = subst (λ x. f x ≤ sumℕ n f + f n) (sym e) (omega arith)
     go (inr l) r = omega (arith, r l)
+
+pub sumℕ-two : (f : ℕ → ℕ) (n j k : ℕ) → j ≢ k → j < n → k < n → f j + f k ≤ sumℕ n f
+unfolding sumℕ
+sumℕ-two f zero j k ne lj lk = absurd (omega arith)
+sumℕ-two f (suc n) j k ne lj lk = go (last-or-below n j lj) (last-or-below n k lk) (sumℕ-two f n j k ne)
+  where
+    go : (j ≡ n) ⊎ (j < n) → (k ≡ n) ⊎ (k < n) → (j < n → k < n → f j + f k ≤ sumℕ n f) → f j + f k ≤ sumℕ n f + f n
+    go (inl d) (inl e) r = absurd (ne (d ∙ sym e))
+    go (inl d) (inr l) r = omega (arith, ap f d, sumℕ-term f n k l)
+    go (inr l) (inl e) r = omega (arith, ap f e, sumℕ-term f n j l)
+    go (inr l) (inr b) r = omega (arith, r l b)
 
 pub sumℕ-positive : (f : ℕ → ℕ) (n : ℕ) → 0 < sumℕ n f → (i : ℕ) × (i < n) × (0 < f i)
 unfolding sumℕ

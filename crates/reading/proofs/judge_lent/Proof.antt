@@ -14,7 +14,7 @@ use Rattle.text.specs.Parts.{textWithin}
 use Rattle.text.specs.PartsLaws.{text-within}
 use Rattle.channel.specs.Channel.{channelTypes}
 use Rattle.envelope.specs.Figures.{figuresWithin, lentFigures}
-use Rattle.envelope.specs.FigureLaws.{within-figures}
+use Rattle.envelope.specs.FigureLaws.{within-figures, within-centre}
 use Rattle.envelope.specs.declared.Figures.{Figures}
 use Rattle.reading.specs.Reading.{readingLine}
 use Rattle.reading.specs.Contracts.{lineAlone}
@@ -99,7 +99,7 @@ judge-line-requires c κs =
       channels = limits .channels;
       typed = limits .typed;
       each-known = limits .codes;
-      centre = record { places = limits .places; bound = limits .centre-limit };
+      centre = within-centre limits;
     }
 
 returns-4 : tie.Need-returns-4

@@ -1,28 +1,18 @@
 -- `figures::centre::scaled_centre` meets its contract. The loop's invariant: the places passed hold X, the others 0. The measure is
 -- what is left of the channels.
 use borrow.Author.Needs.{needs}
-use mathlib.Core.Path.{_≡_, refl, ap, ap₂, _∙_}
-use mathlib.Core.List.{List}
-use Prim.Native.Nat.{ℕ, _+_, _-_, _≤_, _<_}
+use mathlib.Core.Path.{_≡_, refl, ap, _∙_}
+use Prim.Native.Nat.{_-_, _≤_}
 use native.Mathlib.Omega.{arith}
-use lib.IntN.{ℤ, natAbs}
-use lib.ListN.{set}
 use mir.Syntax.{w64}
-use Rattle.integers.specs.Absolute.{back64}
 use Rattle.geometry.specs.Figures.{scaledCentre}
 use Rattle.geometry.specs.FigureLaws.{centre-at-most}
 use Rattle.geometry.specs.Move.{weightOf}
-use Rattle.geometry.specs.Limits.{total, coordinate, centreLimit, channelLimit}
+use Rattle.geometry.specs.Limits.{coordinate}
 use Rattle.geometry.specs.Places.{tabulate, centreList}
-use Rattle.geometry.specs.PlacesLaws.{centreList-more}
-use Rattle.integers.specs.Reading.{back}
+use Rattle.geometry.specs.PlacesLaws.{centreList-stored}
 use Rattle.figures.proofs.centre.scaled_centre.Statement.{statement}
 use Rattle.figures.proofs.centre.scaled_centre.Tie as tie
-
--- one channel more, as the loop has it: the result as the machine reads it, stored in x
-turned : (k : ℕ) (X : ℕ → ℤ) (x : List ℤ) (r : ℤ) → k < channelLimit → natAbs (X k) ≤ centreLimit total → x ≡ centreList k X → r ≡ X k
-    → set x k (back w64 r) ≡ centreList (k + 1) X
-turned k X x r l h e f = ap₂ (λ y z. set y k (back w64 z)) e f ∙ ap (set (centreList k X) k) (back64 (X k) (omega arith)) ∙ centreList-more X k l
 
 abbrev Inv-loop : tie.InvT-loop
 Inv-loop rows m n w x₀ k₀ x k = (k ≤ n) × (x ≡ centreList k (scaledCentre (coordinate rows n) (weightOf w) m))
@@ -55,8 +45,8 @@ loop-again c =
     let l = c .before .before .loop in
     let X = scaledCentre (coordinate (s .args .rows .now) (s .args .n)) (weightOf (s .args .weights .now)) (s .args .m) in (
       omega arith,
-      turned (l .k) X (l .centre) (c .centre-of-channel .result) (omega arith)
-          (centre-at-most (s .pre .0) (s .pre .1) (l .k) (omega arith)) (l .inv .1) (c .centre-of-channel .ensures),
+      centreList-stored X (l .k) (omega arith) w64 (l .centre) (c .centre-of-channel .result)
+          (omega (arith, centre-at-most (s .pre .0) (s .pre .1) (l .k) (omega arith))) (l .inv .1) (c .centre-of-channel .ensures),
     )
 
 returns : tie.Need-returns Inv-loop μ-loop

@@ -1,16 +1,16 @@
 -- `text::printing::put_number` meets its contract. A number below 0 is printed as a hyphen and its magnitude, any other as its magnitude.
 use Prim.Native.Nat.{_^_, _<_}
 use mathlib.Core.Path.{_≡_, refl, sym, ap, _∙_}
-use mathlib.Core.Bool.{Bool, true, false}
+use mathlib.Core.Bool.{true, false}
 use mathlib.Core.List.{_∷_}
 use native.Mathlib.Omega.{arith}
 use borrow.Author.Needs.{needs}
-use lib.IntN.{ℤ, pos, natAbs, negℤ, _-ℤ_, +ℤ-idl, negℤ-negℤ}
+use lib.IntN.{ℤ, pos, natAbs, _-ℤ_}
 use lib.ListN.{length-set}
 use lib.Signed.{ltZ}
 use mir.Syntax.{w64}
-use Rattle.integers.specs.Absolute.{abs-nonneg, abs-negative, fits64, back64}
-use Rattle.integers.specs.Reading.{back, number-cast}
+use Rattle.integers.specs.Absolute.{back64}
+use Rattle.integers.specs.Reading.{back, number-cast, sign-read, opposite-fits, opposite-read, natural-read}
 use Rattle.text.specs.Number.{hyphen, printMagnitude, print}
 use Rattle.text.specs.NumberLaws.{print-natural, print-negative}
 use Rattle.text.specs.PutLaws.{put-byte, put-then, put-as}
@@ -18,31 +18,12 @@ use Rattle.text.proofs.printing.put_number.Statement.{statement}
 use Rattle.text.proofs.printing.put_number.Tie as tie
 
 module _ (z : ℤ) (most : natAbs z < 2 ^ 63) where
-  sign : (t : Bool) → ltZ (back w64 z) (pos 0) ≡ t → ltZ z (pos 0) ≡ t
-  sign t e = ap (λ x. ltZ x (pos 0)) (sym (back64 z most)) ∙ e
+  printed-negative : ltZ (back w64 z) (pos 0) ≡ true → hyphen ∷ printMagnitude (natAbs (back w64 (pos 0 -ℤ back w64 z))) ≡ print z
+  printed-negative negative =
+      ap (λ x. hyphen ∷ printMagnitude (natAbs x)) (opposite-read z most negative) ∙ sym (print-negative z (sign-read z most true negative))
 
-  module _ (negative : ltZ (back w64 z) (pos 0) ≡ true) where
-    opposite : pos 0 -ℤ back w64 z ≡ pos (natAbs z)
-    opposite =
-        ap (λ x. pos 0 -ℤ x) (back64 z most ∙ abs-negative z (sign true negative))
-        ∙ +ℤ-idl (negℤ (negℤ (pos (natAbs z))))
-        ∙ negℤ-negℤ (pos (natAbs z))
-
-    opposite-small : natAbs (pos 0 -ℤ back w64 z) < 2 ^ 63
-    opposite-small = omega (arith, ap natAbs opposite)
-
-    opposite-read : back w64 (pos 0 -ℤ back w64 z) ≡ pos (natAbs z)
-    opposite-read = back64 (pos 0 -ℤ back w64 z) opposite-small ∙ opposite
-
-    printed-negative : hyphen ∷ printMagnitude (natAbs (back w64 (pos 0 -ℤ back w64 z))) ≡ print z
-    printed-negative = ap (λ x. hyphen ∷ printMagnitude (natAbs x)) opposite-read ∙ sym (print-negative z (sign true negative))
-
-  module _ (natural : ltZ (back w64 z) (pos 0) ≡ false) where
-    natural-read : back w64 z ≡ pos (natAbs z)
-    natural-read = back64 z most ∙ abs-nonneg z (sign false natural)
-
-    printed-natural : printMagnitude (natAbs (back w64 z)) ≡ print z
-    printed-natural = ap (λ x. printMagnitude (natAbs x)) (back64 z most) ∙ sym (print-natural z (sign false natural))
+  printed-natural : ltZ (back w64 z) (pos 0) ≡ false → printMagnitude (natAbs (back w64 z)) ≡ print z
+  printed-natural natural = ap (λ x. printMagnitude (natAbs x)) (back64 z most) ∙ sym (print-natural z (sign-read z most false natural))
 
 slice-write-out : tie.Need-slice-write-out
 slice-write-out c = search needs
@@ -51,7 +32,7 @@ add-put-magnitude : tie.Need-add-put-magnitude
 add-put-magnitude c = search needs
 
 sub-put-magnitude : tie.Need-sub-put-magnitude
-sub-put-magnitude c = fits64 _ (opposite-small (c .before .before .before .args .number) (omega arith) (c .before .if1 .taken))
+sub-put-magnitude c = opposite-fits (c .before .before .before .args .number) (omega arith) (c .before .if1 .taken)
 
 cast-put-magnitude : tie.Need-cast-put-magnitude
 cast-put-magnitude c =
