@@ -1,5 +1,4 @@
--- Document 01, "Trial figures": the cases marked with a star that concern the ball and the record as one table, and one law that
--- computes them all. The panel's cases join the table with the chart.
+-- Document 01, "Trial figures": the cases marked with a star as one table, and one law that computes them all.
 --     Trial             the figures that the definitions give, and those that document 01 states or that follow from them
 --     trials            the table, in document 01's order
 --     trials-agree      every case gives document 01's figures
@@ -7,9 +6,10 @@ use Prim.Native.Nat.{ℕ}
 use mathlib.Core.Path.{_≡_, refl}
 use mathlib.Core.Bool.{Bool, cond}
 use mathlib.Core.List.{List, [], _∷_, _++_, map}
-use lib.IntN.{ℤ, pos}
+use lib.IntN.{ℤ, pos, negℤ}
 use lib.ListN.{length, take}
 use Rattle.integers.specs.Sum.{sumℤ, sumℕ, square}
+use Rattle.refusal.specs.Outcome.{numberOf}
 use Rattle.geometry.specs.Figures.{squaredLength, squaredDistance, scaledCentre, scaledSquaredDistance, largest, scaledSquaredRadius, weightedSquaredLength, scaledLowerBound}
 use Rattle.geometry.specs.Select.{farthest, replaces, nearest}
 use Rattle.geometry.specs.Move.{scaledSquaredDistanceOf, farRow, nearRow, difference, separation, settled, transfer, moveWeight, moved, weightOf}
@@ -22,13 +22,15 @@ use Rattle.text.specs.Parts.{join}
 use Rattle.text.specs.Lines.{printLines}
 use Rattle.text.specs.Number.{decimal, printMagnitude, print}
 use Rattle.text.specs.Put.{numbersAfter}
-use Rattle.channel.specs.Channel.{channelTypes, typeOf}
+use Rattle.channel.specs.Channel.{channelTypes, typeOf, known}
 use Rattle.heading.specs.Heading.{printHeading}
+use Rattle.envelope.specs.Figures.{codesKnown, figuresWithin, lentFigures}
 use Rattle.envelope.specs.Agreement.{drawnEnvelope}
 use Rattle.record_form.specs.Lines.{printCentre, printResult, printWeight}
 use Rattle.record_form.specs.Record.{printRecord}
 use Rattle.record_form.specs.Weights.{listed}
 use Rattle.record_print.specs.Printed.{recordText}
+use Rattle.chart.specs.Panel.{panelShown}
 
 pub record Trial : Type 0 where
   pub computed : List ℤ
@@ -62,6 +64,12 @@ transferUnder rows ws = transfer total (length rows) 1 (coordinate rows 1) (weig
 
 right-triangle : List ℤ
 right-triangle = numbers (0 ∷ 0 ∷ 6 ∷ 0 ∷ 0 ∷ 8 ∷ [])
+
+-- the refusal's number, 0 where there is none, and what the panel shows of one channel, of type TMP, with this X
+shown : ℤ → List ℤ
+shown x =
+    let panel = panelShown total channelTypes (lentFigures 1 (5 ∷ []) (x ∷ []) 0 0 0) in
+    pos (numberOf (panel .outcome)) ∷ take 1 (panel .steps)
 
 -- `ENV`, 2, `TOC`, `CND`; `C`, 196608, 262144; `R`, 107374182400, 107374182400, 2, `S`; `W`, 2, 32768; `W`, 3, 32768
 exampleRecord : List ℕ
@@ -115,8 +123,13 @@ trials =
       computed = numbers (differenceUnder (numbers (0 ∷ 1 ∷ 2 ∷ [])) (32768 ∷ 1 ∷ 32767 ∷ []) ∷ transferUnder (numbers (0 ∷ 1 ∷ 2 ∷ [])) (32768 ∷ 1 ∷ 32767 ∷ []) ∷ []);
       stated = numbers (65538 ∷ 1 ∷ []);
     }
+    -- Panel: X = -32,768 shows -1; -32,767 shows 0; 32,768 shows 1
+    ∷ record {
+      computed = shown (negℤ (pos 32768)) ++ shown (negℤ (pos 32767)) ++ shown (pos 32768);
+      stated = pos 0 ∷ negℤ (pos 1) ∷ pos 0 ∷ pos 0 ∷ pos 0 ∷ pos 1 ∷ [];
+    }
     ∷ []
 
 pub trials-agree : map (λ (t : Trial). t .computed) trials ≡ map (λ (t : Trial). t .stated) trials
-unfolding trials numbers flag draw outline whole differenceUnder transferUnder right-triangle exampleRecord join printLines decimal printMagnitude print numbersAfter channelTypes typeOf printHeading printCentre printResult printWeight printRecord listed recordText sumℤ sumℕ square squaredLength squaredDistance scaledCentre scaledSquaredDistance largest scaledSquaredRadius weightedSquaredLength scaledLowerBound farthest replaces nearest scaledSquaredDistanceOf farRow nearRow difference separation settled transfer moveWeight moved coordinate placesWithin rowsWithin tabulate centreList ballOf run start runFrom drawing
+unfolding trials numbers flag draw outline whole differenceUnder transferUnder right-triangle shown exampleRecord join printLines decimal printMagnitude print numbersAfter channelTypes typeOf printHeading printCentre printResult printWeight printRecord listed recordText sumℤ sumℕ square squaredLength squaredDistance scaledCentre scaledSquaredDistance largest scaledSquaredRadius weightedSquaredLength scaledLowerBound farthest replaces nearest scaledSquaredDistanceOf farRow nearRow difference separation settled transfer moveWeight moved coordinate placesWithin rowsWithin tabulate centreList ballOf run start runFrom drawing known codesKnown figuresWithin panelShown
 trials-agree = refl

@@ -1,0 +1,115 @@
+// What the panel shows: the centre of an envelope to the nearest whole step, halves away from zero.
+ghost use mathlib.Core.Path.{_≡_};
+ghost use Prim.Native.Nat.{_≤_};
+ghost use lib.IntN.{natAbs};
+ghost use Rattle.integers.specs.Reading.{Bounded};
+ghost use Rattle.refusal.specs.Number.{outside-limits};
+ghost use Rattle.geometry.specs.Limits.{total, channelLimit, coordinateLimit, centreLimit};
+ghost use Rattle.geometry.specs.Places.{centreOf, centreList};
+ghost use Rattle.geometry.specs.Asked.{CentreWithin};
+ghost use Rattle.channel.specs.Channel.{channelTypes};
+ghost use Rattle.envelope.specs.Figures.{lentFigures};
+ghost use Rattle.chart.specs.Panel.{nearestMagnitude, nearestStep, refusedPanel, panelShown};
+use envelope::Figures;
+use envelope::figures_within;
+use figures::limits::CHANNELS;
+use figures::limits::TOTAL;
+use refusal::Outcome;
+
+// The steps of the n channels; places past n, and every place in a refusal, are 0.
+pub struct PanelShown {
+    pub outcome: Outcome,
+    pub steps: [i32; CHANNELS],
+}
+
+// The refusal 8.
+pub fn refused_panel() -> PanelShown
+    ensures { λ r. ⌜ r ≡ refusedPanel outside-limits ⌝ }
+{
+    let outcome = refusal::refused_at(refusal::OUTSIDE_LIMITS, 0);
+    PanelShown {
+        outcome,
+        steps: [0i32; CHANNELS],
+    }
+}
+
+// The whole number nearest to a place of X that is not below 0, divided by the total; a half goes up.
+fn nearest_magnitude(x: u32) -> u32
+    requires { ⌜ x ≤ centreLimit total ⌝ }
+    ensures { λ r. ⌜ Bounded coordinateLimit r (nearestMagnitude total x) ⌝ }
+{
+    (2 * x + TOTAL) / (2 * TOTAL)
+}
+
+// The whole number nearest to a place of X divided by the total; a half goes away from 0.
+fn nearest_step(x: i64) -> i32
+    requires { ⌜ natAbs x ≤ centreLimit total ⌝ }
+    ensures { λ r. ⌜ r ≡ nearestStep total x ⌝ }
+{
+    if x < 0 {
+        let below = nearest_magnitude((-x) as u32);
+        return -(below as i32);
+    }
+    nearest_magnitude(x as u32) as i32
+}
+
+// The steps of the n channels in their eight places.
+fn steps_of(centre: &[i64], n: usize) -> [i32; CHANNELS]
+    requires { ⌜ (n ≤ channelLimit) × CentreWithin n (now centre) ⌝ }
+    ensures { λ r. ⌜ r ≡ centreList n (λ k. nearestStep total (centreOf (now (centre .entry)) k)) ⌝ }
+{
+    let mut steps = [0i32; CHANNELS];
+    let mut k = 0;
+    while k < n {
+        steps[k] = nearest_step(centre[k]);
+        k += 1;
+    }
+    steps
+}
+
+// What the panel shows of an envelope whose types and X are lent. Refused: 8.
+pub fn panel_lent(
+    n: usize,
+    types: &[u8],
+    centre: &[i64],
+    scaled_squared_radius: u64,
+    scaled_lower_bound: u64,
+    moves: u32,
+) -> PanelShown
+    ensures { λ r.
+        ⌜ r ≡ panelShown total channelTypes (lentFigures n (now (types .entry)) (now (centre .entry)) «scaled_squared_radius»
+        «scaled_lower_bound» moves) ⌝ }
+{
+    if !figures_within(
+        n,
+        types,
+        centre,
+        scaled_squared_radius,
+        scaled_lower_bound,
+        moves,
+    ) {
+        return refused_panel();
+    }
+    let steps = steps_of(centre, n);
+    PanelShown {
+        outcome: Outcome::Accepted,
+        steps,
+    }
+}
+
+// The same for figures as one value.
+pub fn panel(figures: Figures) -> PanelShown
+    ensures { λ r. ⌜ r ≡ panelShown total channelTypes figures ⌝ }
+{
+    let types = figures.types;
+    let ball = figures.ball;
+    let centre = ball.scaled_centre;
+    panel_lent(
+        figures.n,
+        &types,
+        &centre,
+        ball.scaled_squared_radius,
+        ball.scaled_lower_bound,
+        figures.moves,
+    )
+}
