@@ -1,4 +1,5 @@
 pub mod Laws
 pub mod ReferenceLaws
-pub mod ReadingLaws
+pub mod GivenLaws
 pub mod RecordLaws
+pub mod ChartLaws

@@ -17,9 +17,9 @@ use Rattle.refusal.specs.Outcome.{refused, choose}
 use Rattle.geometry.specs.Limits.{rowLimit, channelLimit}
 use Rattle.channel.specs.Channel.{ChannelType}
 use Rattle.record.specs.Answers.{notWritten, recordWritten}
-use Rattle.library.specs.ReadingText.{figuresGiven}
+use Rattle.library.specs.Given.{figuresGiven}
 use Rattle.library.specs.RecordText.{givenWhole, GivenPlaces, envelopeGiven, writtenInNumbers, writeAnswer}
-use Rattle.library.specs.declared.reading_text.FiguresGiven.{FiguresGiven}
+use Rattle.library.specs.declared.given.FiguresGiven.{FiguresGiven}
 
 module _ (given : FiguresGiven) (codes : List ℕ) (centre : List ℤ) (ws : List ℕ) where
   pub filled-given : (types : List ℕ) (X : List ℤ) (weights : List ℕ)

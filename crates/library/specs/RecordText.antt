@@ -21,9 +21,9 @@ use Rattle.record.specs.Answers.{notWritten, recordWritten}
 use Rattle.record.specs.declared.EnvelopeRead.{EnvelopeRead}
 use Rattle.record.specs.declared.RecordWritten.{RecordWritten}
 use Rattle.library.specs.Export.{withRoom, envelopeInNumbers}
-use Rattle.library.specs.ReadingText.{figuresGiven}
+use Rattle.library.specs.Given.{figuresGiven}
 use Rattle.library.specs.declared.EnvelopeAnswer.{EnvelopeAnswer}
-use Rattle.library.specs.declared.reading_text.FiguresGiven.{FiguresGiven}
+use Rattle.library.specs.declared.given.FiguresGiven.{FiguresGiven}
 use Rattle.library.specs.declared.record_text.WrittenAnswer.{WrittenAnswer}
 
 abbrev pub readAnswer : EnvelopeRead → ℕ → ℕ → ℕ → ℕ → EnvelopeAnswer

@@ -1,5 +1,7 @@
-// The calls for C and Rust, on numbers, lent slices and small structs of numbers. X and the weights are
+// The calls for C and Rust, on numbers, lent slices and small structs of numbers. X, the weights and a panel's steps are
 // written to slices of the caller's, so that these structs stay as they are where the row limit changes.
+pub mod chart_numbers;
+pub mod given;
 pub mod reading_text;
 pub mod record_text;
 pub mod reference_text;

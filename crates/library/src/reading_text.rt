@@ -3,6 +3,7 @@ ghost use mathlib.Core.Path.{_≡_};
 ghost use Rattle.geometry.specs.Limits.{total};
 ghost use Rattle.channel.specs.Channel.{channelTypes};
 ghost use Rattle.library.specs.ReadingText.{verdictInNumbers, judgeAnswer};
+use crate::given::FiguresGiven;
 use reading::Verdict;
 use reading::judge_lent;
 use refusal::Refusal;
@@ -11,16 +12,6 @@ use refusal::Refusal;
 const QUIET: u32 = 1;
 
 const ALARM: u32 = 2;
-
-// An envelope's n, M, L, ending (1 for Settled, 0 for Budget) and moves.
-#[repr(C)]
-pub struct FiguresGiven {
-    pub n: usize,
-    pub scaled_squared_radius: u64,
-    pub scaled_lower_bound: u64,
-    pub settled: u32,
-    pub moves: u32,
-}
 
 // What a reading answers: number 0 where accepted, else the refusal's number and line, the others being 0. `verdict` is 1 for
 // Quiet and 2 for Alarm, whose excess is s - M.

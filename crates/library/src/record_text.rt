@@ -10,8 +10,8 @@ ghost use Rattle.library.specs.RecordText.{givenWhole, GivenPlaces, enve
 use crate::EnvelopeAnswer;
 use crate::fill_centre;
 use crate::fill_weights;
+use crate::given::FiguresGiven;
 use crate::hand_out;
-use crate::reading_text::FiguresGiven;
 use ball::Ball;
 use envelope::Envelope;
 use envelope::Figures;
