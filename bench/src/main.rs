@@ -3,6 +3,8 @@
 //! plain is given of the medians and of the minima.
 
 mod bytes;
+mod charts;
+mod mark;
 mod measure;
 mod plain;
 mod random;
@@ -42,6 +44,7 @@ fn main() {
     texts::measure_texts(&mut random);
     readings::measure_readings(&mut random);
     records::measure_records(&mut random);
+    charts::measure_charts(&mut random);
 }
 
 fn measure_ball(random: &mut Random) {

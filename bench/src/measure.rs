@@ -18,8 +18,16 @@ pub fn print_header(amount: &str) {
 
 /// The seconds of the median round of each, per run through all the work.
 pub struct Medians {
-    pub proved: f64,
-    pub plain: f64,
+    proved: f64,
+    plain: f64,
+}
+
+impl Medians {
+    /// Prints how many of so many pieces each gets through in a second.
+    pub fn print_rate(&self, name: &str, count: usize, pieces: &str) {
+        let [proved, plain] = [self.proved, self.plain].map(|time| count as f64 / time);
+        println!("{name}: {proved:.0} {pieces} a second, plain {plain:.0}");
+    }
 }
 
 /// Prints one line: the median round of each, per run through all the work, and both ratios.

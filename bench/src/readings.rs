@@ -38,9 +38,7 @@ pub fn measure_readings(random: &mut Random) {
         for (way, plain) in [("fields", by_fields as Judge), ("one pass", in_one_pass)] {
             let name = format!("judge {n}, {way}");
             let medians = measure(&name, &work, proved, plain, quiet_bytes);
-            let [proved, plain] =
-                [medians.proved, medians.plain].map(|time| READINGS as f64 / time);
-            println!("{name}: {proved:.0} readings a second, plain {plain:.0}");
+            medians.print_rate(&name, READINGS, "readings");
         }
     }
 }

@@ -2,7 +2,7 @@
 //! every row has a line. Plain Rust goes by lines and fields with the numbers of the standard
 //! library, and in one pass written for speed.
 
-use crate::measure::{Medians, measure, print_header};
+use crate::measure::{measure, print_header};
 use crate::plain;
 use crate::random::Random;
 use crate::readings::given;
@@ -49,7 +49,8 @@ pub fn measure_records(random: &mut Random) {
     ] {
         let name = format!("write record, {way}");
         let amount = |work: &Work, outcome: &Written| bytes(work, outcome.0.is_ok());
-        print_rate(&name, measure(&name, &work, proved_write, plain, amount));
+        let medians = measure(&name, &work, proved_write, plain, amount);
+        medians.print_rate(&name, RECORDS, "records");
     }
     for (way, plain) in [
         ("fields", read_by_fields as Reader),
@@ -57,13 +58,9 @@ pub fn measure_records(random: &mut Random) {
     ] {
         let name = format!("read record, {way}");
         let amount = |work: &Work, outcome: &Read| bytes(work, outcome.0.is_ok());
-        print_rate(&name, measure(&name, &work, proved_read, plain, amount));
+        let medians = measure(&name, &work, proved_read, plain, amount);
+        medians.print_rate(&name, RECORDS, "records");
     }
-}
-
-fn print_rate(name: &str, medians: Medians) {
-    let [proved, plain] = [medians.proved, medians.plain].map(|time| RECORDS as f64 / time);
-    println!("{name}: {proved:.0} records a second, plain {plain:.0}");
 }
 
 impl Work {

@@ -1,6 +1,6 @@
 //! Safe calls of the proved library: reference texts read into rows, a tight ball round them drawn
-//! in whole numbers, the check of weights that anybody has chosen, the verdict on a reading, and the
-//! records of envelopes written and read.
+//! in whole numbers, the check of weights that anybody has chosen, the verdict on a reading, the
+//! records of envelopes written and read, and the figures of charts and of the panel.
 //!
 //! There are m rows (1 to 256) of n channels (1 to 8); each coordinate is a whole number from
 //! -4,000 to 4,000. Rows are lent as one list, row by row: the first m·n places count, and the
@@ -99,9 +99,36 @@
 //! assert_eq!(read, envelope);
 //! # Ok::<(), cundarivo::Refusal>(())
 //! ```
+//!
+//! A *chart* has two channels of an envelope, counted from 1, or the same one twice. [`chart`] gives
+//! the envelope's mark in it: a dot where M is 0, else a disc, whose radius is the smallest whole
+//! number with a square of at least M, over D. Each number is an `f64` that equals its fraction
+//! exactly. The *panel* shows the centre to the nearest whole step, halves away from zero: [`panel`].
+//! [`chart_given`] and [`panel_into`] are the library's own calls.
+//!
+//! ```
+//! use cundarivo::{Figures, Mark, Point};
+//!
+//! // The envelope of the record above.
+//! let figures = Figures {
+//!     n: 2,
+//!     types: vec![1, 4],
+//!     scaled_centre: vec![196_608, 262_144],
+//!     scaled_squared_radius: 107_374_182_400,
+//!     scaled_lower_bound: 107_374_182_400,
+//!     ending: cundarivo::Ending::Settled,
+//!     moves: 2,
+//! };
+//! let centre = Point { horizontal: 3.0, vertical: 4.0 };
+//! assert_eq!(cundarivo::chart(&figures, 1, 2)?, Mark::Disc { centre, radius: 5.0 });
+//! assert_eq!(cundarivo::panel(&figures)?, [3, 4]);
+//! # Ok::<(), cundarivo::Refusal>(())
+//! ```
 
+mod chart;
 mod record;
 
+pub use chart::{Mark, MarkAnswer, PanelAnswer, Point, chart, chart_given, panel, panel_into};
 pub use record::{
     Envelope, RECORD_BYTES, WrittenAnswer, read_record, read_record_into, write_record,
     write_record_into,
@@ -131,7 +158,7 @@ pub const TOTAL: u32 = 65_536;
 /// | 5 | a label that an earlier row has |
 /// | 6 | no row, or a 257th |
 /// | 7 | a lent table of fewer than m·n places |
-/// | 8 | n, m, a coordinate, a type code or a figure of an envelope outside its limits, rows of fewer than m·n places, a weight list not of m places or, in an envelope, of fewer than m or more than [`ROWS`], types or X of fewer than n places, an ending that is neither 0 nor 1 |
+/// | 8 | n, m, a coordinate, a type code or a figure of an envelope outside its limits, a channel of a chart outside 1 to n, rows of fewer than m·n places, a weight list not of m places or, in an envelope, of fewer than m or more than [`ROWS`], types or X of fewer than n places, an ending that is neither 0 nor 1 |
 /// | 9 | a budget above 1,000,000 |
 /// | 10 | a tag of a reading that is not the envelope's |
 /// | 11 | a record that is not in form |
@@ -153,7 +180,9 @@ impl fmt::Display for Refusal {
             5 => "label used on an earlier row",
             6 => "no row, or a 257th",
             7 => "lent table too short",
-            8 => "rows, channels, a coordinate, the weight list or a figure outside the limits",
+            8 => {
+                "rows, channels, a coordinate, the weight list, a figure or a chart channel outside the limits"
+            }
             9 => "budget above 1,000,000",
             10 => "tag that is not the envelope's",
             11 => "record not in form",
@@ -208,10 +237,10 @@ pub struct Checked {
     pub settled: bool,
 }
 
-/// The figures of an envelope, which a reading is judged against. Whoever made them, [`judge`]
-/// refuses by 8 those outside their limits; [`Drawing::figures`] and, with moves of at most
-/// 1,000,000, [`Checked::figures`] give figures that are within them, for rows and types of a
-/// reference text.
+/// The figures of an envelope, which a reading is judged against, and of which charts and the panel
+/// are made. Whoever made them, [`judge`], [`chart`] and [`panel`] refuse by 8 those outside their
+/// limits; [`Drawing::figures`] and, with moves of at most 1,000,000, [`Checked::figures`] give
+/// figures that are within them, for rows and types of a reference text.
 #[derive(Clone, Debug, PartialEq, Eq, Hash)]
 pub struct Figures {
     /// The number of channels, 1 to [`CHANNELS`].
@@ -359,7 +388,7 @@ pub struct LabelAnswer {
 }
 
 /// The figures of an envelope as they are given to the library, but for its types and X; see
-/// [`judge_given`] and [`write_record_into`].
+/// [`judge_given`], [`write_record_into`], [`chart_given`] and [`panel_into`].
 #[repr(C)]
 #[derive(Clone, Copy, Debug, PartialEq, Eq, Hash)]
 pub struct FiguresGiven {

@@ -1,19 +1,16 @@
 //! One record read, and one envelope written, through the product and through the outside
 //! implementation.
 
-use crate::compare_reading::{given, owned};
 use crate::lent::{self, Followed, Guarded, Room};
+use crate::product::{BEHIND_TYPES, LentFigures, given, owned, refused};
 use outside::random::Random;
 use outside::records::{self, Envelope, TypedRows};
 use outside::rules::{CHANNEL_LIMIT, ROW_LIMIT, Refusal};
 
 /// What follows the lent slices in memory. A product that read past an end would take it for the
-/// text's byte 10 and one more line, for rows, types and X within their limits, or for a weight past
-/// m.
+/// text's byte 10 and one more line, for rows within their limits, or for a weight past m.
 const BEHIND_TEXT: &[u8] = b"\nW,256,1\n";
 const BEHIND_PLACES: [i32; 9] = [0; 9];
-const BEHIND_TYPES: [u8; 9] = [1; 9];
-const BEHIND_CENTRE: [i64; 9] = [0; 9];
 const BEHIND_WEIGHTS: [u32; 9] = [1; 9];
 
 /// Rows and types lent to be read.
@@ -129,13 +126,6 @@ fn in_numbers(outcome: &Result<Envelope, Refusal>) -> cundarivo::EnvelopeAnswer 
     answer
 }
 
-fn refused(refusal: Refusal) -> cundarivo::Refusal {
-    cundarivo::Refusal {
-        number: refusal.number,
-        line: refusal.line,
-    }
-}
-
 /// An envelope as the wrapper takes and gives it.
 fn owned_envelope(envelope: &Envelope) -> Option<cundarivo::Envelope> {
     Some(cundarivo::Envelope {
@@ -147,8 +137,7 @@ fn owned_envelope(envelope: &Envelope) -> Option<cundarivo::Envelope> {
 /// The slices of an envelope lent to be read.
 #[derive(Clone, Debug, PartialEq, Eq)]
 struct LentWriting {
-    types: Followed<u8>,
-    centre: Followed<i64>,
+    figures: LentFigures,
     weights: Followed<u32>,
     places: Followed<i32>,
 }
@@ -165,11 +154,9 @@ pub struct Writing {
 
 impl Writing {
     pub fn new(envelope: &Envelope, places: &[i32], m: usize) -> Writing {
-        let figures = &envelope.figures;
         Writing {
             lent: LentWriting {
-                types: Followed::new(&figures.types, &BEHIND_TYPES),
-                centre: Followed::new(&figures.scaled_centre, &BEHIND_CENTRE),
+                figures: LentFigures::new(&envelope.figures),
                 weights: Followed::new(&envelope.weights, &BEHIND_WEIGHTS),
                 places: Followed::new(places, &BEHIND_PLACES),
             },
@@ -192,8 +179,8 @@ impl Writing {
         let lent = self.lent.clone();
         let answer = cundarivo::write_record_into(
             given(&self.envelope.figures),
-            lent.types.slice(),
-            lent.centre.slice(),
+            lent.figures.types.slice(),
+            lent.figures.centre.slice(),
             lent.weights.slice(),
             lent.places.slice(),
             self.m,

@@ -242,7 +242,8 @@ fn lend_nine(figures: &mut EnvelopeFigures) {
     figures.scaled_centre.resize(figures.n, 0);
 }
 
-fn largest_counts(n: usize) -> [usize; 6] {
+/// As large as a count can be, or the same as n in 8, 16 or 32 bits.
+pub fn largest_counts(n: usize) -> [usize; 6] {
     [
         usize::MAX,
         1 << 61,

@@ -5,6 +5,8 @@
 //! - `reference`: reading a reference text and finding its labels, and the refusals of both.
 //! - `readings`: the figures of an envelope, the verdict on a reading, and the refusals.
 //! - `records`: reading and writing the record of an envelope, and the refusals of both.
+//! - `fractions`: exact fractions, and the bits of the binary64 number that equals one.
+//! - `charts`: the mark of an envelope in a chart, what the panel shows, and the refusals of both.
 //! - `random`: a seeded source of numbers.
 //! - `sets`: reference sets of many shapes and sizes, whole and damaged.
 //! - `cases`: arguments of the two calls, with budgets and weights of many kinds.
@@ -30,17 +32,25 @@
 //! - `writing_faults`: envelopes with one fault, and with two.
 //! - `known_records`: the records that document 01 and the list of bad input name.
 //! - `known_writings`: the envelopes that they name.
+//! - `chart_figures`: figures for charts and the panel, and channels within the limits and outside.
+//! - `projections`: what the radius of a mark says of the rows, tested in whole numbers.
+//! - `known_charts`: the charts and panels that document 01 and the list of bad input name.
 
 pub mod cases;
+pub mod chart_figures;
+pub mod charts;
 pub mod damage;
 pub mod demands;
 pub mod envelopes;
 pub mod faults;
+pub mod fractions;
 pub mod known;
+pub mod known_charts;
 pub mod known_readings;
 pub mod known_records;
 pub mod known_texts;
 pub mod known_writings;
+pub mod projections;
 pub mod random;
 pub mod reading_damage;
 pub mod reading_faults;

@@ -1,0 +1,63 @@
+//! The figures of an envelope, and refusals, as the product takes and gives them.
+
+use crate::lent::Followed;
+use outside::readings::EnvelopeFigures;
+use outside::rules::Refusal;
+
+/// What follows the lent slices in memory: a product that read past an end would take it for types
+/// and X within their limits.
+pub const BEHIND_TYPES: [u8; 9] = [1; 9];
+const BEHIND_CENTRE: [i64; 9] = [0; 9];
+
+/// The types and X of an envelope, lent to be read.
+#[derive(Clone, Debug, PartialEq, Eq)]
+pub struct LentFigures {
+    pub types: Followed<u8>,
+    pub centre: Followed<i64>,
+}
+
+impl LentFigures {
+    pub fn new(figures: &EnvelopeFigures) -> LentFigures {
+        LentFigures {
+            types: Followed::new(&figures.types, &BEHIND_TYPES),
+            centre: Followed::new(&figures.scaled_centre, &BEHIND_CENTRE),
+        }
+    }
+}
+
+/// The figures as they are given to the library's own calls.
+pub fn given(figures: &EnvelopeFigures) -> cundarivo::FiguresGiven {
+    cundarivo::FiguresGiven {
+        n: figures.n,
+        scaled_squared_radius: figures.scaled_squared_radius,
+        scaled_lower_bound: figures.scaled_lower_bound,
+        settled: figures.settled,
+        moves: figures.moves,
+    }
+}
+
+/// The figures as the wrapper takes them; it takes no other endings than the two.
+pub fn owned(figures: &EnvelopeFigures) -> Option<cundarivo::Figures> {
+    let ending = match figures.settled {
+        0 => cundarivo::Ending::Budget,
+        1 => cundarivo::Ending::Settled,
+        _ => return None,
+    };
+    Some(cundarivo::Figures {
+        n: figures.n,
+        types: figures.types.clone(),
+        scaled_centre: figures.scaled_centre.clone(),
+        scaled_squared_radius: figures.scaled_squared_radius,
+        scaled_lower_bound: figures.scaled_lower_bound,
+        ending,
+        moves: figures.moves,
+    })
+}
+
+/// A refusal as the wrapper gives it.
+pub fn refused(refusal: Refusal) -> cundarivo::Refusal {
+    cundarivo::Refusal {
+        number: refusal.number,
+        line: refusal.line,
+    }
+}
