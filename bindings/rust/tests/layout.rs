@@ -21,7 +21,6 @@ macro_rules! assert_layout {
 }
 
 #[test]
-#[rustfmt::skip]
 fn structs_have_the_layout_of_the_header() {
     assert_layout!(ReferenceAnswer, 24, number 0, line 4, m 8, n 16);
     assert_layout!(LabelAnswer, 16, start 0, length 8);
