@@ -103,8 +103,8 @@ pub fn read_heading(line: &[u8], word: &[u8]) -> Heading
     read_tags(line, count_end + 1, n)
 }
 
-// The tag of a code.
-fn put_tag(out: &mut [u8], at: usize, code: u8) -> usize
+// The tag of a code. Answers the index after it.
+pub fn put_tag(out: &mut [u8], at: usize, code: u8) -> usize
     requires { ⌜ at + tagLimit ≤ length (now out) ⌝ }
     ensures { λ r. ⌜ Put (tagOf channelTypes code) (now (out .entry)) at (now (out .exit)) r ⌝ }
 {

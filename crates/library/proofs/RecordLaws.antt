@@ -2,8 +2,9 @@
 --     filled-given                    the envelope of the arrays that are filled with what is lent
 --     given-places                    what is given whole has the places of an envelope
 --     write-chosen                    the answer of writing, by whether what is given is whole
+--     numbered                        what is written of a text, its answer being in numbers
 use Prim.Native.Nat.{ℕ}
-use mathlib.Core.Path.{_≡_, ap, ap₂, _∙_}
+use mathlib.Core.Path.{_≡_, sym, ap, ap₂, _∙_}
 use mathlib.Core.Bool.{Bool, true, _&&_}
 use mathlib.Core.List.{List}
 use borrow.Author.Tests.{leb-true}
@@ -13,13 +14,15 @@ use lib.ListN.{length, replicate}
 use Rattle.integers.specs.Tests.{both}
 use Rattle.lists.specs.Filled.{filled}
 use Rattle.refusal.specs.Number.{outside-limits}
-use Rattle.refusal.specs.Outcome.{refused, choose}
+use Rattle.refusal.specs.Outcome.{refused, numberOf, choose}
 use Rattle.geometry.specs.Limits.{rowLimit, channelLimit}
 use Rattle.channel.specs.Channel.{ChannelType}
-use Rattle.record.specs.Answers.{notWritten, recordWritten}
+use Rattle.record.specs.Answers.{notWritten, textWritten, recordWritten}
+use Rattle.record.specs.declared.TextWritten.{TextWritten}
 use Rattle.library.specs.Given.{figuresGiven}
 use Rattle.library.specs.RecordText.{givenWhole, GivenPlaces, envelopeGiven, writtenInNumbers, writeAnswer}
 use Rattle.library.specs.declared.given.FiguresGiven.{FiguresGiven}
+use Rattle.library.specs.declared.record_text.WrittenAnswer.{WrittenAnswer}
 
 module _ (given : FiguresGiven) (codes : List ℕ) (centre : List ℤ) (ws : List ℕ) where
   pub filled-given : (types : List ℕ) (X : List ℤ) (weights : List ℕ)
@@ -59,3 +62,9 @@ module _ (given : FiguresGiven) (codes : List ℕ) (centre : List ℤ) (ws : Lis
           (λ _. recordWritten D limit types rows m (envelopeGiven limit given codes centre ws) places)
           (λ _. notWritten (refused outside-limits))))
           e
+
+pub numbered : (text lent : List ℕ) (places : ℕ) {after : List ℕ} {w : TextWritten} {a : WrittenAnswer} → a ≡ writtenInNumbers w → w ≡ textWritten text places
+    → after ≡ filled (numberOf (w .outcome)) (w .length) text lent
+    → (a ≡ writtenInNumbers (textWritten text places)) × (after ≡ filled (a .number) (a .length) text lent)
+numbered text lent places is written filling =
+    (is ∙ ap writtenInNumbers written, filling ∙ ap (λ (x : WrittenAnswer). filled (x .number) (x .length) text lent) (sym is))

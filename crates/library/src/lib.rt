@@ -2,6 +2,7 @@
 // written to slices of the caller's, so that these structs stay as they are where the row limit changes.
 pub mod chart_numbers;
 pub mod given;
+pub mod programs;
 pub mod reading_text;
 pub mod record_text;
 pub mod reference_text;

@@ -21,7 +21,7 @@ use record::TextWritten;
 use record::read;
 use record::write;
 
-// What writing a record answers: number 0 where accepted, else the refusal's number and line, the length being 0.
+// What writing a record, or the output of a program, answers: number 0 where accepted, else the refusal's number and line, the length being 0.
 #[repr(C)]
 pub struct WrittenAnswer {
     pub number: u32,
@@ -62,7 +62,7 @@ pub extern "C" fn cundarivo_read_record(
     hand_out(outcome, ball, figures.moves, &stated, m, n, centre, weights)
 }
 
-fn written_in_numbers(written: TextWritten) -> WrittenAnswer
+pub fn written_in_numbers(written: TextWritten) -> WrittenAnswer
     ensures { λ r. ⌜ r ≡ writtenInNumbers written ⌝ }
 {
     let outcome = written.outcome;

@@ -2,13 +2,15 @@
 --     filled number count source lent        a lent slice after a call that answers with this number
 --     Filling, filling-none, -next, -done    a lent slice as it is filled place by place
 --     filled-refused                         one that a refused call leaves
+--     filled-length                          it has as many places as before
 use Prim.Native.Nat.{ℕ, zero, suc, _+_, _≤_, _<_, zero-le}
 use mathlib.Core.Path.{_≡_, refl, sym, ap, ap₂, _∙_}
 use mathlib.Core.List.{List, [], _∷_, _++_}
 use native.Mathlib.Omega.{arith}
 use native.Mathlib.Nat.{le-antisymm, le-of-suc-le-suc, not-suc-le-zero}
 use native.Mathlib.Numerals.{add-one}
-use lib.ListN.{length, getD, set, take, drop, length-set}
+use lib.ListN.{length, getD, set, take, drop, length-set, length-append, length-drop}
+use lib.Seq.{length-take-le}
 
 -- where accepted, the first places are the source's and the others as they were lent; else every place is
 unfoldable pub filled : {A : Type 0} → ℕ → ℕ → List A → List A → List A
@@ -52,3 +54,10 @@ pub filled-refused : {A : Type 0} (number count : ℕ) (source lent : List A) �
 unfolding filled
 filled-refused zero count source lent h = absurd (h refl)
 filled-refused (suc number) count source lent h = refl
+
+pub filled-length : {A : Type 0} (number count : ℕ) (source lent : List A) → count ≤ length source → count ≤ length lent
+    → length (filled number count source lent) ≡ length lent
+unfolding filled
+filled-length zero count source lent h k =
+    length-append (take count source) (drop count lent) ∙ omega (arith, length-take-le count source h, length-drop count lent)
+filled-length (suc number) count source lent h k = refl

@@ -1,8 +1,11 @@
 -- What holds of the two calls as they stand: D = 65,536, 256 rows and document 01's types.
 --     Arrays e                       what every envelope of the code has: 256 weights of 32 bits
---     house-text                     a record has at most 65,536 bytes, so that 1 never meets one of ours
+--     house-room                     a record is within recordRoom
+--     house-text                     so that it has at most 65,536 bytes, and 1 never meets one of ours
 --     house-written-read             2.11: a written record, read against the same rows and codes, gives its own envelope, cleared
---     house-drawn-read               a drawn envelope's record, read against the same rows and codes, gives that envelope
+--     house-drawn-room               so is a drawn envelope's record
+--     house-drawn-written            which is written to every buffer of so many places
+--     house-drawn-read               and, read against the same rows and codes, gives that envelope
 --     house-unread, house-refused    writing refuses with 12 exactly the envelopes whose record reading turns back
 use Prim.Native.Nat.{ℕ, _^_, _≤_}
 use mathlib.Core.Path.{_≡_}
@@ -28,12 +31,12 @@ use Rattle.envelope.specs.FigureLaws.{within-figures}
 use Rattle.envelope.specs.Agreement.{cleared, drawnEnvelope}
 use Rattle.envelope.specs.AgreementLaws.{agrees-agreed, agreed-weight}
 use Rattle.envelope.specs.declared.Envelope.{Envelope}
-use Rattle.record_print.specs.Printed.{recordText}
+use Rattle.record_print.specs.Printed.{recordText, recordRoom}
 use Rattle.record_print.specs.PrintedLaws.{record-room}
-use Rattle.record.specs.Answers.{recordRead, notWritten, recordWritten}
+use Rattle.record.specs.Answers.{recordRead, notWritten, written, recordWritten}
 use Rattle.record.specs.declared.EnvelopeRead.{EnvelopeRead}
 use Rattle.record.specs.ReadLaws.{accepting}
-use Rattle.record.specs.WriteLaws.{within-printing, Writing, written-writing}
+use Rattle.record.specs.WriteLaws.{within-printing, Writing, written-writing, writing-written}
 use Rattle.record.specs.TripLaws.{Holds, written-envelope, disagreement-unread, unread-disagreement}
 use Rattle.record.specs.DrawnLaws.{drawn-writing, drawn-read}
 
@@ -44,9 +47,10 @@ pub record Arrays (e : Envelope) : Type 0 where
 holding : (e : Envelope) → Arrays e → Holds rowLimit e
 holding e arrays = record { places = arrays .rows; short = λ i h. omega (arith, arrays .fitting i h) }
 
-pub house-text : (e : Envelope) → Arrays e → figuresWithin total channelTypes (e .figures) ≡ true → length (recordText channelTypes e) ≤ textLimit
+pub house-room : (e : Envelope) → Arrays e → figuresWithin total channelTypes (e .figures) ≡ true
+    → length (recordText channelTypes e) ≤ recordRoom rowLimit
 unfolding recordText
-house-text e arrays kept =
+house-room e arrays kept =
     let figures = within-figures total channelTypes (e .figures) kept in
     omega (
       arith,
@@ -54,6 +58,9 @@ house-text e arrays kept =
       record-room (e .figures) (e .weights) (within-printing channelTypes (e .figures) (e .weights) kept (arrays .rows)) channelTypes house-short
           (omega (arith, figures .moves-limit)) (λ i h. omega (arith, arrays .fitting i h)),
     )
+
+pub house-text : (e : Envelope) → Arrays e → figuresWithin total channelTypes (e .figures) ≡ true → length (recordText channelTypes e) ≤ textLimit
+house-text e arrays kept = omega (arith, house-room e arrays kept)
 
 module _ (rows : List ℤ) (m : ℕ) (e : Envelope) (arrays : Arrays e) (places : ℕ) where
   -- what is read of the envelope's own text, against the same rows and codes
@@ -94,6 +101,13 @@ module _ (rows : List ℤ) (m n : ℕ) (codes : List ℕ) (coded : length codes 
         rows = drawing-length total rowLimit rows m n budget;
         fitting = λ i h. omega (arith, agreed-weight total rowLimit rows m n (r .ball) (r .weights) agreed i);
       }
+
+  pub house-drawn-room : length (recordText channelTypes own) ≤ recordRoom rowLimit
+  house-drawn-room = house-room own own-arrays (own-writing .figures-kept)
+
+  pub house-drawn-written : (places : ℕ) → recordRoom rowLimit ≤ places
+      → recordWritten total rowLimit channelTypes rows m own places ≡ written (length (recordText channelTypes own))
+  house-drawn-written places room = writing-written total rowLimit channelTypes rows m own places own-writing (omega (arith, house-drawn-room))
 
   pub house-drawn-read : recordRead total rowLimit channelTypes rows m n (padded channelLimit codes) (recordText channelTypes own) ≡ accepting own
   house-drawn-read =

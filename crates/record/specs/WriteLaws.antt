@@ -4,12 +4,13 @@
 --     outside-figures, outside-rows      8
 --     refused-writing                    12
 --     text-short, text-fits              a text is written exactly to a buffer that holds it
+--     text-most                          no more places are written than the buffer and the text have
 --     writing-agreed                     past 8 and 12, the record's text is written as any text is
 --     short-writing                      13
 --     each-written                       what holds of each answer holds of the call
 --     written-writing, writing-written   an envelope is written exactly then, to a buffer that holds its text
 --     writing-refused                    12 is met only where limits are kept and agreement is not
-use Prim.Native.Nat.{ℕ, _≤_, _<_}
+use Prim.Native.Nat.{ℕ, _≤_, _<_, zero-le}
 use mathlib.Core.Path.{_≡_, refl, _∙_, ap}
 use mathlib.Core.Bool.{Bool, true, false, _&&_}
 use mathlib.Core.List.{List}
@@ -59,6 +60,14 @@ module _ (text : List ℕ) (places : ℕ) where
 
   pub text-fits : length text ≤ places → textWritten text places ≡ written (length text)
   text-fits h = chosen (le-leb (length text) places h)
+
+  pub text-most : (textWritten text places .length ≤ places) × (textWritten text places .length ≤ length text)
+  text-most = go (leb (length text) places) refl
+    where
+      go : (b : Bool) → leb (length text) places ≡ b
+          → let r = choose b (λ _. written (length text)) (λ _. notWritten (refused buffer-short)) in (r .length ≤ places) × (r .length ≤ length text)
+      go true e = (leb-true (length text) places e, omega arith)
+      go false e = (zero-le, zero-le)
 
 -- ---- a record
 

@@ -20,8 +20,8 @@ use mir.Syntax.{w64}
 use mir.Val.{toZ}
 use Rattle.text.specs.Parts.{comma, lineEnd}
 use Rattle.text.specs.Lines.{printLines}
-use Rattle.text.specs.Put.{numbersAfter, Put}
-use Rattle.text.specs.PutLaws.{put-none, put-byte, put-then, put-as}
+use Rattle.text.specs.Put.{numbersAfter, printNumbers, Put}
+use Rattle.text.specs.PutLaws.{put-none, put-byte, put-then, put-as, put-ended}
 use Rattle.text.specs.UnsignedLaws.{Below, below-none, below-more, held-signed}
 use Rattle.channel.specs.Channel.{channelTypes}
 use Rattle.channel.specs.AnswersLaws.{house-short}
@@ -32,7 +32,7 @@ use Rattle.record_form.specs.Lines.{recordWord, centreWord, resultWord, weightW
 use Rattle.record_form.specs.Record.{printRecord}
 use Rattle.record_form.specs.Weights.{listed}
 use Rattle.record_print.specs.Printed.{recordOf, weightLines, lineRoom, recordRoom, Printing}
-use Rattle.record_print.specs.PrintedLaws.{Small, centre-length, result-numbers, result-length, weight-length, weightLimit, linesFrom, record-lines, heading-most}
+use Rattle.record_print.specs.PrintedLaws.{result-numbers, result-length, weight-length, weightLimit, linesFrom, record-lines, heading-most}
 
 -- a line that is printed, with room for its byte 10
 pub record Line (line out : List ℕ) (at : ℕ) (out′ : List ℕ) (r : ℕ) : Type 0 where
@@ -43,23 +43,22 @@ pub record Line (line out : List ℕ) (at : ℕ) (out′ : List ℕ) (r : ℕ) :
 ending : {line out out′ : List ℕ} {at r : ℕ} → Put line out at out′ r → at + length line < length out → Line line out at out′ r
 ending {line} {out} {out′} {at} {r} f h =
     let within : r < length out′ = omega (arith, f .next, f .same-length) in
-    record { room = omega (arith, f .next); within = within; ended = put-then f (put-byte out′ r lineEnd within) }
+    record { room = omega (arith, f .next); within = within; ended = put-ended f within }
 
 pub weight-below : (row weight : ℕ) → row < 10 ^ 4 → weight < weightLimit → Below (2 ^ 63) (row ∷ weight ∷ [])
 weight-below row weight few small = below-more (2 ^ 63) row (weight ∷ []) (omega arith) (below-more (2 ^ 63) weight [] (omega arith) (below-none (2 ^ 63)))
 
 module _ {out out′ : List ℕ} {at r : ℕ} where
-  pub centre-put : (X : List ℤ) → Small (length X) X → at + 2 + length X * 21 ≤ length out
-      → Put (numbersAfter centreWord X) out at out′ r → Line (printCentre X) out at out′ r
+  pub centre-put : (X : List ℤ) → Put (printNumbers centreWord X) out at out′ r → Put (printCentre X ++ (lineEnd ∷ [])) out at out′ r
   unfolding printCentre
-  centre-put X small h f = ending f (omega (arith, centre-length X small))
+  centre-put X f = f
 
-  pub weight-put : (row weight : ℕ) → row < 10 ^ 4 → weight < weightLimit → at + lineRoom ≤ length out
-      → Put (numbersAfter weightWord (map (toZ w64) (row ∷ weight ∷ []))) out at out′ r → Line (printWeight (record { row = row; weight = weight })) out at out′ r
+  pub weight-put : (row weight : ℕ) → row < 10 ^ 4 → weight < weightLimit
+      → Put (printNumbers weightWord (map (toZ w64) (row ∷ weight ∷ []))) out at out′ r
+      → Put (printWeight (record { row = row; weight = weight }) ++ (lineEnd ∷ [])) out at out′ r
   unfolding printWeight
-  weight-put row weight few small h f =
-      ending (put-as f (ap (numbersAfter weightWord) (held-signed (row ∷ weight ∷ []) (weight-below row weight few small))) refl)
-      (omega (arith, weight-length row weight few small))
+  weight-put row weight few small f =
+      put-as f (ap (printNumbers weightWord) (held-signed (row ∷ weight ∷ []) (weight-below row weight few small))) refl
 
   module _ (M L moves : ℕ) (below : Below (2 ^ 63) (M ∷ L ∷ moves ∷ [])) where
     pub numbers-put : Put (numbersAfter resultWord (map (toZ w64) (M ∷ L ∷ moves ∷ []))) out at out′ r

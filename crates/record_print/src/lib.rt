@@ -21,6 +21,7 @@ use record_form::words::WEIGHT_WORD;
 use text::parts::COMMA;
 use text::parts::LINE_END;
 use text::printing::put_bytes;
+use text::printing::put_line;
 use text::printing::put_numbers;
 
 // `C` and X, with its byte 10.
@@ -30,9 +31,7 @@ fn put_centre(out: &mut [u8], at: usize, centre: &[i64], n: usize) -> usize
     ensures { λ r.
         ⌜ Put (printCentre (take n (now (centre .entry))) ++ (lineEnd ∷ [])) (now (out .entry)) at (now (out .exit)) r ⌝ }
 {
-    let end = put_numbers(out, at, &CENTRE_WORD, centre, n);
-    out[end] = LINE_END;
-    end + 1
+    put_line(out, at, &CENTRE_WORD, centre, n)
 }
 
 // `R`, M, L, moves and the letter, with its byte 10.
@@ -69,9 +68,7 @@ fn put_weight(out: &mut [u8], at: usize, row: usize, weight: u32) -> usize
         ⌜ Put (printWeight (record { row = row; weight = weight }) ++ (lineEnd ∷ [])) (now (out .entry)) at (now (out .exit)) r ⌝ }
 {
     let numbers = [row as i64, weight as i64];
-    let end = put_numbers(out, at, &WEIGHT_WORD, &numbers, 2);
-    out[end] = LINE_END;
-    end + 1
+    put_line(out, at, &WEIGHT_WORD, &numbers, 2)
 }
 
 // The `W` lines of the weights above 0.

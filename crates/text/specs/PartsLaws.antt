@@ -15,6 +15,7 @@
 --     parts-some                       within the text there is one
 --     parts-from                       the first part from an index is up to its end, the others are those from the index after it
 --     part-end                         within the text a part ends within the text
+--     part-separator                   a part that ends before the text does ends at its separator
 --     end-found                        what a search for c from an index on finds is where the part ends
 --     free-end                         no byte c stands in a text exactly where the end of its first part is that of the text
 --     end-of-first                     a part with one after it ends at its separator, whatever follows the list
@@ -34,7 +35,7 @@ use native.Mathlib.Omega.{arith}
 use borrow.Author.Tests.{eqb-true, eq-eqb, ne-eqb, le-leb, lt-leb, leb-false, leb-true, not-true}
 use lib.Dec.{eqb, leb}
 use lib.ListN.{length, getD, take, drop, length-append, length-drop, length-take, drop-of-length-le}
-use lib.Seq.{drop-cons, drop-drop, take-length}
+use lib.Seq.{drop-cons, drop-drop, take-length, getD-drop}
 use Rattle.bytes.specs.Bytes.{indexOf, indexAfter, slice}
 use Rattle.integers.specs.Tests.{both, clash}
 use Rattle.text.specs.Parts.{textLimit, textWithin, same, extend, cut, join, free, allFree, partEnd, PartEnd, partsFrom, partStart}
@@ -221,6 +222,17 @@ index-most c (b ∷ l) = go (eqb b c) (index-most c l)
     go true h = zero-le
     go false h = omega arith
 
+-- the first byte c is a byte c
+index-found : (c : ℕ) (l : List ℕ) → indexOf c l < length l → getD l (indexOf c l) 0 ≡ c
+unfolding indexOf
+index-found c [] h = absurd (omega arith)
+index-found c (b ∷ l) h = go (eqb b c) refl h (index-found c l)
+  where
+    go : (t : Bool) → eqb b c ≡ t → indexAfter t (indexOf c l) < suc (length l) → (indexOf c l < length l → getD l (indexOf c l) 0 ≡ c)
+        → getD (b ∷ l) (indexAfter t (indexOf c l)) 0 ≡ c
+    go true e h f = eqb-true b c e
+    go false e h f = f (omega arith)
+
 -- what follows the list does not move it
 index-append : (c : ℕ) (l more : List ℕ) → indexOf c l < length l → indexOf c (l ++ more) ≡ indexOf c l
 unfolding indexOf
@@ -257,6 +269,12 @@ length-first c l p ps e =
 pub part-end : (c : ℕ) (s : List ℕ) (at : ℕ) → at ≤ length s → PartEnd c s at (partEnd c s at)
 unfolding partEnd
 part-end c s at h = record { is = refl; low = omega arith; high = omega (arith, index-most c (drop at s), length-drop at s) }
+
+pub part-separator : (c : ℕ) (s : List ℕ) (at e : ℕ) → PartEnd c s at e → e < length s → getD s e 0 ≡ c
+unfolding partEnd
+part-separator c s at e p h =
+    ap (λ k. getD s k 0) (p .is) ∙ sym (getD-drop at s (indexOf c (drop at s)) 0)
+    ∙ index-found c (drop at s) (omega (arith, p .is, length-drop at s))
 
 pub end-found : (c : ℕ) (s : List ℕ) (at e : ℕ) → e ≡ at + indexOf c (slice at (length s) s) → e ≤ length s → PartEnd c s at e
 unfolding slice partEnd

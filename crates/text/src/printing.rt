@@ -5,7 +5,7 @@ ghost use lib.IntN.{pos, natAbs};
 ghost use lib.ListN.{length, getD, take};
 ghost use Rattle.text.specs.Number.{printMagnitude, print};
 ghost use Rattle.text.specs.Saturated.{magnitudeLimit};
-ghost use Rattle.text.specs.Put.{numbersAfter, numbersLine, Put};
+ghost use Rattle.text.specs.Put.{numbersAfter, printNumbers, Put};
 use crate::parts::COMMA;
 use crate::parts::LINE_END;
 
@@ -87,7 +87,7 @@ pub fn put_line(out: &mut [u8], at: usize, word: &[u8], numbers: &[i64], count: 
     requires { ⌜ (count ≤ length (now numbers)) × (((k : ℕ) → k < count → natAbs (getD (now numbers) k (pos 0)) < 2 ^ 63)
         × (at + length (now word) + count * 21 < length (now out))) ⌝ }
     ensures { λ r.
-        ⌜ Put (numbersLine (now (word .entry)) (take count (now (numbers .entry)))) (now (out .entry)) at (now (out .exit)) r ⌝ }
+        ⌜ Put (printNumbers (now (word .entry)) (take count (now (numbers .entry)))) (now (out .entry)) at (now (out .exit)) r ⌝ }
 {
     let end = put_numbers(out, at, word, numbers, count);
     out[end] = LINE_END;

@@ -1,0 +1,64 @@
+// The programs for C and Rust: each call takes the whole input of a program and hands out its whole output, the line of a refused text
+// included.
+ghost use mathlib.Core.Path.{_≡_};
+ghost use lib.ListN.{length};
+ghost use Rattle.geometry.specs.Limits.{total, rowLimit};
+ghost use Rattle.lists.specs.Filled.{filled};
+ghost use Rattle.channel.specs.Channel.{channelTypes};
+ghost use Rattle.record.specs.Answers.{textWritten};
+ghost use Rattle.service.specs.Programs.{drawOutput, verifyOutput, judgeOutput, panelOutput};
+ghost use Rattle.library.specs.RecordText.{writtenInNumbers};
+use crate::record_text::WrittenAnswer;
+use crate::record_text::written_in_numbers;
+
+// The program `draw`: the record of the drawing of a reference text's rows. It fills the first `length` places of `output` where accepted, and writes
+// nothing else. Refused: 13.
+#[no_mangle]
+pub extern "C" fn cundarivo_program_draw(input: &[u8], output: &mut [u8]) -> WrittenAnswer
+    ensures answer { λ r.
+        ⌜ r ≡ writtenInNumbers (textWritten (drawOutput total rowLimit channelTypes (now (input .entry))) (length (now (output .entry)))) ⌝ }
+    ensures output_filled { λ r.
+        ⌜ now (output .exit) ≡ filled (r .number) (r .length) (drawOutput total rowLimit channelTypes (now (input .entry)))
+        (now (output .entry)) ⌝ }
+{
+    written_in_numbers(service::draw::draw(input, output))
+}
+
+// The program `verify`: whether a record agrees with a reference text. It fills the first `length` places of `output` where accepted, and writes
+// nothing else. Refused: 13.
+#[no_mangle]
+pub extern "C" fn cundarivo_program_verify(input: &[u8], output: &mut [u8]) -> WrittenAnswer
+    ensures answer { λ r.
+        ⌜ r ≡ writtenInNumbers (textWritten (verifyOutput total rowLimit channelTypes (now (input .entry))) (length (now (output .entry)))) ⌝ }
+    ensures output_filled { λ r.
+        ⌜ now (output .exit) ≡ filled (r .number) (r .length) (verifyOutput total rowLimit channelTypes (now (input .entry)))
+        (now (output .entry)) ⌝ }
+{
+    written_in_numbers(service::verify::verify(input, output))
+}
+
+// The program `judge`: the verdicts on readings against a record that agrees with a reference text. It fills the first `length` places of `output` where accepted, and writes
+// nothing else. Refused: 13.
+#[no_mangle]
+pub extern "C" fn cundarivo_program_judge(input: &[u8], output: &mut [u8]) -> WrittenAnswer
+    ensures answer { λ r.
+        ⌜ r ≡ writtenInNumbers (textWritten (judgeOutput total rowLimit channelTypes (now (input .entry))) (length (now (output .entry)))) ⌝ }
+    ensures output_filled { λ r.
+        ⌜ now (output .exit) ≡ filled (r .number) (r .length) (judgeOutput total rowLimit channelTypes (now (input .entry)))
+        (now (output .entry)) ⌝ }
+{
+    written_in_numbers(service::judge::judge(input, output))
+}
+
+// The program `panel`: the centre of such a record in whole steps. It fills the first `length` places of `output` where accepted, and writes
+// nothing else. Refused: 13.
+#[no_mangle]
+pub extern "C" fn cundarivo_program_panel(input: &[u8], output: &mut [u8]) -> WrittenAnswer
+    ensures answer { λ r.
+        ⌜ r ≡ writtenInNumbers (textWritten (panelOutput total rowLimit channelTypes (now (input .entry))) (length (now (output .entry)))) ⌝ }
+    ensures output_filled { λ r.
+        ⌜ now (output .exit) ≡ filled (r .number) (r .length) (panelOutput total rowLimit channelTypes (now (input .entry)))
+        (now (output .entry)) ⌝ }
+{
+    written_in_numbers(service::panel::panel(input, output))
+}

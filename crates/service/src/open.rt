@@ -1,0 +1,25 @@
+// A reference text and a record: what the programs start from that need an envelope.
+ghost use mathlib.Core.Path.{_≡_};
+ghost use Rattle.geometry.specs.Limits.{total, rowLimit};
+ghost use Rattle.channel.specs.Channel.{channelTypes};
+ghost use Rattle.service.specs.Programs.{recordAgainst};
+use figures::limits::PLACES;
+use record::EnvelopeRead;
+use refusal::Outcome;
+
+// Reads a record against the rows and tags of a reference text. Refused: as the reference text is, then as the record is.
+pub fn open(reference: &[u8], record_text: &[u8]) -> EnvelopeRead
+    ensures { λ r.
+        ⌜ r ≡ recordAgainst total rowLimit channelTypes (now (reference .entry)) (now («record_text» .entry)) ⌝ }
+{
+    let mut table = [0i32; PLACES];
+    let read = reference::read::read(reference, &mut table);
+    let outcome = read.outcome;
+    let n = read.n;
+    let places = read.m * n;
+    let types = read.types;
+    match outcome {
+        Outcome::Accepted => { record::read(&table[..places], read.m, n, &types[..n], record_text) }
+        Outcome::Refused(refusal) => record::not_read(refusal.number, refusal.line),
+    }
+}
