@@ -1,6 +1,7 @@
 //! Safe calls of the proved library: reference texts read into rows, a tight ball round them drawn
 //! in whole numbers, the check of weights that anybody has chosen, the verdict on a reading, the
-//! records of envelopes written and read, and the figures of charts and of the panel.
+//! records of envelopes written and read, and the figures of charts and of the panel. [`programs`]
+//! has the same as whole programs, text to text.
 //!
 //! There are m rows (1 to 256) of n channels (1 to 8); each coordinate is a whole number from
 //! -4,000 to 4,000. Rows are lent as one list, row by row: the first m·n places count, and the
@@ -126,6 +127,7 @@
 //! ```
 
 mod chart;
+pub mod programs;
 mod record;
 
 pub use chart::{Mark, MarkAnswer, PanelAnswer, Point, chart, chart_given, panel, panel_into};
