@@ -5,23 +5,23 @@ use crate::known_records::{RECORD, RECORD_BUDGET_1};
 use crate::programs::Program;
 use crate::reference::TEXT_LIMIT;
 
-/// An input by name, the program that reads it, and what that prints.
+/// By name, the programs with the input of each, and what all of them print.
 #[derive(Clone, Debug)]
 pub struct KnownInput {
     pub name: &'static str,
-    pub program: Program,
-    pub input: Vec<u8>,
+    pub runs: Vec<(Program, Vec<u8>)>,
     pub output: Vec<u8>,
 }
 
 /// Document 01's reference text: the centre is (3, 4) and the radius is 5.
 pub const REFERENCE: &str = "REF,2,TOC,CND\nA,0,0\nB,6,0\nC,0,8\n";
-/// A reading of a row, so that s is M.
-const AT_THE_EDGE: &str = "B,TOC,6,CND,0\n";
 /// A reading of the centre.
 const READING: &str = "LOOP-1,TOC,3,CND,4\n";
 /// Several times the limit on three texts.
 const MEGABYTES: usize = 3 << 20;
+
+/// The programs that read a record.
+const READERS: [Program; 3] = [Program::Verify, Program::Judge, Program::Panel];
 
 fn known(
     name: &'static str,
@@ -31,8 +31,41 @@ fn known(
 ) -> KnownInput {
     KnownInput {
         name,
-        program,
-        input: input.into(),
+        runs: vec![(program, input.into())],
+        output: output.into(),
+    }
+}
+
+/// The same input of several programs.
+fn known_of(
+    programs: &[Program],
+    name: &'static str,
+    input: impl Into<Vec<u8>>,
+    output: &str,
+) -> KnownInput {
+    let input = input.into();
+    KnownInput {
+        name,
+        runs: programs
+            .iter()
+            .map(|&program| (program, input.clone()))
+            .collect(),
+        output: output.into(),
+    }
+}
+
+/// Two texts of the programs that read a record; behind the record stands a reading for `judge`.
+fn two_texts(name: &'static str, reference: &str, record: &str, output: &str) -> KnownInput {
+    let run = |program| {
+        let behind = match program {
+            Program::Judge => format!("\n{READING}"),
+            _ => String::new(),
+        };
+        (program, format!("{reference}\n{record}{behind}").into())
+    };
+    KnownInput {
+        name,
+        runs: READERS.map(run).into(),
         output: output.into(),
     }
 }
@@ -49,19 +82,6 @@ fn judged(
 ) -> KnownInput {
     let texts = [REFERENCE.as_bytes(), RECORD.as_bytes(), readings.as_ref()];
     known(name, Program::Judge, texts.join(&b'\n'), output)
-}
-
-/// What stands behind the record of an input: for `judge` a parting line and a reading.
-fn behind_record(program: Program) -> String {
-    match program {
-        Program::Judge => format!("\n{READING}"),
-        _ => String::new(),
-    }
-}
-
-/// An input of two texts, and of one reading for `judge`.
-fn two_texts(program: Program, reference: &str, record: &str) -> String {
-    format!("{reference}\n{record}{}", behind_record(program))
 }
 
 /// One row labelled A with this value, under TOC.
@@ -94,39 +114,24 @@ fn readings_of_length(length: usize) -> String {
 }
 
 pub fn examples() -> Vec<KnownInput> {
-    let small = "REF,1,TOC\nA,5\n\nENV,1,TOC\nC,327680\nR,0,0,0,S\nW,1,65536\n";
-    let pair = "ENV,1,TOC\nC,327680\nR,107374182400,107374182400,1,S\nW,1,32768\nW,2,32768\n";
-    let two = |record: &str| format!("{REFERENCE}\n{record}");
+    let one_row = "ENV,1,TOC\nC,327680\nR,0,0,0,S\nW,1,65536\n";
+    let two_rows = "ENV,1,TOC\nC,327680\nR,107374182400,107374182400,1,S\nW,1,32768\nW,2,32768\n";
+    let small = format!("{}\n{one_row}", under_toc("5"));
+    let whole = format!("{REFERENCE}\n{RECORD}");
+    let budget_1 = format!("{REFERENCE}\n{RECORD_BUDGET_1}");
+    let verified = |name, input: &str| known(name, Program::Verify, input, "OK\n");
+    let shown = |name, input: &str, output: &str| known(name, Program::Panel, input, output);
     vec![
         drawn("draw_record", REFERENCE, RECORD),
-        drawn("draw_rows_0_10", "REF,1,TOC\nA,0\nB,10\n", pair),
-        drawn("draw_one_row", "REF,1,TOC\nA,5\n", &small[15..]),
-        drawn(
-            "draw_rows_5_5",
-            "REF,1,TOC\nA,5\nB,5\n",
-            "ENV,1,TOC\nC,327680\nR,0,0,0,S\nW,1,65536\n",
-        ),
-        known("verify_record", Program::Verify, two(RECORD), "OK\n"),
-        known(
-            "verify_budget_1",
-            Program::Verify,
-            two(RECORD_BUDGET_1),
-            "OK\n",
-        ),
-        known("verify_one_row", Program::Verify, small, "OK\n"),
-        known(
-            "panel_record",
-            Program::Panel,
-            two(RECORD),
-            "TOC,3\nCND,4\n",
-        ),
-        known(
-            "panel_budget_1",
-            Program::Panel,
-            two(RECORD_BUDGET_1),
-            "TOC,0\nCND,4\n",
-        ),
-        known("panel_one_row", Program::Panel, small, "TOC,5\n"),
+        drawn("draw_rows_0_10", "REF,1,TOC\nA,0\nB,10\n", two_rows),
+        drawn("draw_one_row", under_toc("5"), one_row),
+        drawn("draw_rows_5_5", "REF,1,TOC\nA,5\nB,5\n", one_row),
+        verified("verify_record", &whole),
+        verified("verify_budget_1", &budget_1),
+        verified("verify_one_row", &small),
+        shown("panel_record", &whole, "TOC,3\nCND,4\n"),
+        shown("panel_budget_1", &budget_1, "TOC,0\nCND,4\n"),
+        shown("panel_one_row", &small, "TOC,5\n"),
         judged("judge_record", READING, "QUIET\n"),
     ]
 }
@@ -175,12 +180,11 @@ pub fn draw_refusals() -> Vec<KnownInput> {
     ]
 }
 
-/// The refusals of the first two texts, which are alike for three programs.
-fn refusals(program: Program) -> Vec<KnownInput> {
-    let reference =
-        |name, text: &str, output| known(name, program, two_texts(program, text, RECORD), output);
-    let record = |name, text: &str, output| {
-        known(name, program, two_texts(program, REFERENCE, text), output)
+/// The refusals of the first two texts.
+pub fn refusals() -> Vec<KnownInput> {
+    let reference = |name, text: &str, output| two_texts(name, text, RECORD, output);
+    let record = |name, from: &str, to: &str, output| {
+        two_texts(name, REFERENCE, &RECORD.replace(from, to), output)
     };
     vec![
         reference("heading", "REF,2,TOC\nA,1,1\n", "NO,2,1\n"),
@@ -190,64 +194,35 @@ fn refusals(program: Program) -> Vec<KnownInput> {
         reference("no_row", "REF,1,TOC\n", "NO,6,2\n"),
         reference("row_257", &rows(257), "NO,6,258\n"),
         reference("rows_of_another", &rows(256), "NO,12,0\n"),
-        record("record_form_1", &RECORD.replace("ENV", "REF"), "NO,11,1\n"),
-        record("record_form_2", &RECORD.replace("C,1", "C,01"), "NO,11,2\n"),
-        record("record_form_3", &RECORD.replace(",S", ",s"), "NO,11,3\n"),
-        record("record_form_5", &RECORD.replace("W,3", "W,2"), "NO,11,5\n"),
-        record("record_letter", &RECORD.replace(",S", ",B"), "NO,12,0\n"),
-        record("record_tags", &RECORD.replace("CND", "TC"), "NO,12,0\n"),
-        record("record_row_4", &RECORD.replace("W,3", "W,4"), "NO,12,0\n"),
-        record("record_is_reference", REFERENCE, "NO,11,1\n"),
-        known(
-            "both",
-            program,
-            two_texts(program, "REF,9\n", "ENV,9\n"),
-            "NO,2,1\n",
-        ),
+        record("record_form_1", "ENV", "REF", "NO,11,1\n"),
+        record("record_form_2", "C,1", "C,01", "NO,11,2\n"),
+        record("record_form_3", ",S", ",s", "NO,11,3\n"),
+        record("record_form_5", "W,3", "W,2", "NO,11,5\n"),
+        record("record_letter", ",S", ",B", "NO,12,0\n"),
+        record("record_tags", "CND", "TC", "NO,12,0\n"),
+        record("record_row_4", "W,3", "W,4", "NO,12,0\n"),
+        two_texts("reference_twice", REFERENCE, REFERENCE, "NO,11,1\n"),
+        two_texts("both_headings", "REF,9\n", "ENV,9\n", "NO,2,1\n"),
     ]
 }
 
-pub fn verify_refusals() -> Vec<KnownInput> {
-    refusals(Program::Verify)
-}
-
-pub fn judge_refusals() -> Vec<KnownInput> {
-    refusals(Program::Judge)
-}
-
-pub fn panel_refusals() -> Vec<KnownInput> {
-    refusals(Program::Panel)
-}
-
-/// Where the first two texts start and end, alike for three programs.
-fn splits(program: Program) -> Vec<KnownInput> {
-    let whole = two_texts(program, REFERENCE, RECORD);
-    let without_end = REFERENCE.trim_end();
-    let with_line = |line: &str| whole.replacen("\n\n", &format!("\n{line}\n"), 1);
-    let split = |name, input: &str, output| known(name, program, input, output);
+/// Where the reference text ends.
+pub fn reference_ends() -> Vec<KnownInput> {
+    let split = |name, input: &str, output| known_of(&READERS, name, input, output);
+    let parted_by = |line: &str| format!("{REFERENCE}{line}{RECORD}\n{READING}");
+    let empty_line_first = format!("\n{}", parted_by("\n"));
+    let without_end = format!("{}\n{RECORD}", REFERENCE.trim_end());
     vec![
         split("nothing", "", "NO,1,0\n"),
         split("one_byte", "R", "NO,2,1\n"),
-        split("empty_line_first", &format!("\n{whole}"), "NO,1,0\n"),
-        split("parting_line_of_a_row", &with_line("A,1,1"), "NO,5,5\n"),
-        split("parting_line_of_byte_13", &with_line("\r"), "NO,3,5\n"),
-        split("parting_line_of_a_blank", &with_line(" "), "NO,3,5\n"),
-        split(
-            "no_parting_line",
-            &format!("{REFERENCE}{RECORD}"),
-            "NO,3,5\n",
-        ),
-        split(
-            "reference_without_end",
-            &format!("{without_end}\n{RECORD}"),
-            "NO,3,5\n",
-        ),
+        split("empty_line_first", &empty_line_first, "NO,1,0\n"),
+        split("no_parting_line", &parted_by(""), "NO,3,5\n"),
+        split("row_for_a_parting_line", &parted_by("A,1,1\n"), "NO,5,5\n"),
+        split("parting_line_of_byte_13", &parted_by("\r\n"), "NO,3,5\n"),
+        split("parting_line_of_a_blank", &parted_by(" \n"), "NO,3,5\n"),
+        split("reference_without_end", &without_end, "NO,3,5\n"),
         split("reference_alone", REFERENCE, "NO,1,0\n"),
-        split(
-            "parting_line_at_the_end",
-            &format!("{REFERENCE}\n"),
-            "NO,1,0\n",
-        ),
+        split("parting_line_last", &format!("{REFERENCE}\n"), "NO,1,0\n"),
         split("one_parting_line", "\n", "NO,1,0\n"),
         split("two_parting_lines_alone", "\n\n", "NO,1,0\n"),
         split("nine_parting_lines_alone", &"\n".repeat(9), "NO,1,0\n"),
@@ -255,126 +230,78 @@ fn splits(program: Program) -> Vec<KnownInput> {
     ]
 }
 
-/// The last text of `verify` and `panel`: empty lines belong to it.
-fn last_records(program: Program) -> Vec<KnownInput> {
-    let split = |name, input: String, output| known(name, program, input, output);
-    let without_end = RECORD.trim_end();
+/// What stands behind the reference text and its parting line.
+fn behind_reference(
+    programs: &[Program],
+    name: &'static str,
+    rest: &str,
+    output: &str,
+) -> KnownInput {
+    known_of(programs, name, format!("{REFERENCE}\n{rest}"), output)
+}
+
+/// Where the record ends.
+pub fn record_ends() -> Vec<KnownInput> {
+    let split = |name, rest: &str, output| behind_reference(&READERS, name, rest, output);
+    let empty_line_within = RECORD.replace("\nR", "\n\nR");
     vec![
+        split("record_without_end", RECORD.trim_end(), "NO,11,5\n"),
+        split("empty_line_within", &empty_line_within, "NO,11,3\n"),
+        split("record_twice", &RECORD.repeat(2), "NO,11,6\n"),
         split(
-            "parting_line_twice",
-            format!("{REFERENCE}\n\n{RECORD}"),
-            "NO,11,1\n",
-        ),
-        split(
-            "empty_line_behind",
-            format!("{REFERENCE}\n{RECORD}\n"),
-            "NO,11,6\n",
-        ),
-        split(
-            "reading_behind",
-            format!("{REFERENCE}\n{RECORD}\n{READING}"),
-            "NO,11,6\n",
-        ),
-        split(
-            "empty_line_within",
-            format!("{REFERENCE}\n{}", RECORD.replace("\nR", "\n\nR")),
-            "NO,11,3\n",
-        ),
-        split(
-            "record_without_end",
-            format!("{REFERENCE}\n{without_end}"),
-            "NO,11,5\n",
-        ),
-        split(
-            "record_twice",
-            format!("{REFERENCE}\n{RECORD}{RECORD}"),
+            "reading_in_record",
+            &format!("{RECORD}{READING}"),
             "NO,11,6\n",
         ),
     ]
 }
 
-pub fn verify_splits() -> Vec<KnownInput> {
-    [splits(Program::Verify), last_records(Program::Verify)].concat()
+/// The record is the last text of `verify` and `panel`: empty lines belong to it.
+pub fn last_records() -> Vec<KnownInput> {
+    let programs = [Program::Verify, Program::Panel];
+    let split = |name, rest: &str, output| behind_reference(&programs, name, rest, output);
+    let reading_behind = format!("{RECORD}\n{READING}");
+    vec![
+        split("parting_line_twice", &format!("\n{RECORD}"), "NO,11,1\n"),
+        split("empty_line_behind", &format!("{RECORD}\n"), "NO,11,6\n"),
+        split("reading_behind", &reading_behind, "NO,11,6\n"),
+    ]
 }
 
-pub fn panel_splits() -> Vec<KnownInput> {
-    [splits(Program::Panel), last_records(Program::Panel)].concat()
-}
-
-pub fn judge_splits() -> Vec<KnownInput> {
-    let split = |name, input: String, output| known(name, Program::Judge, input, output);
-    let without_end = RECORD.trim_end();
-    let own = vec![
-        split(
-            "parting_line_twice",
-            format!("{REFERENCE}\n\n{RECORD}\n{READING}"),
-            "NO,1,0\n",
-        ),
-        split("record_alone", format!("{REFERENCE}\n{RECORD}"), "NO,1,0\n"),
-        split(
-            "parting_line_behind_record",
-            format!("{REFERENCE}\n{RECORD}\n"),
-            "NO,1,0\n",
-        ),
-        split(
-            "empty_line_within",
-            format!("{REFERENCE}\n{}", RECORD.replace("\nR", "\n\nR")),
-            "NO,11,3\n",
-        ),
-        split(
-            "record_without_end",
-            format!("{REFERENCE}\n{without_end}"),
-            "NO,11,5\n",
-        ),
-        split(
-            "record_and_reading",
-            format!("{REFERENCE}\n{RECORD}{READING}"),
-            "NO,11,6\n",
-        ),
-    ];
-    [splits(Program::Judge), own].concat()
-}
-
-/// Texts as long as the limit and one byte longer, alike for three programs.
-fn lengths(program: Program) -> Vec<KnownInput> {
-    let text = |name, reference: &str, record: &str, output| {
-        known(name, program, two_texts(program, reference, record), output)
-    };
+/// Texts as long as the limit and one byte longer.
+pub fn lengths() -> Vec<KnownInput> {
     let [reference, longer] = [TEXT_LIMIT, TEXT_LIMIT + 1].map(reference_of_length);
     let [record, longer_record] = [TEXT_LIMIT, TEXT_LIMIT + 1].map(record_of_length);
-    let without_end = reference.trim_end();
-    let joined = format!("{without_end}1\n{RECORD}");
-    let ends_of_line = "\n".repeat(TEXT_LIMIT + 1);
+    let without_end = format!("{}1", reference.trim_end());
+    assert_eq!(without_end.len(), TEXT_LIMIT);
     vec![
-        text("reference_65536", &reference, RECORD, "NO,4,2\n"),
-        text("reference_65537", &longer, RECORD, "NO,1,0\n"),
-        text("record_65536", REFERENCE, &record, "NO,11,2\n"),
-        text("record_65537", REFERENCE, &longer_record, "NO,1,0\n"),
-        text("both_65536", &reference, &record, "NO,4,2\n"),
-        text("both_65537", &longer, &longer_record, "NO,1,0\n"),
-        text("form_then_65537", "REF,9\n", &longer_record, "NO,2,1\n"),
-        known("reference_65536_without_end", program, joined, "NO,1,0\n"),
-        known("empty_lines_65537", program, ends_of_line, "NO,1,0\n"),
+        two_texts("reference_65536", &reference, RECORD, "NO,4,2\n"),
+        two_texts("reference_65537", &longer, RECORD, "NO,1,0\n"),
+        two_texts("record_65536", REFERENCE, &record, "NO,11,2\n"),
+        two_texts("record_65537", REFERENCE, &longer_record, "NO,1,0\n"),
+        two_texts("both_65536", &reference, &record, "NO,4,2\n"),
+        two_texts("both_65537", &longer, &longer_record, "NO,1,0\n"),
+        two_texts("form_then_65537", "REF,9\n", &longer_record, "NO,2,1\n"),
+        two_texts(
+            "reference_65536_without_end",
+            &without_end,
+            RECORD,
+            "NO,1,0\n",
+        ),
+        known_of(
+            &READERS,
+            "empty_lines_65537",
+            "\n".repeat(TEXT_LIMIT + 1),
+            "NO,1,0\n",
+        ),
     ]
-}
-
-pub fn verify_lengths() -> Vec<KnownInput> {
-    lengths(Program::Verify)
-}
-
-pub fn judge_lengths() -> Vec<KnownInput> {
-    lengths(Program::Judge)
-}
-
-pub fn panel_lengths() -> Vec<KnownInput> {
-    lengths(Program::Panel)
 }
 
 /// Verdicts on readings of document 01's record.
 pub fn verdicts() -> Vec<KnownInput> {
     let every = "A,TOC,3,CND,9\nA,TOC,3,CND,10\nA,TOC,3,PH,9\nA,TOC,2001,CND,9\nA,TOC,03,CND,9\n";
     vec![
-        judged("at_the_edge", AT_THE_EDGE, "QUIET\n"),
+        judged("at_the_edge", "B,TOC,6,CND,0\n", "QUIET\n"),
         judged("inside", "A,TOC,3,CND,4\n", "QUIET\n"),
         judged("below_detection", "A,TOC,<3,CND,<4\n", "QUIET\n"),
         judged("outside", "A,TOC,7,CND,0\n", "ALARM,30064771072\n"),
@@ -405,58 +332,65 @@ pub fn verdicts() -> Vec<KnownInput> {
     ]
 }
 
-/// Where readings start and end.
-pub fn readings() -> Vec<KnownInput> {
-    let quiet = |count: usize| "QUIET\n".repeat(count);
-    let without_end = READING.trim_end();
-    let lines = TEXT_LIMIT / READING.len();
-    let cut = quiet(lines) + "NO,3,1\n";
-    let whole = format!("ABCDE{READING}") + &READING.repeat(lines - 1);
-    assert_eq!(whole.len(), TEXT_LIMIT);
+/// Where readings start.
+pub fn reading_starts() -> Vec<KnownInput> {
+    let judge = [Program::Judge];
+    let split = |name, rest: &str, output| behind_reference(&judge, name, rest, output);
+    let parting_line_twice = format!("\n{RECORD}\n{READING}");
     vec![
-        judged("two_lines", READING.repeat(2), quiet(2)),
+        split("record_last", RECORD, "NO,1,0\n"),
+        split("parting_line_last", &format!("{RECORD}\n"), "NO,1,0\n"),
+        split("parting_line_twice", &parting_line_twice, "NO,1,0\n"),
         judged("empty_line_alone", "\n", "NO,3,1\n"),
         judged(
             "empty_line_first",
             format!("\n{READING}"),
             "NO,3,1\nQUIET\n",
         ),
-        judged("empty_line_last", format!("{READING}\n"), "QUIET\nNO,3,1\n"),
-        judged(
-            "empty_lines_within",
-            format!("{READING}\n\n{READING}"),
-            "QUIET\nNO,3,1\nNO,3,1\nQUIET\n",
-        ),
-        judged("piece_alone", without_end, "NO,3,1\n"),
-        judged(
-            "piece_last",
-            format!("{READING}{without_end}"),
-            "QUIET\nNO,3,1\n",
-        ),
-        judged(
-            "piece_of_one_byte",
-            format!("{READING}L"),
-            "QUIET\nNO,3,1\n",
-        ),
-        judged("byte_13", READING.replace('\n', "\r\n"), "NO,3,1\n"),
-        judged("byte_0", "\0", "NO,3,1\n"),
         judged("reference_again", REFERENCE, "NO,3,1\n".repeat(4)),
         judged("record_again", RECORD, "NO,3,1\n".repeat(5)),
-        judged("bytes_65536", readings_of_length(TEXT_LIMIT), cut),
+    ]
+}
+
+/// Where readings end: each line is one, and so is a last piece without byte 10.
+pub fn reading_ends() -> Vec<KnownInput> {
+    let without_end = READING.trim_end();
+    let then_piece = |piece: &str| format!("{READING}{piece}");
+    let empty_lines = format!("{READING}\n\n{READING}");
+    vec![
+        judged("two_lines", READING.repeat(2), "QUIET\nQUIET\n"),
         judged(
-            "bytes_65537",
-            readings_of_length(TEXT_LIMIT + 1),
-            "NO,1,0\n",
+            "empty_lines_within",
+            empty_lines,
+            "QUIET\nNO,3,1\nNO,3,1\nQUIET\n",
         ),
-        judged("whole_lines", whole, quiet(lines)),
-        judged("one_line_65536", long_reading(TEXT_LIMIT), "NO,4,1\n"),
-        judged("one_line_65537", long_reading(TEXT_LIMIT + 1), "NO,1,0\n"),
-        judged(
-            "empty_lines_65536",
-            "\n".repeat(TEXT_LIMIT),
-            "NO,3,1\n".repeat(TEXT_LIMIT),
-        ),
-        judged("empty_lines_65537", "\n".repeat(TEXT_LIMIT + 1), "NO,1,0\n"),
+        judged("empty_line_last", then_piece("\n"), "QUIET\nNO,3,1\n"),
+        judged("piece_alone", without_end, "NO,3,1\n"),
+        judged("piece_last", then_piece(without_end), "QUIET\nNO,3,1\n"),
+        judged("piece_of_one_byte", then_piece("L"), "QUIET\nNO,3,1\n"),
+        judged("byte_13", READING.replace('\n', "\r\n"), "NO,3,1\n"),
+        judged("byte_0", "\0", "NO,3,1\n"),
+    ]
+}
+
+/// Readings as long as the limit and one byte longer.
+pub fn reading_lengths() -> Vec<KnownInput> {
+    let lines = TEXT_LIMIT / READING.len();
+    let quiet = "QUIET\n".repeat(lines);
+    let [cut, longer] = [TEXT_LIMIT, TEXT_LIMIT + 1].map(readings_of_length);
+    let [line, longer_line] = [TEXT_LIMIT, TEXT_LIMIT + 1].map(long_reading);
+    let [empty, more_empty] = [TEXT_LIMIT, TEXT_LIMIT + 1].map(|count| "\n".repeat(count));
+    let whole = format!("ABCDE{READING}") + &READING.repeat(lines - 1);
+    assert_eq!(whole.len(), TEXT_LIMIT);
+    vec![
+        judged("bytes_65536", cut, format!("{quiet}NO,3,1\n")),
+        judged("bytes_65537", longer, "NO,1,0\n"),
+        judged("whole_lines_65536", &whole, quiet),
+        judged("whole_lines_65537", format!("\n{whole}"), "NO,1,0\n"),
+        judged("one_line_65536", line, "NO,4,1\n"),
+        judged("one_line_65537", longer_line, "NO,1,0\n"),
+        judged("empty_lines_65536", empty, "NO,3,1\n".repeat(TEXT_LIMIT)),
+        judged("empty_lines_65537", more_empty, "NO,1,0\n"),
     ]
 }
 
@@ -466,30 +400,24 @@ fn long_reading(length: usize) -> String {
     READING.replace("4\n", &format!("4{digits}\n"))
 }
 
-/// Inputs of several megabytes.
+/// Inputs of several megabytes: a text above its limit, or another refused before it.
 pub fn large() -> Vec<KnownInput> {
-    let refused = |name, program, input: String| known(name, program, input, "NO,1,0\n");
     let (reference, record) = (reference_of_length(MEGABYTES), record_of_length(MEGABYTES));
-    let readings = readings_of_length(MEGABYTES);
-    let after = |program| two_texts(program, &reference, RECORD);
-    let between = |program| two_texts(program, REFERENCE, &record);
+    let (readings, empty_lines) = (readings_of_length(MEGABYTES), "\n".repeat(MEGABYTES));
+    let every = format!("{reference}\n{record}\n{readings}");
+    let faulty = format!("{REFERENCE}\nENV\n\n{readings}");
     vec![
-        refused("draw_one_row", Program::Draw, reference.clone()),
-        refused("draw_rows", Program::Draw, rows(MEGABYTES / 7)),
-        refused("draw_empty_lines", Program::Draw, "\n".repeat(MEGABYTES)),
-        refused("verify_reference", Program::Verify, after(Program::Verify)),
-        refused("verify_record", Program::Verify, between(Program::Verify)),
-        refused("panel_reference", Program::Panel, after(Program::Panel)),
-        refused("panel_record", Program::Panel, between(Program::Panel)),
-        refused("judge_reference", Program::Judge, after(Program::Judge)),
-        refused("judge_record", Program::Judge, between(Program::Judge)),
-        judged("judge_readings", &readings, "NO,1,0\n"),
-        judged("judge_empty_lines", "\n".repeat(MEGABYTES), "NO,1,0\n"),
-        refused(
-            "judge_every_text",
-            Program::Judge,
-            format!("{reference}\n{record}\n{readings}"),
-        ),
+        drawn("draw_one_row", reference.clone(), "NO,1,0\n"),
+        drawn("draw_rows", rows(MEGABYTES / 7), "NO,1,0\n"),
+        drawn("draw_empty_lines", empty_lines.clone(), "NO,1,0\n"),
+        two_texts("reference", &reference, RECORD, "NO,1,0\n"),
+        two_texts("record", REFERENCE, &record, "NO,1,0\n"),
+        two_texts("heading_before_record", "REF,9\n", &record, "NO,2,1\n"),
+        known_of(&READERS, "empty_lines", empty_lines.clone(), "NO,1,0\n"),
+        known_of(&READERS, "every_text", every, "NO,1,0\n"),
+        judged("readings", &readings, "NO,1,0\n"),
+        judged("readings_empty_lines", &empty_lines, "NO,1,0\n"),
+        known("form_before_readings", Program::Judge, faulty, "NO,11,1\n"),
     ]
 }
 
@@ -498,17 +426,15 @@ pub fn all() -> Vec<KnownInput> {
         examples(),
         halves(),
         draw_refusals(),
-        verify_refusals(),
-        judge_refusals(),
-        panel_refusals(),
-        verify_splits(),
-        judge_splits(),
-        panel_splits(),
-        verify_lengths(),
-        judge_lengths(),
-        panel_lengths(),
+        refusals(),
+        reference_ends(),
+        record_ends(),
+        last_records(),
+        lengths(),
         verdicts(),
-        readings(),
+        reading_starts(),
+        reading_ends(),
+        reading_lengths(),
         large(),
     ]
     .concat()

@@ -11,7 +11,7 @@ use crate::record_damage;
 use crate::record_faults;
 use crate::record_texts::{self, Enveloped, RecordDraft};
 use crate::reference::TEXT_LIMIT;
-use crate::sets;
+use crate::sets::{self, Shape};
 use crate::texts::{self, Draft, Fields};
 
 /// The most readings of an input that is not full of them.
@@ -222,14 +222,18 @@ impl Source {
     }
 }
 
-/// A reference text of any values, or of the rows of a set of any shape.
-fn reference(random: &mut Random) -> Draft {
-    if random.once_in(8) {
-        let set = sets::small_set(random);
-        return Draft::of_set(random, &set);
-    }
-    let (m, n) = texts::size(random);
-    Draft::new(random, m, n)
+/// A reference text of any values, or of the rows of a set of any shape. A drawing of rows near a
+/// sphere needs many moves, for some more than its budget.
+pub fn reference(random: &mut Random) -> Draft {
+    let set = match random.below(64) {
+        0 => sets::set(random, Shape::Sphere, 12, 3),
+        1..8 => sets::small_set(random),
+        _ => {
+            let (m, n) = texts::size(random);
+            return Draft::new(random, m, n);
+        }
+    };
+    Draft::of_set(random, &set)
 }
 
 /// A row of the reference text as a reading.
