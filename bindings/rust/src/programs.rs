@@ -48,9 +48,13 @@ pub const OUTPUT_BYTES: usize = OUTPUT_PER_READING_BYTE * READING_BYTES + REFUSA
 /// A program; see the [module](self).
 #[derive(Clone, Copy, Debug, PartialEq, Eq, Hash)]
 pub enum Program {
+    /// See [`draw`].
     Draw,
+    /// See [`verify`].
     Verify,
+    /// See [`judge`].
     Judge,
+    /// See [`panel`].
     Panel,
 }
 
