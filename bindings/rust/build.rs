@@ -7,6 +7,10 @@ fn main() {
     let package = std::env::var("CARGO_MANIFEST_DIR").expect("cargo names the package's folder");
     let folder = Path::new(&package).join("../../target/staticlib");
     let archive = folder.join("liblibrary.a");
+    if !archive.exists() {
+        let name = archive.display();
+        println!("cargo::warning={name} is missing: run 'rt staticlib library' in the repository");
+    }
     println!("cargo::rustc-link-search=native={}", folder.display());
     println!("cargo::rustc-link-lib=static=library");
     println!("cargo::rerun-if-changed={}", archive.display());

@@ -19,9 +19,10 @@ pub enum Mark {
     Dot(Point),
     /// M is above 0.
     Disc {
+        /// The centre of the disc.
         centre: Point,
-        /// The smallest whole number whose square is at least M, over D, exactly: in the chart of
-        /// two different channels no row of the envelope lies outside the disc.
+        /// The smallest whole number whose square is at least M, over D, exactly, in steps: in the
+        /// chart of two different channels no row of the envelope lies outside the disc.
         radius: f64,
     },
 }

@@ -4,8 +4,8 @@
 //! has the same as whole programs, text to text.
 //!
 //! There are m rows (1 to 256) of n channels (1 to 8); each coordinate is a whole number from
-//! -4,000 to 4,000. Rows are lent as one list, row by row: the first m·n places count, and the
-//! list may be longer. Each row has a whole weight of 0 or more, and the weights sum to
+//! -4,000 to 4,000, counted in steps of its channel. Rows are lent as one list, row by row: the first
+//! m·n places count, and the list may be longer. Each row has a whole weight of 0 or more, and the weights sum to
 //! [`TOTAL`], called D. Of the weights follow these figures:
 //!
 //! - X, the *scaled centre*: the sum of weight times row, channel by channel. The centre is X/D.
@@ -15,6 +15,8 @@
 //!   the squared length of X. No ball that holds every row has a squared radius below L/D².
 //! - *Settled*: no move of weight between two rows is called for. M - L is then at most D times
 //!   the largest squared distance between two rows.
+//!
+//! X counts in units of 1/D step, M and L in units of 1/D² squared step.
 //!
 //! ```
 //! let rows = [0, 10];
@@ -125,6 +127,26 @@
 //! assert_eq!(cundarivo::panel(&figures)?, [3, 4]);
 //! # Ok::<(), cundarivo::Refusal>(())
 //! ```
+//!
+//! # Refusals
+//!
+//! Input outside the rules is turned back with a [`Refusal`], which has a number and the line at
+//! fault. Where several apply it is the first in the order that the call states. A refused call
+//! leaves every lent slice as it was; of the library's own calls every other figure of the answer is
+//! then 0. An accepted call fills the first places of a lent slice, as many as it says, and leaves
+//! the others as they were.
+//!
+//! # Panics, threads, memory and stack
+//!
+//! No call panics, whatever it is given. The library has no variables of its own, so that any number
+//! of threads may call it at the same time. It allocates nothing: the calls that answer with lists
+//! allocate these in this package, and the library's own calls use lent slices alone. A call needs
+//! at most 128 KiB of stack.
+//!
+//! # Building
+//!
+//! The package links `target/staticlib/liblibrary.a` of the repository, which `rt staticlib library`
+//! writes, for x86-64.
 
 mod chart;
 pub mod programs;
@@ -168,7 +190,9 @@ pub const TOTAL: u32 = 65_536;
 /// | 13 | a lent slice too short for what is to be written |
 #[derive(Clone, Copy, Debug, PartialEq, Eq, Hash)]
 pub struct Refusal {
+    /// The number in the table above, 1 to 13.
     pub number: u32,
+    /// The line at fault in its text, counted from 1, or 0.
     pub line: u32,
 }
 
@@ -222,6 +246,7 @@ pub struct Drawing {
     pub scaled_lower_bound: u64,
     /// The weight of each row, m places; they sum to [`TOTAL`].
     pub weights: Vec<u32>,
+    /// Whether the weights are Settled or the budget was used.
     pub ending: Ending,
     /// The moves made: the budget, or fewer where the weights are Settled.
     pub moves: u32,
@@ -236,6 +261,7 @@ pub struct Checked {
     pub scaled_squared_radius: u64,
     /// L.
     pub scaled_lower_bound: u64,
+    /// Whether the weights are Settled.
     pub settled: bool,
 }
 
@@ -255,6 +281,8 @@ pub struct Figures {
     pub scaled_squared_radius: u64,
     /// L, at most 2,199,023,255,552,000,000.
     pub scaled_lower_bound: u64,
+    /// Whether the weights are Settled or the budget was used; no verdict, chart or panel depends on
+    /// it.
     pub ending: Ending,
     /// The moves made, at most 1,000,000.
     pub moves: u32,
@@ -335,6 +363,7 @@ pub struct EnvelopeAnswer {
     pub line: u32,
     /// 1 for Settled, 0 for Budget.
     pub settled: u32,
+    /// The moves made, or as the record states them.
     pub moves: u32,
     /// M.
     pub scaled_squared_radius: u64,
@@ -375,7 +404,9 @@ pub struct ReferenceAnswer {
     pub number: u32,
     /// The line at fault, 0 where none is.
     pub line: u32,
+    /// The number of rows.
     pub m: usize,
+    /// The number of channels.
     pub n: usize,
 }
 
@@ -394,6 +425,7 @@ pub struct LabelAnswer {
 #[repr(C)]
 #[derive(Clone, Copy, Debug, PartialEq, Eq, Hash)]
 pub struct FiguresGiven {
+    /// The number of channels.
     pub n: usize,
     /// M.
     pub scaled_squared_radius: u64,
@@ -401,6 +433,7 @@ pub struct FiguresGiven {
     pub scaled_lower_bound: u64,
     /// 1 for Settled, 0 for Budget; any other number is refused by 8.
     pub settled: u32,
+    /// The moves made.
     pub moves: u32,
 }
 
@@ -464,15 +497,15 @@ unsafe extern "C" {
     ) -> VerdictAnswer;
 }
 
-/// Draws the ball round the rows with at most `budget` moves, all weight being on the first row at
-/// the start.
+/// Draws the ball round the first m rows of n channels with at most `budget` moves, 0 to 1,000,000,
+/// all weight being on the first row at the start. The time grows with moves times m times n.
 ///
 /// # Errors
 ///
 /// Refusal 8, then 9: see [`Refusal`].
 pub fn draw(rows: &[i32], m: usize, n: usize, budget: u32) -> Result<Drawing, Refusal> {
-    let mut scaled_centre = vec![0; places_for(n, rows)];
-    let mut weights = vec![0; places_for(m, rows)];
+    let mut scaled_centre = centre_places(n);
+    let mut weights = weight_places(m);
     let answer = draw_into(rows, m, n, budget, &mut scaled_centre, &mut weights);
     accepted(answer.number, answer.line)?;
     Ok(Drawing {
@@ -485,13 +518,14 @@ pub fn draw(rows: &[i32], m: usize, n: usize, budget: u32) -> Result<Drawing, Re
     })
 }
 
-/// Gives the figures of any weights of the rows, whoever chose them.
+/// Gives the figures of any weights of the first m rows of n channels, whoever chose them: m weights
+/// that sum to [`TOTAL`].
 ///
 /// # Errors
 ///
 /// Refusal 8, then 12: see [`Refusal`].
 pub fn check(rows: &[i32], m: usize, n: usize, weights: &[u32]) -> Result<Checked, Refusal> {
-    let mut scaled_centre = vec![0; places_for(n, rows)];
+    let mut scaled_centre = centre_places(n);
     let answer = check_into(rows, m, n, weights, &mut scaled_centre);
     accepted(answer.number, answer.line)?;
     Ok(Checked {
@@ -670,7 +704,8 @@ pub fn judge_given(
     }
 }
 
-/// The library's own call of [`read_reference`], which answers with numbers.
+/// The library's own call of [`read_reference`], which answers with numbers. Its refusals are the
+/// same, and it fills the same places.
 pub fn read_reference_into(text: &[u8], table: &mut [i32], types: &mut [u8]) -> ReferenceAnswer {
     // SAFETY: each pointer and length are those of a live slice, the written ones lent to nobody
     // else, and the library is proved to keep within the lengths for every text.
@@ -693,10 +728,15 @@ pub fn label_part(text: &[u8], row: usize) -> LabelAnswer {
     unsafe { cundarivo_label(text.as_ptr(), text.len(), row) }
 }
 
-/// As many places as an accepted call with this count can fill. A count above the number of lent
-/// places is refused, so that no count, however large, is allocated.
-fn places_for(count: usize, rows: &[i32]) -> usize {
-    count.min(rows.len())
+/// Places for X of n channels. More than [`CHANNELS`] are refused, so that no count, however large,
+/// is allocated.
+fn centre_places(n: usize) -> Vec<i64> {
+    vec![0; n.min(CHANNELS)]
+}
+
+/// Places for the weights of m rows. More than [`ROWS`] are refused, as above.
+fn weight_places(m: usize) -> Vec<u32> {
+    vec![0; m.min(ROWS)]
 }
 
 fn ending(settled: bool) -> Ending {

@@ -1,6 +1,9 @@
 //! The records of envelopes, written and read.
 
-use crate::{EnvelopeAnswer, Figures, FiguresGiven, ROWS, Refusal, accepted, ending, places_for};
+use crate::{
+    EnvelopeAnswer, Figures, FiguresGiven, ROWS, Refusal, accepted, centre_places, ending,
+    weight_places,
+};
 
 /// Bytes that are enough for every record: at most 38 for the heading, 90 for X, 52 for M, L and the
 /// moves, and 12 for each of 256 weights.
@@ -9,6 +12,7 @@ pub const RECORD_BYTES: usize = 38 + 90 + 52 + 12 * ROWS;
 /// An envelope: its figures, and the weights of its rows.
 #[derive(Clone, Debug, PartialEq, Eq, Hash)]
 pub struct Envelope {
+    /// Its channels and their types, X, M, L, the ending and the moves.
     pub figures: Figures,
     /// The weight of each row, at least m places and at most [`ROWS`]; those past m are 0.
     pub weights: Vec<u32>,
@@ -88,8 +92,8 @@ pub fn read_record(
     types: &[u8],
     text: &[u8],
 ) -> Result<Envelope, Refusal> {
-    let mut scaled_centre = vec![0; places_for(n, rows)];
-    let mut weights = vec![0; places_for(m, rows)];
+    let mut scaled_centre = centre_places(n);
+    let mut weights = weight_places(m);
     let answer = read_record_into(rows, m, n, types, text, &mut scaled_centre, &mut weights);
     accepted(answer.number, answer.line)?;
     let figures = Figures {
@@ -104,7 +108,8 @@ pub fn read_record(
     Ok(Envelope { figures, weights })
 }
 
-/// Writes the record of an envelope of m rows, whoever made it.
+/// Writes the record of an envelope of the first m rows, whoever made it. [`read_record`] reads a
+/// written record, with the same rows and types, as this envelope, its places past m and n aside.
 ///
 /// ```
 /// use cundarivo::{draw, read_record, write_record};

@@ -19,7 +19,7 @@ use Rattle.channel.specs.Channel.{ChannelType}
 use Rattle.envelope.specs.declared.Envelope.{Envelope}
 use Rattle.record.specs.Answers.{notWritten, recordWritten}
 use Rattle.record.specs.declared.EnvelopeRead.{EnvelopeRead}
-use Rattle.record.specs.declared.RecordWritten.{RecordWritten}
+use Rattle.record.specs.declared.TextWritten.{TextWritten}
 use Rattle.library.specs.Export.{withRoom, envelopeInNumbers}
 use Rattle.library.specs.Given.{figuresGiven}
 use Rattle.library.specs.declared.EnvelopeAnswer.{EnvelopeAnswer}
@@ -52,7 +52,7 @@ envelopeGiven limit given codes centre ws =
       weights = filled 0 (length ws) ws (replicate limit 0);
     }
 
-abbrev pub writtenInNumbers : RecordWritten → WrittenAnswer
+abbrev pub writtenInNumbers : TextWritten → WrittenAnswer
 writtenInNumbers r = record { number = numberOf (r .outcome); line = lineOf (r .outcome); length = r .length }
 
 unfoldable pub writeAnswer : ℕ → ℕ → List ChannelType → FiguresGiven → List ℕ → List ℤ → List ℕ → List ℤ → ℕ → ℕ → WrittenAnswer

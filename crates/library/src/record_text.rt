@@ -17,7 +17,7 @@ use envelope::Envelope;
 use envelope::Figures;
 use figures::limits::CHANNELS;
 use figures::limits::ROWS;
-use record::RecordWritten;
+use record::TextWritten;
 use record::read;
 use record::write;
 
@@ -62,7 +62,7 @@ pub extern "C" fn cundarivo_read_record(
     hand_out(outcome, ball, figures.moves, &stated, m, n, centre, weights)
 }
 
-fn written_in_numbers(written: RecordWritten) -> WrittenAnswer
+fn written_in_numbers(written: TextWritten) -> WrittenAnswer
     ensures { λ r. ⌜ r ≡ writtenInNumbers written ⌝ }
 {
     let outcome = written.outcome;
@@ -148,7 +148,7 @@ pub extern "C" fn cundarivo_write_record(
         (now (buffer .entry)) ⌝ }
 {
     if !given_whole(figures, types, centre, weights, m) {
-        return written_in_numbers(RecordWritten {
+        return written_in_numbers(TextWritten {
             outcome: refusal::refused_at(refusal::OUTSIDE_LIMITS, 0),
             length: 0,
         });

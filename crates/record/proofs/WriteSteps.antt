@@ -1,7 +1,7 @@
--- What stands in the buffer after a record is written, and the test of the figures.
+-- What stands in the buffer after a text is written, and the test of the figures.
 --     lent-within                           the test of lent figures is that of the figures
---     printed-length, -text, -fits          the text stands in the first places of what was printed into
---     buffer-filled                         the buffer after these are copied to it
+--     printed-length, -text, -fits          a record's text stands in the first places of what was printed into
+--     buffer-filled                         the buffer after a text is copied to it
 --     buffer-left                           a refusal leaves the buffer as it was
 use Prim.Native.Nat.{ℕ, suc, _≤_}
 use mathlib.Core.Path.{_≡_, refl, ap, _∙_}
@@ -17,7 +17,7 @@ use Rattle.envelope.specs.declared.Figures.{Figures}
 use Rattle.envelope.specs.declared.Envelope.{Envelope}
 use Rattle.record_form.specs.Record.{printRecord}
 use Rattle.record_print.specs.Printed.{recordOf, recordText}
-use Rattle.record.specs.declared.RecordWritten.{RecordWritten}
+use Rattle.record.specs.declared.TextWritten.{TextWritten}
 use Rattle.record.specs.Answers.{notWritten}
 
 -- the ending is not asked for
@@ -43,15 +43,13 @@ module _ (types : List ChannelType) (e : Envelope) (out₀ out : List ℕ) (r : 
   pub printed-fits : r ≤ length out
   printed-fits = omega (arith, length-take r out, ap length printed-text, printed-length)
 
-  pub buffer-filled : (buffer : List ℕ)
-      → take (length (take r out)) (take r out) ++ drop (length (take r out)) buffer ≡ filled 0 r (recordText types e) buffer
-  unfolding filled
-  buffer-filled buffer =
-      ap (λ (l : List ℕ). take (length l) l ++ drop (length l) buffer) printed-text
-      ∙ ap (λ k. take k (recordText types e) ++ drop k buffer) printed-length
+-- the buffer after a text is copied to it
+pub buffer-filled : (text buffer : List ℕ) → take (length text) text ++ drop (length text) buffer ≡ filled 0 (length text) text buffer
+unfolding filled
+buffer-filled text buffer = refl
 
-pub buffer-left : (w : RecordWritten) (k : ℕ) (source buffer : List ℕ) → w ≡ notWritten (refused (suc k))
+pub buffer-left : (w : TextWritten) (k : ℕ) (source buffer : List ℕ) → w ≡ notWritten (refused (suc k))
     → buffer ≡ filled (numberOf (w .outcome)) (w .length) source buffer
 buffer-left w k source buffer e =
     filled-refused (numberOf (w .outcome)) (w .length) source buffer
-    (λ z. absurd (omega (arith, z, ap (λ (x : RecordWritten). numberOf (x .outcome)) e)))
+    (λ z. absurd (omega (arith, z, ap (λ (x : TextWritten). numberOf (x .outcome)) e)))

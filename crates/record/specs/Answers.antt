@@ -12,6 +12,7 @@
 --     statedAnswer D limit rows m codes stated       the same for what it hands over
 --     Agreeing rows m n codes stated                 what is asked of that
 --     notWritten outcome, written length             the answers of writing
+--     textWritten text places                        what writing a text to so many places answers
 --     recordWritten D limit types rows m e places    what writing to so many places answers
 use Prim.Native.Nat.{ℕ, _≤_}
 use mathlib.Core.Path.{_≡_}
@@ -40,7 +41,7 @@ use Rattle.record_form.specs.Weights.{weightsOf}
 use Rattle.record_form.specs.declared.form.Stated.{Stated}
 use Rattle.record_print.specs.Printed.{recordText}
 use Rattle.record.specs.declared.EnvelopeRead.{EnvelopeRead}
-use Rattle.record.specs.declared.RecordWritten.{RecordWritten}
+use Rattle.record.specs.declared.TextWritten.{TextWritten}
 
 -- ---- reading
 
@@ -110,19 +111,24 @@ pub record Agreeing (rows : List ℤ) (m n : ℕ) (codes : List ℕ) (s : Stated
 
 -- ---- writing
 
-abbrev pub notWritten : Outcome → RecordWritten
+abbrev pub notWritten : Outcome → TextWritten
 notWritten o = record { outcome = o; length = 0 }
 
-abbrev pub written : ℕ → RecordWritten
+abbrev pub written : ℕ → TextWritten
 written bytes = record { outcome = Accepted; length = bytes }
 
+-- 13, or the whole text
+abbrev pub textWritten : List ℕ → ℕ → TextWritten
+textWritten text places =
+    choose (leb (length text) places)
+    (λ _. written (length text))
+    (λ _. notWritten (refused buffer-short))
+
 -- 8, 12, 13
-unfoldable pub recordWritten : ℕ → ℕ → List ChannelType → List ℤ → ℕ → Envelope → ℕ → RecordWritten
+unfoldable pub recordWritten : ℕ → ℕ → List ChannelType → List ℤ → ℕ → Envelope → ℕ → TextWritten
 recordWritten D limit types rows m e places =
     choose (figuresWithin D types (e .figures) && rowsWithin limit rows m (e .figures .n))
     (λ _. choose (agrees D limit rows m (e .figures .n) (e .figures .ball) (e .weights))
-    (λ _. choose (leb (length (recordText types e)) places)
-    (λ _. written (length (recordText types e)))
-    (λ _. notWritten (refused buffer-short)))
+    (λ _. textWritten (recordText types e) places)
     (λ _. notWritten (refused disagreement)))
     (λ _. notWritten (refused outside-limits))

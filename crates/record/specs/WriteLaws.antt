@@ -2,12 +2,15 @@
 --     within-printing                    figures within their limits can be printed
 --     Writing                            what a written envelope keeps: its limits, those of the rows, and agreement with them
 --     outside-figures, outside-rows      8
---     refused-writing, short-writing     12 and 13
+--     refused-writing                    12
+--     text-short, text-fits              a text is written exactly to a buffer that holds it
+--     writing-agreed                     past 8 and 12, the record's text is written as any text is
+--     short-writing                      13
 --     each-written                       what holds of each answer holds of the call
 --     written-writing, writing-written   an envelope is written exactly then, to a buffer that holds its text
 --     writing-refused                    12 is met only where limits are kept and agreement is not
 use Prim.Native.Nat.{ℕ, _≤_, _<_}
-use mathlib.Core.Path.{_≡_, refl, ap}
+use mathlib.Core.Path.{_≡_, refl, _∙_, ap}
 use mathlib.Core.Bool.{Bool, true, false, _&&_}
 use mathlib.Core.List.{List}
 use native.Mathlib.Omega.{arith}
@@ -27,8 +30,8 @@ use Rattle.envelope.specs.Agreement.{agrees}
 use Rattle.envelope.specs.declared.Figures.{Figures}
 use Rattle.envelope.specs.declared.Envelope.{Envelope}
 use Rattle.record_print.specs.Printed.{recordText, Printing}
-use Rattle.record.specs.Answers.{notWritten, written, recordWritten}
-use Rattle.record.specs.declared.RecordWritten.{RecordWritten}
+use Rattle.record.specs.Answers.{notWritten, written, textWritten, recordWritten}
+use Rattle.record.specs.declared.TextWritten.{TextWritten}
 
 pub within-printing : (types : List ChannelType) (f : Figures) (weights : List ℕ) → figuresWithin total types f ≡ true → length weights ≡ rowLimit
     → Printing f weights
@@ -43,6 +46,21 @@ within-printing types f weights h count =
       floor-small = omega (arith, within .floor-limit);
       rows = omega arith;
     }
+
+-- ---- a text
+
+module _ (text : List ℕ) (places : ℕ) where
+  chosen : {b : Bool} → leb (length text) places ≡ b
+      → textWritten text places ≡ choose b (λ _. written (length text)) (λ _. notWritten (refused buffer-short))
+  chosen e = ap (λ (b : Bool). choose b (λ _. written (length text)) (λ _. notWritten (refused buffer-short))) e
+
+  pub text-short : places < length text → textWritten text places ≡ notWritten (refused buffer-short)
+  text-short h = chosen (lt-leb (length text) places h)
+
+  pub text-fits : length text ≤ places → textWritten text places ≡ written (length text)
+  text-fits h = chosen (le-leb (length text) places h)
+
+-- ---- a record
 
 pub record Writing (D limit : ℕ) (types : List ChannelType) (rows : List ℤ) (m : ℕ) (e : Envelope) : Type 0 where
   pub figures-kept : figuresWithin D types (e .figures) ≡ true
@@ -68,19 +86,19 @@ module _ (D limit : ℕ) (types : List ChannelType) (rows : List ℤ) (m : ℕ) 
         refused-writing h = rw (figures, within, h, recordWritten)
 
     module _ (w : Writing D limit types rows m e) where
-      pub short-writing : places < length (recordText types e) → recordWritten D limit types rows m e places ≡ notWritten (refused buffer-short)
+      pub writing-agreed : recordWritten D limit types rows m e places ≡ textWritten (recordText types e) places
       unfolding recordWritten
-      short-writing h =
-          rw (w .figures-kept, w .rows-kept, w .agreeing, lt-leb (length (recordText types e)) places h, recordWritten)
+      writing-agreed = rw (w .figures-kept, w .rows-kept, w .agreeing, recordWritten)
+
+      pub short-writing : places < length (recordText types e) → recordWritten D limit types rows m e places ≡ notWritten (refused buffer-short)
+      short-writing h = writing-agreed ∙ text-short (recordText types e) places h
 
       pub writing-written : length (recordText types e) ≤ places
           → recordWritten D limit types rows m e places ≡ written (length (recordText types e))
-      unfolding recordWritten
-      writing-written h =
-          rw (w .figures-kept, w .rows-kept, w .agreeing, le-leb (length (recordText types e)) places h, recordWritten)
+      writing-written h = writing-agreed ∙ text-fits (recordText types e) places h
 
     -- what holds of each answer holds of the call
-    module _ (P : RecordWritten → Type 0) (outside : P (notWritten (refused outside-limits)))
+    module _ (P : TextWritten → Type 0) (outside : P (notWritten (refused outside-limits)))
         (disagreed : figuresWithin D types (e .figures) ≡ true → rowsWithin limit rows m (e .figures .n) ≡ true
         → agrees D limit rows m (e .figures .n) (e .figures .ball) (e .weights) ≡ false → P (notWritten (refused disagreement)))
         (short : P (notWritten (refused buffer-short)))
@@ -104,7 +122,7 @@ module _ (D limit : ℕ) (types : List ChannelType) (rows : List ℤ) (m : ℕ) 
 
     pub written-writing : recordWritten D limit types rows m e places .outcome ≡ Accepted → Writing D limit types rows m e
     written-writing h =
-        each-written (λ (a : RecordWritten). numberOf (a .outcome) ≡ 0 → Writing D limit types rows m e)
+        each-written (λ (a : TextWritten). numberOf (a .outcome) ≡ 0 → Writing D limit types rows m e)
         nonzero (λ f r a. nonzero) nonzero (λ w l k. w) (ap numberOf h)
 
     pub writing-refused : numberOf (recordWritten D limit types rows m e places .outcome) ≡ disagreement
@@ -112,7 +130,7 @@ module _ (D limit : ℕ) (types : List ChannelType) (rows : List ℤ) (m : ℕ) 
         × (agrees D limit rows m (e .figures .n) (e .figures .ball) (e .weights) ≡ false)
     writing-refused =
         each-written
-        (λ (a : RecordWritten). numberOf (a .outcome) ≡ disagreement
+        (λ (a : TextWritten). numberOf (a .outcome) ≡ disagreement
         → (figuresWithin D types (e .figures) ≡ true) × (rowsWithin limit rows m (e .figures .n) ≡ true)
         × (agrees D limit rows m (e .figures .n) (e .figures .ball) (e .weights) ≡ false))
         (λ h. absurd (omega arith)) (λ f r a h. (f, r, a)) (λ h. absurd (omega arith)) (λ w l h. absurd (omega arith))

@@ -7,7 +7,7 @@ ghost use Rattle.geometry.specs.Limits.{total, rowLimit};
 ghost use Rattle.lists.specs.Filled.{filled};
 ghost use Rattle.channel.specs.Channel.{channelTypes};
 ghost use Rattle.record_print.specs.Printed.{recordText};
-ghost use Rattle.record.specs.Answers.{notRead, givenWithin, Agreeing, statedAnswer, recordRead, notWritten, recordWritten};
+ghost use Rattle.record.specs.Answers.{notRead, givenWithin, Agreeing, statedAnswer, recordRead, notWritten, textWritten, recordWritten};
 use ball::Ball;
 use envelope::Envelope;
 use envelope::Figures;
@@ -33,13 +33,14 @@ pub struct EnvelopeRead {
     pub envelope: Envelope,
 }
 
-// What writing a record answers. In a refusal the length is 0.
-pub struct RecordWritten {
+// What writing a text to a lent buffer answers. In a refusal the length is 0.
+pub struct TextWritten {
     pub outcome: Outcome,
     pub length: usize,
 }
 
-fn not_read(number: u32, line: u32) -> EnvelopeRead
+// A record that is turned back.
+pub fn not_read(number: u32, line: u32) -> EnvelopeRead
     ensures { λ r. ⌜ r ≡ notRead rowLimit (refusedAt number line) ⌝ }
 {
     let ball = Ball {
@@ -135,18 +136,35 @@ pub fn read(rows: &[i32], m: usize, n: usize, types: &[u8], text: &[u8]) -> Enve
     agreed(rows, m, n, &types[..n], stated)
 }
 
-fn not_written(number: u32) -> RecordWritten
+fn not_written(number: u32) -> TextWritten
     ensures { λ r. ⌜ r ≡ notWritten (refusedAt number 0) ⌝ }
 {
-    RecordWritten {
+    TextWritten {
         outcome: refusal::refused_at(number, 0),
         length: 0,
     }
 }
 
+// Writes a text to the first places of the buffer, and to no other. Refused, with the buffer as it was: 13.
+pub fn hand_out(text: &[u8], buffer: &mut [u8]) -> TextWritten
+    ensures answer { λ r. ⌜ r ≡ textWritten (now (text .entry)) (length (now (buffer .entry))) ⌝ }
+    ensures buffer_filled { λ r.
+        ⌜ now (buffer .exit) ≡ filled (numberOf (r .outcome)) (r .length) (now (text .entry)) (now (buffer .entry)) ⌝ }
+{
+    let length = text.len();
+    if buffer.len() < length {
+        return not_written(refusal::BUFFER_SHORT);
+    }
+    bytes::copy(text, buffer);
+    TextWritten {
+        outcome: Outcome::Accepted,
+        length,
+    }
+}
+
 // Writes the record of an envelope, drawn from the first m rows, to the first places of the buffer, and to no other. Refused, with
 // the buffer as it was: 8, 12, 13.
-pub fn write(envelope: Envelope, rows: &[i32], m: usize, buffer: &mut [u8]) -> RecordWritten
+pub fn write(envelope: Envelope, rows: &[i32], m: usize, buffer: &mut [u8]) -> TextWritten
     ensures answer { λ r.
         ⌜ r ≡ recordWritten total rowLimit channelTypes (now (rows .entry)) m envelope (length (now (buffer .entry))) ⌝ }
     ensures buffer_filled { λ r.
@@ -176,12 +194,5 @@ pub fn write(envelope: Envelope, rows: &[i32], m: usize, buffer: &mut [u8]) -> R
     }
     let mut text = [0u8; RECORD_MOST];
     let length = print_record(figures, &weights, &mut text);
-    if buffer.len() < length {
-        return not_written(refusal::BUFFER_SHORT);
-    }
-    bytes::copy(&text[..length], buffer);
-    RecordWritten {
-        outcome: Outcome::Accepted,
-        length,
-    }
+    hand_out(&text[..length], buffer)
 }

@@ -9,6 +9,8 @@
 --     numbers-none, numbers-more              a line of a word alone, and of one number more
 --     numbers-after                           a line is its word and what follows it
 --     numbers-short                           how long a line of numbers below 10 ^ k is
+--     numbers-room                            how long one of numbers of 64 bits is
+--     put-ended                               what is printed, and byte 10 after it
 use Prim.Native.Nat.{ℕ, zero, suc, _+_, _-_, _*_, _/_, _%_, _^_, _≤_, _<_}
 use mathlib.Core.Path.{_≡_, refl, sym, _∙_, ap, ap₂}
 use mathlib.Core.List.{List, [], _∷_, _++_, map, map-append, append-nil, append-assoc}
@@ -17,8 +19,8 @@ use native.Mathlib.Numerals.{add-one}
 use native.Mathlib.Omega.{arith}
 use lib.IntN.{ℤ, pos, natAbs}
 use lib.ListN.{length, getD, set, take, drop, length-append, length-set}
-use lib.Seq.{length-take-le, append-snoc, set-split, take-suc, take-set-le, take-suc-set, take-add, drop-at}
-use Rattle.text.specs.Parts.{comma, join}
+use lib.Seq.{length-take-le, getD-take, append-snoc, set-split, take-suc, take-set-le, take-suc-set, take-add, drop-at}
+use Rattle.text.specs.Parts.{comma, lineEnd, join}
 use Rattle.text.specs.PartsLaws.{join-more}
 use Rattle.text.specs.Number.{decimal, printMagnitude, print}
 use Rattle.text.specs.NumberLaws.{decimal-more, print-short}
@@ -181,3 +183,14 @@ numbers-short k word (z ∷ zs) some-digit below =
     let first : length (print z) ≤ suc k = print-short k z some-digit (below 0 (omega arith)) in
     let others = numbers-short k (print z) zs some-digit (λ j h. below (suc j) (omega arith)) in
     omega (arith, length-append word (comma ∷ join comma (print z ∷ map print zs)), mul-suc (k + 2) (length zs))
+
+pub numbers-room : (word : List ℕ) (count : ℕ) (zs : List ℤ) → count ≤ length zs → ((k : ℕ) → k < count → natAbs (getD zs k (pos 0)) < 2 ^ 63)
+    → length (numbersAfter word (take count zs)) ≤ length word + count * 21
+numbers-room word count zs h small =
+    let places : length (take count zs) ≡ count = length-take-le count zs h in
+    let below : (k : ℕ) → k < length (take count zs) → natAbs (getD (take count zs) k (pos 0)) < 10 ^ 19 =
+    λ k l. omega (arith, ap natAbs (getD-take count zs k (pos 0) (omega arith)), small k (omega arith)) in
+    omega (arith, numbers-short 19 word (take count zs) (omega arith) below)
+
+pub put-ended : {w out out′ : List ℕ} {at r : ℕ} → Put w out at out′ r → r < length out′ → Put (w ++ (lineEnd ∷ [])) out at (set out′ r lineEnd) (r + 1)
+put-ended {out′ = out′} {r = r} f h = put-then f (put-byte out′ r lineEnd h)

@@ -4,3 +4,4 @@ pub mod label;
 pub mod number;
 pub mod parts;
 pub mod printing;
+pub mod reader;

@@ -5,8 +5,9 @@ ghost use lib.IntN.{pos, natAbs};
 ghost use lib.ListN.{length, getD, take};
 ghost use Rattle.text.specs.Number.{printMagnitude, print};
 ghost use Rattle.text.specs.Saturated.{magnitudeLimit};
-ghost use Rattle.text.specs.Put.{numbersAfter, Put};
+ghost use Rattle.text.specs.Put.{numbersAfter, numbersLine, Put};
 use crate::parts::COMMA;
+use crate::parts::LINE_END;
 
 const ZERO: u8 = 48;
 
@@ -79,4 +80,16 @@ pub fn put_numbers(out: &mut [u8], at: usize, word: &[u8], numbers: &[i64], coun
         i += 1;
     }
     from
+}
+
+// The same as a line, with its byte 10.
+pub fn put_line(out: &mut [u8], at: usize, word: &[u8], numbers: &[i64], count: usize) -> usize
+    requires { ⌜ (count ≤ length (now numbers)) × (((k : ℕ) → k < count → natAbs (getD (now numbers) k (pos 0)) < 2 ^ 63)
+        × (at + length (now word) + count * 21 < length (now out))) ⌝ }
+    ensures { λ r.
+        ⌜ Put (numbersLine (now (word .entry)) (take count (now (numbers .entry)))) (now (out .entry)) at (now (out .exit)) r ⌝ }
+{
+    let end = put_numbers(out, at, word, numbers, count);
+    out[end] = LINE_END;
+    end + 1
 }

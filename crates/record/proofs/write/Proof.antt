@@ -1,25 +1,28 @@
 -- The tests are those of the definition, in its order. Figures within their limits can be printed, into an array with room for every
--- record; the record's text stands in its first places, and these are copied to the buffer where it is long enough.
+-- record; the record's text stands in its first places, and these are handed out.
 use mathlib.Core.Path.{_≡_, sym, ap, _∙_}
 use mathlib.Core.Bool.{true}
+use mathlib.Core.List.{List}
+use Prim.Native.Nat.{ℕ}
 use native.Mathlib.Omega.{arith}
 use borrow.Author.Needs.{needs}
 use borrow.Author.Tests.{not-true, not-false}
 use lib.ListN.{length}
 use lib.Seq.{length-take-le}
 use denote.Ref.{now}
+use Rattle.lists.specs.Filled.{filled}
+use Rattle.refusal.specs.Outcome.{numberOf}
 use Rattle.geometry.specs.Limits.{total, rowLimit, rowsWithin}
 use Rattle.channel.specs.Channel.{channelTypes}
 use Rattle.envelope.specs.Figures.{figuresWithin}
 use Rattle.envelope.specs.Agreement.{agrees}
 use Rattle.record_print.specs.Printed.{recordText}
-use Rattle.record.specs.Answers.{written}
-use Rattle.record.specs.WriteLaws.{within-printing, outside-figures, outside-rows, refused-writing, short-writing, writing-written}
+use Rattle.record.specs.Answers.{textWritten}
+use Rattle.record.specs.WriteLaws.{within-printing, outside-figures, outside-rows, refused-writing, writing-agreed}
 use Rattle.record.proofs.WriteSteps.{
   lent-within,
-  printed-length,
+  printed-text,
   printed-fits,
-  buffer-filled,
   buffer-left,
 }
 use Rattle.record.proofs.write.Statement.{statement}
@@ -125,53 +128,36 @@ print-record-requires c κs =
       omega (arith, count),
     )
 
-not-written-requires-4 : tie.Need-not-written-requires-4
-not-written-requires-4 c κs = search needs
-
-returns-4 : tie.Need-returns-4
-returns-4 c =
-    let at-print = c .before .before .before in
-    let past-agreement = at-print .before .before .before in
-    let past-rows = past-agreement .before .before .before in
-    let past-figures = past-rows .before .before in
-    let args = start-of (past-figures .before) .args in
-    let e = c .not-written4 .ensures in (
-      e
-          ∙ sym (short-writing total rowLimit channelTypes (now (args .rows)) (args .m) (args .envelope) (length (now (args .buffer)))
-          (record { figures-kept = figures past-figures; rows-kept = within past-rows; agreeing = agreeing past-agreement })
-          (omega (arith, printed-length channelTypes (args .envelope) _ _ _ (at-print .print-record .ensures), c .before .if4 .taken))),
-      buffer-left (c .not-written4 .result) 12 (recordText channelTypes (args .envelope)) (now (args .buffer)) e,
-    )
-
 array-share-prefix-text : tie.Need-array-share-prefix-text
 array-share-prefix-text c =
-    let at-print = c .before .before in
+    let at-print = c .before in
     printed-fits channelTypes (start-of (at-print .before .before .before .before .before .before .before .before .before) .args .envelope) _ _ _
     (at-print .print-record .ensures)
 
-slice-aggregate-copy : tie.Need-slice-aggregate-copy
-slice-aggregate-copy c = sym (length-take-le _ _ (array-share-prefix-text (c .before)))
+slice-aggregate-hand-out : tie.Need-slice-aggregate-hand-out
+slice-aggregate-hand-out c = sym (length-take-le _ _ (array-share-prefix-text (c .before)))
 
-copy-requires : tie.Need-copy-requires
-copy-requires c κs = omega (arith, slice-aggregate-copy (c .before), c .before .before .if4 .left)
+hand-out-requires : tie.Need-hand-out-requires
+hand-out-requires c κs = search needs
 
 same-length : tie.Need-same-length
 same-length c = search needs
 
-returns-5 : tie.Need-returns-5
-returns-5 c =
-    let at-print = c .before .before .before .before .before .before .before in
+returns-4 : tie.Need-returns-4
+returns-4 c =
+    let at-print = c .before .before .before .before .before .before in
     let past-agreement = at-print .before .before .before in
     let past-rows = past-agreement .before .before .before in
     let past-figures = past-rows .before .before in
     let args = start-of (past-figures .before) .args in
-    let put = at-print .print-record .ensures in
-    let count = printed-length channelTypes (args .envelope) _ _ _ put in (
-      ap written (sym count)
-          ∙ sym (writing-written total rowLimit channelTypes (now (args .rows)) (args .m) (args .envelope) (length (now (args .buffer)))
-          (record { figures-kept = figures past-figures; rows-kept = within past-rows; agreeing = agreeing past-agreement })
-          (omega (arith, count, c .before .before .before .before .before .if4 .left))),
-      c .before .before .copy .ensures .1 ∙ buffer-filled channelTypes (args .envelope) _ _ _ put (now (args .buffer)),
+    let text = printed-text channelTypes (args .envelope) _ _ _ (at-print .print-record .ensures) in
+    let handed = c .before .before .hand-out .ensures in
+    let answer = c .before .before .hand-out .result in
+    let places = length (now (args .buffer)) in (
+      handed .0 ∙ ap (λ (l : List ℕ). textWritten l places) text
+          ∙ sym (writing-agreed total rowLimit channelTypes (now (args .rows)) (args .m) (args .envelope) places
+          (record { figures-kept = figures past-figures; rows-kept = within past-rows; agreeing = agreeing past-agreement })),
+      handed .1 ∙ ap (λ (l : List ℕ). filled (numberOf (answer .outcome)) (answer .length) l (now (args .buffer))) text,
     )
 
 pub write-spec : {M : Type 1} → statement M
@@ -193,10 +179,8 @@ write-spec =
     slice-aggregate-print-record
     slice-aggregate-print-record-2
     print-record-requires
-    not-written-requires-4
-    returns-4
     array-share-prefix-text
-    slice-aggregate-copy
-    copy-requires
+    slice-aggregate-hand-out
+    hand-out-requires
     same-length
-    returns-5)
+    returns-4)
