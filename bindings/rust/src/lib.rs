@@ -1,6 +1,7 @@
 //! Safe calls of the proved library: reference texts read into rows, a tight ball round them drawn
 //! in whole numbers, the check of weights that anybody has chosen, the verdict on a reading, the
-//! records of envelopes written and read, and the figures of charts and of the panel.
+//! records of envelopes written and read, and the figures of charts and of the panel. [`programs`]
+//! has the same as whole programs, text to text.
 //!
 //! There are m rows (1 to 256) of n channels (1 to 8); each coordinate is a whole number from
 //! -4,000 to 4,000, counted in steps of its channel. Rows are lent as one list, row by row: the first
@@ -148,6 +149,7 @@
 //! writes, for x86-64.
 
 mod chart;
+pub mod programs;
 mod record;
 
 pub use chart::{Mark, MarkAnswer, PanelAnswer, Point, chart, chart_given, panel, panel_into};

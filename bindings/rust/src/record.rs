@@ -18,7 +18,8 @@ pub struct Envelope {
     pub weights: Vec<u32>,
 }
 
-/// What the library answers to the writing of a record, in numbers; see [`write_record_into`].
+/// What the library answers to the writing of a record or of what a program prints, in numbers; see
+/// [`write_record_into`] and [`Program::answer`](crate::programs::Program::answer).
 #[repr(C)]
 #[derive(Clone, Copy, Debug, PartialEq, Eq, Hash)]
 pub struct WrittenAnswer {
@@ -26,7 +27,7 @@ pub struct WrittenAnswer {
     pub number: u32,
     /// The line at fault, 0 where none is.
     pub line: u32,
-    /// How many bytes the record has.
+    /// How many bytes were written.
     pub length: usize,
 }
 

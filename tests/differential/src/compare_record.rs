@@ -2,7 +2,7 @@
 //! implementation.
 
 use crate::lent::{self, Followed, Guarded, Room};
-use crate::product::{BEHIND_TYPES, LentFigures, given, owned, refused};
+use crate::product::{BEHIND_TYPES, LentFigures, given, owned, refused, written_in_numbers};
 use outside::random::Random;
 use outside::records::{self, Envelope, TypedRows};
 use outside::rules::{CHANNEL_LIMIT, ROW_LIMIT, Refusal};
@@ -214,17 +214,5 @@ impl Writing {
     pub fn shown(&self) -> String {
         let (places, m) = (self.lent.places.slice(), self.m);
         format!("{:?}, {m} rows {places:?}", self.envelope)
-    }
-}
-
-fn written_in_numbers(outcome: Result<usize, Refusal>) -> cundarivo::WrittenAnswer {
-    let (number, line, length) = match outcome {
-        Ok(length) => (0, 0, length),
-        Err(refusal) => (refusal.number, refusal.line, 0),
-    };
-    cundarivo::WrittenAnswer {
-        number,
-        line,
-        length,
     }
 }

@@ -5,7 +5,8 @@
 //! - `compare_reading`: one reading through both, in the same way.
 //! - `compare_record`: one record read and one envelope written through both, in the same way.
 //! - `compare_chart`: one chart and one panel through both, in the same way.
-//! - `product`: the figures of an envelope, and refusals, as the product takes and gives them.
+//! - `compare_program`: one input of a program through both, in the same way.
+//! - `product`: the figures of an envelope, refusals and answers, as the product takes and gives them.
 //! - `lent`: slices lent to the product, with what lies round them.
 //! - `named`: tests by the names of known cases.
 //! - `tally`: what was compared and which refusals were reached.
@@ -13,6 +14,7 @@
 
 pub mod compare;
 pub mod compare_chart;
+pub mod compare_program;
 pub mod compare_reading;
 pub mod compare_record;
 pub mod compare_text;

@@ -1,4 +1,4 @@
-//! The figures of an envelope, and refusals, as the product takes and gives them.
+//! The figures of an envelope, refusals and answers, as the product takes and gives them.
 
 use crate::lent::Followed;
 use outside::readings::EnvelopeFigures;
@@ -59,5 +59,18 @@ pub fn refused(refusal: Refusal) -> cundarivo::Refusal {
     cundarivo::Refusal {
         number: refusal.number,
         line: refusal.line,
+    }
+}
+
+/// The answer to a writing of so many bytes, or its refusal.
+pub fn written_in_numbers(outcome: Result<usize, Refusal>) -> cundarivo::WrittenAnswer {
+    let (number, line, length) = match outcome {
+        Ok(length) => (0, 0, length),
+        Err(refusal) => (refusal.number, refusal.line, 0),
+    };
+    cundarivo::WrittenAnswer {
+        number,
+        line,
+        length,
     }
 }

@@ -78,6 +78,13 @@ impl Enveloped {
         Enveloped { rows, envelope }
     }
 
+    /// The same with channels of these types.
+    pub fn with_types(mut self, types: &[ChannelType]) -> Enveloped {
+        self.rows.types = reference::codes(types);
+        self.envelope.figures.types = reference::codes(types);
+        self
+    }
+
     /// The types of the channels.
     pub fn types(&self) -> Vec<ChannelType> {
         reference::types_with(&self.rows.types, self.rows.set.n).expect("codes of types")

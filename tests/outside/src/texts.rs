@@ -3,7 +3,8 @@
 
 use crate::random::Random;
 use crate::reference::{CHANNEL_TYPES, ChannelType, LABEL_LIMIT};
-use crate::rules::{CHANNEL_LIMIT, ROW_LIMIT};
+use crate::rules::{CHANNEL_LIMIT, COORDINATE_LIMIT, ROW_LIMIT};
+use crate::sets::Set;
 use std::collections::HashSet;
 
 const LABEL_BYTES: &[u8] = b"ABCDEFGHIJKLMNOPQRSTUVWXYZ0123456789-";
@@ -26,22 +27,48 @@ impl Draft {
     /// A text of m rows and n channels; within the rules where m and n are.
     pub fn new(random: &mut Random, m: usize, n: usize) -> Draft {
         let types: Vec<ChannelType> = (0..n).map(|_| random.pick(&CHANNEL_TYPES)).collect();
-        let mut draft = Draft {
-            heading: heading(&types),
-            types,
-            rows: Vec::with_capacity(m),
-            table: Vec::with_capacity(m * n),
-        };
+        let mut draft = Draft::without_rows(types);
         for label in labels(random, m) {
-            draft.add_row(random, label);
+            let types = draft.types.iter();
+            let values = types.map(|channel| value(random, channel)).collect();
+            draft.add_row(label, values);
         }
         draft
     }
 
-    fn add_row(&mut self, random: &mut Random, label: Vec<u8>) {
+    /// A text of the rows of a set, each coordinate halved into the range of a type as wide as any.
+    pub fn of_set(random: &mut Random, set: &Set) -> Draft {
+        let is_widest = |channel: &ChannelType| channel.high - channel.low == COORDINATE_LIMIT;
+        let widest: Vec<ChannelType> = CHANNEL_TYPES.into_iter().filter(is_widest).collect();
+        let types = (0..set.n).map(|_| random.pick(&widest)).collect();
+        let mut draft = Draft::without_rows(types);
+        let halved = |(channel, place): (&ChannelType, &i32)| {
+            let reads = (channel.low + channel.high + place) / 2;
+            (reads.to_string(), reads)
+        };
+        for (label, row) in labels(random, set.m)
+            .into_iter()
+            .zip(set.places.chunks(set.n))
+        {
+            let values = draft.types.iter().zip(row).map(halved).collect();
+            draft.add_row(label, values);
+        }
+        draft
+    }
+
+    fn without_rows(types: Vec<ChannelType>) -> Draft {
+        Draft {
+            heading: heading(&types),
+            types,
+            rows: Vec::new(),
+            table: Vec::new(),
+        }
+    }
+
+    /// Adds a row of value fields, with what they read as.
+    fn add_row(&mut self, label: Vec<u8>, values: Vec<(String, i32)>) {
         let mut row = vec![label];
-        for channel in &self.types {
-            let (field, reads) = value(random, channel);
+        for (field, reads) in values {
             row.push(field.into_bytes());
             self.table.push(reads);
         }

@@ -1,0 +1,234 @@
+//! The product compared with the outside implementation on seeded inputs of the four programs, whole
+//! and changed, with buffers of every kind of length, and on full sweeps. SEED and INPUTS in the
+//! environment give another seed and another number of inputs of each program.
+
+use differential::compare_program::Run;
+use differential::reached::Reached;
+use outside::known_programs;
+use outside::program_inputs::{self, Change, Source};
+use outside::programs::{PROGRAMS, Program};
+use outside::random::{Random, number_from_environment};
+use outside::reference::TEXT_LIMIT;
+use outside::sweeps;
+use std::cmp::Ordering;
+use std::collections::BTreeSet;
+use std::fmt::Display;
+use std::time::Instant;
+
+const SEED: u64 = 20_260_112;
+const INPUTS: u64 = 110_000;
+/// Each kind of line of accepted texts and each kind of buffer is met in at least one of so many
+/// inputs of a program.
+const ANSWER_SHARE: u64 = 20;
+/// Each refusal of each text and each change is met in at least one of so many.
+const KIND_SHARE: u64 = 2_500;
+/// A drawing that ends with its budget.
+const BUDGET_SHARE: u64 = 5_000;
+const LEAST_SWEPT: u64 = 100_000;
+
+struct Comparison {
+    random: Random,
+    compared: u64,
+    reached: Reached,
+}
+
+fn main() {
+    let seed = number_from_environment("SEED", SEED);
+    let inputs = number_from_environment("INPUTS", INPUTS);
+    println!("seed: {seed}");
+    let started = Instant::now();
+    let mut comparison = Comparison {
+        random: Random::new(seed),
+        compared: 0,
+        reached: Reached::default(),
+    };
+    for _ in 0..inputs {
+        let source = Source::new(&mut comparison.random);
+        for program in PROGRAMS {
+            comparison.compare_seeded(program, &source);
+        }
+    }
+    println!("seeded inputs of each program: {inputs}");
+    comparison.reached.print();
+    comparison.require(inputs);
+    comparison.compare_sweeps();
+    println!("inputs in all: {}", comparison.compared);
+    println!("seconds: {:.1}", started.elapsed().as_secs_f64());
+}
+
+impl Comparison {
+    /// An input within the rules but for single readings, or a changed one.
+    fn compare_seeded(&mut self, program: Program, source: &Source) {
+        let random = &mut self.random;
+        let (input, changes) = if random.below(5) < 2 {
+            (source.whole(random, program), Vec::new())
+        } else {
+            source.changed(random, program)
+        };
+        let run = self.compare(program, &input);
+        for change in changes {
+            self.reached.count(change_name(program, change));
+        }
+        for answer in answers(program, &input, &run.output) {
+            self.reached.count(answer_name(program, &answer));
+        }
+    }
+
+    /// With a buffer of the output's length, a longer one, or one of any length.
+    fn compare(&mut self, program: Program, input: &[u8]) -> Run {
+        let run = Run::new(program, input);
+        let length = run.output.len();
+        let random = &mut self.random;
+        let any = random.index(length + 2);
+        let places = random.pick(&[length, length + 1, length + 40, any]);
+        let number = run.compare(random, places);
+        assert_eq!(number == 13, places < length, "{}", run.shown());
+        if random.once_in(16) {
+            run.compare_wrapper();
+        }
+        self.reached.count(buffer_name(program, places, length));
+        self.compared += 1;
+        run
+    }
+
+    /// Stops the tests where an answer, a change or a length of a buffer was not met often enough.
+    fn require(&self, inputs: u64) {
+        for program in PROGRAMS {
+            for saying in sayings(program) {
+                let name = answer_name(program, saying);
+                self.reached.require(&name, inputs / ANSWER_SHARE);
+            }
+            for refusal in refusals(program) {
+                let name = answer_name(program, &refusal);
+                self.reached.require(&name, inputs / KIND_SHARE);
+            }
+            for places in 0..3 {
+                let name = buffer_name(program, places, 1);
+                self.reached.require(&name, inputs / ANSWER_SHARE);
+            }
+            for change in program_inputs::changes(program) {
+                let name = change_name(program, change);
+                self.reached.require(&name, inputs / KIND_SHARE);
+            }
+        }
+        let name = answer_name(Program::Draw, "Budget");
+        self.reached.require(&name, inputs / BUDGET_SHARE);
+    }
+
+    /// Inputs that differ from document 01's in a byte or in the order of lines.
+    fn compare_sweeps(&mut self) {
+        let before = self.compared;
+        let examples = known_programs::examples().into_iter();
+        for (program, input) in examples.flat_map(|known| known.runs) {
+            let mut visit = |changed: &[u8]| drop(self.compare(program, changed));
+            sweeps::one_byte_changes(&input, &mut visit);
+            sweeps::line_changes(&input, &mut visit);
+        }
+        let swept = self.compared - before;
+        println!("inputs of sweeps: {swept}");
+        assert!(swept >= LEAST_SWEPT, "the sweeps are whole");
+    }
+}
+
+/// The refusals of single readings; no text is refused by one of these.
+const ON_READINGS: [&str; 3] = ["NO,3,1", "NO,4,1", "NO,10,1"];
+
+const TEXTS: [&str; 3] = ["reference text", "record", "readings"];
+
+/// What a program answers: the refusal of a text, or what its lines say, each once.
+fn answers(program: Program, input: &[u8], output: &[u8]) -> BTreeSet<String> {
+    let output = std::str::from_utf8(output).expect("a text");
+    let first = output.lines().next().expect("a line");
+    let on_reading = program == Program::Judge && ON_READINGS.contains(&first);
+    let refusal = first.strip_prefix("NO,").filter(|_| !on_reading);
+    if let Some((number, _)) = refusal.and_then(|refusal| refusal.split_once(',')) {
+        return [refusal_name(refused_text(program, input, number), number)].into();
+    }
+    let lines = output.lines();
+    match program {
+        Program::Draw if output.contains(",S\n") => [String::from("Settled")].into(),
+        Program::Draw => [String::from("Budget")].into(),
+        Program::Panel => lines.map(sign).collect(),
+        _ => lines.map(without_excess).collect(),
+    }
+}
+
+/// The text that is refused by a number, counted from 0.
+fn refused_text(program: Program, input: &[u8], number: &str) -> usize {
+    let of_length = |text: &Vec<u8>| (1..=TEXT_LIMIT).contains(&text.len());
+    match number {
+        "1" => program
+            .split(input)
+            .iter()
+            .take_while(|text| of_length(text))
+            .count(),
+        "11" | "12" => 1,
+        _ => 0,
+    }
+}
+
+fn refusal_name(text: usize, number: impl Display) -> String {
+    format!("{} refused by {number}", TEXTS[text])
+}
+
+/// The sign of the step in a line of the panel.
+fn sign(line: &str) -> String {
+    let (_, step) = line.split_once(',').expect("tag and step");
+    let sign = match step.parse::<i32>().expect("a step") {
+        0 => "0",
+        1.. => "above 0",
+        _ => "below 0",
+    };
+    format!("step {sign}")
+}
+
+fn without_excess(line: &str) -> String {
+    let verdict = line.strip_prefix("ALARM,").map_or(line, |_| "ALARM");
+    String::from(verdict)
+}
+
+fn answer_name(program: Program, answer: &str) -> String {
+    format!("{program:?}: {answer}")
+}
+
+fn change_name(program: Program, change: Change) -> String {
+    format!("{program:?}, change: {change:?}")
+}
+
+fn buffer_name(program: Program, places: usize, length: usize) -> String {
+    let kind = match places.cmp(&length) {
+        Ordering::Less => "shorter",
+        Ordering::Equal => "exact",
+        Ordering::Greater => "longer",
+    };
+    format!("{program:?}, buffer: {kind}")
+}
+
+/// What programs say of texts that are accepted.
+fn sayings(program: Program) -> &'static [&'static str] {
+    match program {
+        Program::Draw => &["Settled"],
+        Program::Verify => &["OK"],
+        Program::Judge => &["QUIET", "ALARM", "NO,3,1", "NO,4,1", "NO,10,1"],
+        Program::Panel => &["step above 0", "step 0", "step below 0"],
+    }
+}
+
+/// Every refusal of every text.
+fn refusals(program: Program) -> Vec<String> {
+    let texts = program.texts();
+    let of_text = |text: usize, numbers: &[u32]| -> Vec<String> {
+        numbers
+            .iter()
+            .map(|&number| refusal_name(text, number))
+            .collect()
+    };
+    let mut names = of_text(0, &[1, 2, 3, 4, 5, 6]);
+    if texts > 1 {
+        names.extend(of_text(1, &[1, 11, 12]));
+    }
+    if texts > 2 {
+        names.extend(of_text(2, &[1]));
+    }
+    names
+}
