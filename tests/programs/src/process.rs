@@ -49,11 +49,7 @@ pub fn run_endless(program: &Path, start: &[u8], repeated: &[u8]) -> (Vec<u8>, u
 
 /// Runs a program while `write` writes its input and another thread reads what it prints.
 fn feed(program: &Path, write: impl FnOnce(&mut dyn Write)) -> Vec<u8> {
-    let mut child = Command::new(program)
-        .stdin(Stdio::piped())
-        .stdout(Stdio::piped())
-        .spawn()
-        .expect("a program that runs");
+    let mut child = start(program);
     let mut stdin = child.stdin.take().expect("a pipe");
     let output = collect(child.stdout.take().expect("a pipe"));
     write(&mut stdin);
@@ -61,6 +57,12 @@ fn feed(program: &Path, write: impl FnOnce(&mut dyn Write)) -> Vec<u8> {
     let status = child.wait().expect("a program that ends");
     assert!(status.success(), "{}: {status}", program.display());
     output.join().expect("output")
+}
+
+fn start(program: &Path) -> Child {
+    let mut command = Command::new(program);
+    let command = command.stdin(Stdio::piped()).stdout(Stdio::piped());
+    command.spawn().expect("a program that runs")
 }
 
 fn collect(mut pipe: impl Read + Send + 'static) -> thread::JoinHandle<Vec<u8>> {
@@ -99,12 +101,9 @@ const SIGKILL: i32 = 9;
 
 /// Runs a program on input and gives the most kibibytes that it had resident. What the calling
 /// process has resident counts as well, so that this is at least the program's own peak.
+#[expect(clippy::zombie_processes, reason = "wait4 waits for the process")]
 pub fn peak_kibibytes(program: &Path, input: &[u8]) -> i64 {
-    let mut child = Command::new(program)
-        .stdin(Stdio::piped())
-        .stdout(Stdio::piped())
-        .spawn()
-        .expect("a program that runs");
+    let mut child = start(program);
     let mut stdin = child.stdin.take().expect("a pipe");
     let output = collect(child.stdout.take().expect("a pipe"));
     written(&mut stdin, input);
