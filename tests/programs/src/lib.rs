@@ -1,5 +1,5 @@
 //! What the tests of the built programs share. `rt check` builds the programs to `target/bin` of the
-//! repository; `rt` itself is not needed here.
+//! repository.
 //!
 //! - `process`: running a program on input, whole or in pieces; peak memory and kills.
 //! - `folder`: temporary folders.

@@ -1,9 +1,11 @@
 //! `./envelope` run with arguments and input.
 
+use crate::PROGRAMS;
 use std::ffi::OsStr;
 use std::io::Write;
 use std::path::{Path, PathBuf};
 use std::process::{Command, Stdio};
+use std::sync::Once;
 
 pub struct Ended {
     pub status: i32,
@@ -23,9 +25,18 @@ impl Ended {
     }
 }
 
-/// The script of the repository.
+/// The script of the repository, after it has built every program: from there on it says nothing of
+/// building.
 pub fn path() -> PathBuf {
-    crate::root().join("envelope")
+    static BUILT: Once = Once::new();
+    let path = crate::root().join("envelope");
+    BUILT.call_once(|| {
+        for name in PROGRAMS {
+            let ended = end(Command::new(&path).arg(name), b"");
+            assert_eq!(ended.text(), "NO,1,0\n", "{}", ended.messages);
+        }
+    });
+    path
 }
 
 pub fn envelope<Word: AsRef<OsStr>>(words: &[Word], input: &[u8]) -> Ended {
