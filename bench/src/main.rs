@@ -6,7 +6,9 @@ mod bytes;
 mod charts;
 mod mark;
 mod measure;
+mod memory;
 mod plain;
+mod plain_redraw;
 mod random;
 mod reader;
 mod readings;
@@ -14,6 +16,7 @@ mod record;
 mod record_fields;
 mod record_pass;
 mod records;
+mod redraw;
 mod texts;
 mod verdict;
 
@@ -45,6 +48,8 @@ fn main() {
     readings::measure_readings(&mut random);
     records::measure_records(&mut random);
     charts::measure_charts(&mut random);
+    redraw::measure_redraw(&mut random);
+    memory::measure_memory();
 }
 
 fn measure_ball(random: &mut Random) {

@@ -56,10 +56,15 @@ pub fn measure<Piece, Outcome: PartialEq + Debug>(
             });
         }
     }
+    print_line(name, times, total)
+}
+
+/// Prints one line of the rounds of each, proved first.
+pub fn print_line(name: &str, mut times: [Vec<f64>; 2], total: u64) -> Medians {
     for list in &mut times {
         list.sort_by(f64::total_cmp);
     }
-    let [proved, plain] = times.each_ref().map(|list| list[ROUNDS / 2]);
+    let [proved, plain] = times.each_ref().map(|list| list[list.len() / 2]);
     let [proved_ms, plain_ms] = [proved, plain].map(|seconds| seconds * 1_000.0);
     let of_medians = proved / plain;
     let of_minima = times[0][0] / times[1][0];

@@ -1,5 +1,6 @@
 //! A seeded source of numbers.
 
+#[derive(Clone)]
 pub struct Random(pub u64);
 
 impl Random {
