@@ -12,6 +12,7 @@
 --     statedAnswer D limit rows m codes stated       the same for what it hands over
 --     Agreeing rows m n codes stated                 what is asked of that
 --     notWritten outcome, written length             the answers of writing
+--     Part buffer count                              the buffer has so many first places
 --     textWritten text places                        what writing a text to so many places answers
 --     recordWritten D limit types rows m e places    what writing to so many places answers
 use Prim.Native.Nat.{ℕ, _≤_}
@@ -116,6 +117,11 @@ notWritten o = record { outcome = o; length = 0 }
 
 abbrev pub written : ℕ → TextWritten
 written bytes = record { outcome = Accepted; length = bytes }
+
+-- the first places of a buffer, as they are handed on
+pub record Part (buffer : List ℕ) (count : ℕ) : Type 0 where
+  pub within : count ≤ length buffer
+  pub taken : count ≡ length (take count buffer)
 
 -- 13, or the whole text
 abbrev pub textWritten : List ℕ → ℕ → TextWritten

@@ -7,7 +7,7 @@ ghost use Rattle.geometry.specs.Limits.{total, rowLimit};
 ghost use Rattle.lists.specs.Filled.{filled};
 ghost use Rattle.channel.specs.Channel.{channelTypes};
 ghost use Rattle.record_print.specs.Printed.{recordText};
-ghost use Rattle.record.specs.Answers.{notRead, givenWithin, Agreeing, statedAnswer, recordRead, notWritten, textWritten, recordWritten};
+ghost use Rattle.record.specs.Answers.{notRead, givenWithin, Agreeing, statedAnswer, recordRead, notWritten, Part, textWritten, recordWritten};
 use ball::Ball;
 use envelope::Envelope;
 use envelope::Figures;
@@ -150,6 +150,7 @@ pub fn hand_out(text: &[u8], buffer: &mut [u8]) -> TextWritten
     ensures answer { λ r. ⌜ r ≡ textWritten (now (text .entry)) (length (now (buffer .entry))) ⌝ }
     ensures buffer_filled { λ r.
         ⌜ now (buffer .exit) ≡ filled (numberOf (r .outcome)) (r .length) (now (text .entry)) (now (buffer .entry)) ⌝ }
+    ensures part { λ r. ⌜ Part (now (buffer .exit)) (r .length) ⌝ }
 {
     let length = text.len();
     if buffer.len() < length {

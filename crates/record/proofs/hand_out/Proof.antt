@@ -5,7 +5,8 @@ use borrow.Author.Needs.{needs}
 use lib.ListN.{length}
 use denote.Ref.{now}
 use Rattle.record.specs.WriteLaws.{text-short, text-fits}
-use Rattle.record.proofs.WriteSteps.{buffer-filled, buffer-left}
+use Rattle.record.specs.Answers.{written}
+use Rattle.record.proofs.WriteSteps.{buffer-filled, buffer-left, buffer-part}
 use Rattle.record.proofs.hand_out.Statement.{statement}
 use Rattle.record.proofs.hand_out.Tie as tie
 
@@ -18,7 +19,9 @@ returns c =
     let text = now (args .text) in
     let buffer = now (args .buffer) in
     let e = c .not-written .ensures in
-    (e ∙ sym (text-short text (length buffer) (omega arith)), buffer-left (c .not-written .result) 12 text buffer e)
+    let is = e ∙ sym (text-short text (length buffer) (omega arith)) in
+    let left = buffer-left (c .not-written .result) 12 text buffer e in
+    (is, (left, buffer-part text buffer buffer (c .not-written .result) is left))
 
 copy-requires : tie.Need-copy-requires
 copy-requires c κs = search needs
@@ -31,7 +34,9 @@ returns-2 c =
     let args = c .before .before .before .before .before .before .before .args in
     let text = now (args .text) in
     let buffer = now (args .buffer) in
-    (sym (text-fits text (length buffer) (omega arith)), c .before .before .copy .ensures .1 ∙ buffer-filled text buffer)
+    let is = sym (text-fits text (length buffer) (omega arith)) in
+    let filling = c .before .before .copy .ensures .1 ∙ buffer-filled text buffer in
+    (is, (filling, buffer-part text buffer _ (written (length text)) is filling))
 
 pub hand-out-spec : {M : Type 1} → statement M
 hand-out-spec =

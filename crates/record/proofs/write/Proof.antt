@@ -157,7 +157,7 @@ returns-4 c =
       handed .0 ∙ ap (λ (l : List ℕ). textWritten l places) text
           ∙ sym (writing-agreed total rowLimit channelTypes (now (args .rows)) (args .m) (args .envelope) places
           (record { figures-kept = figures past-figures; rows-kept = within past-rows; agreeing = agreeing past-agreement })),
-      handed .1 ∙ ap (λ (l : List ℕ). filled (numberOf (answer .outcome)) (answer .length) l (now (args .buffer))) text,
+      handed .1 .0 ∙ ap (λ (l : List ℕ). filled (numberOf (answer .outcome)) (answer .length) l (now (args .buffer))) text,
     )
 
 pub write-spec : {M : Type 1} → statement M

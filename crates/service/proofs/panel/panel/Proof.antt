@@ -1,9 +1,6 @@
 -- The output is printed into an array with room for it, and handed out from there.
-use mathlib.Core.Path.{sym}
 use borrow.Author.Needs.{needs}
-use lib.Seq.{length-take-le}
-use denote.Ref.{now}
-use Rattle.service.proofs.LineSteps.{printed-fits, handed}
+use Rattle.service.proofs.LineSteps.{handed}
 use Rattle.service.proofs.panel.panel.Statement.{statement}
 use Rattle.service.proofs.panel.panel.Tie as tie
 
@@ -14,10 +11,10 @@ put-output-requires : tie.Need-put-output-requires
 put-output-requires c κs = search needs
 
 array-share-prefix-text : tie.Need-array-share-prefix-text
-array-share-prefix-text c = printed-fits (c .before .put-output .ensures)
+array-share-prefix-text c = search needs
 
 slice-aggregate-hand-out : tie.Need-slice-aggregate-hand-out
-slice-aggregate-hand-out c = sym (length-take-le _ _ (array-share-prefix-text (c .before)))
+slice-aggregate-hand-out c = search needs
 
 hand-out-requires : tie.Need-hand-out-requires
 hand-out-requires c κs = search needs
@@ -26,10 +23,7 @@ same-length : tie.Need-same-length
 same-length c = search needs
 
 returns : tie.Need-returns
-returns c =
-    let at-hand-out = c .before .before in
-    let at-output = at-hand-out .before .before .before .before in
-    handed (now (at-output .before .before .before .before .args .output)) (at-output .put-output .ensures) (at-hand-out .hand-out .ensures)
+returns c = handed _ _ _ (c .before .before .before .before .before .before .put-output .ensures) (c .before .before .hand-out .ensures)
 
 pub panel-spec : {M : Type 1} → statement M
 panel-spec =
