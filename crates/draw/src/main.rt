@@ -1,5 +1,4 @@
-// Reads a reference text from standard input, and writes the record of the drawing of its rows to standard output, or
-// the refusal.
+// Reads a reference text from standard input, and writes the record of the drawing of its rows to standard output, or the refusal.
 use libc::STDIN_FILENO;
 use libc::STDOUT_FILENO;
 use service::TEXT_READ;
@@ -9,9 +8,9 @@ const INPUT_MOST: usize = TEXT_READ;
 
 fn main() {
     let mut input = [0u8; INPUT_MOST];
-    let n = io::read_full(STDIN_FILENO, &mut input);
+    let count = io::read_full(STDIN_FILENO, &mut input);
     let mut output = [0u8; OUTPUT_MOST];
-    let answer = service::draw::draw(&input[..n], &mut output);
+    let answer = service::draw::draw(&input[..count], &mut output);
     let length = answer.length;
     io::write_all(STDOUT_FILENO, &output[..length]);
 }

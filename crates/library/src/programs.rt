@@ -11,8 +11,8 @@ ghost use Rattle.library.specs.RecordText.{writtenInNumbers};
 use crate::record_text::WrittenAnswer;
 use crate::record_text::written_in_numbers;
 
-// The program `draw`: the record of the drawing of a reference text's rows. It fills the first `length` places of `output` where accepted, and writes
-// nothing else. Refused: 13.
+// The program `draw`: the record of the drawing of a reference text's rows. Where the output fits, it fills the first `length` places
+// of `output` and no other. Refused, with `output` as it was: 13.
 #[no_mangle]
 pub extern "C" fn cundarivo_program_draw(input: &[u8], output: &mut [u8]) -> WrittenAnswer
     ensures answer { λ r.
@@ -24,8 +24,7 @@ pub extern "C" fn cundarivo_program_draw(input: &[u8], output: &mut [u8]) -> Wri
     written_in_numbers(service::draw::draw(input, output))
 }
 
-// The program `verify`: whether a record agrees with a reference text. It fills the first `length` places of `output` where accepted, and writes
-// nothing else. Refused: 13.
+// The program `verify`: whether a record agrees with a reference text. Output and refusal as for `draw`.
 #[no_mangle]
 pub extern "C" fn cundarivo_program_verify(input: &[u8], output: &mut [u8]) -> WrittenAnswer
     ensures answer { λ r.
@@ -37,8 +36,7 @@ pub extern "C" fn cundarivo_program_verify(input: &[u8], output: &mut [u8]) -> W
     written_in_numbers(service::verify::verify(input, output))
 }
 
-// The program `judge`: the verdicts on readings against a record that agrees with a reference text. It fills the first `length` places of `output` where accepted, and writes
-// nothing else. Refused: 13.
+// The program `judge`: the verdict on each reading, against a record that agrees with a reference text. Output and refusal as for `draw`.
 #[no_mangle]
 pub extern "C" fn cundarivo_program_judge(input: &[u8], output: &mut [u8]) -> WrittenAnswer
     ensures answer { λ r.
@@ -50,8 +48,7 @@ pub extern "C" fn cundarivo_program_judge(input: &[u8], output: &mut [u8]) -> Wr
     written_in_numbers(service::judge::judge(input, output))
 }
 
-// The program `panel`: the centre of such a record in whole steps. It fills the first `length` places of `output` where accepted, and writes
-// nothing else. Refused: 13.
+// The program `panel`: the centre of a record that agrees with a reference text, in whole steps. Output and refusal as for `draw`.
 #[no_mangle]
 pub extern "C" fn cundarivo_program_panel(input: &[u8], output: &mut [u8]) -> WrittenAnswer
     ensures answer { λ r.

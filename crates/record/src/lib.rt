@@ -25,7 +25,7 @@ use text::parts::same_bytes;
 use text::parts::text_within;
 
 // room enough for every record
-const RECORD_MOST: usize = 320 + ROWS * 18;
+pub const RECORD_MOST: usize = 320 + ROWS * 18;
 
 // What reading a record answers. In a refusal every figure and weight is 0.
 pub struct EnvelopeRead {

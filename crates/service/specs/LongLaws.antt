@@ -1,8 +1,8 @@
 -- What follows enough bytes of an input changes no program's output, for any total D, row limit and table of types: a text above the limit
 -- on texts is refused, whatever it is. Of several texts, each that is not refused takes at most that limit and the empty line after it.
 --     draw-long                   an input above the limit
---     verify-long, panel-long     an input of twice one more byte than the limit
---     judge-long                  an input of three times as many
+--     verify-long, panel-long     an input of at least twice as many bytes as the limit and one
+--     judge-long                  an input of at least three times as many
 use Prim.Native.Nat.{ℕ, suc, _+_, _*_, _≤_, _<_}
 use mathlib.Core.Path.{_≡_, refl, sym, ap, ap₂, _∙_}
 use mathlib.Core.Bool.{Bool, true, false}
@@ -28,7 +28,8 @@ use Rattle.record.specs.declared.EnvelopeRead.{EnvelopeRead}
 use Rattle.service.specs.Texts.{firstTextLength, firstText, furtherTexts}
 use Rattle.service.specs.TextsLaws.{first-length, further-length, first-kept, further-kept, first-more}
 use Rattle.service.specs.Lines.{printRefusal, printAccepted}
-use Rattle.service.specs.Programs.{contentOutput, drawOutput, contentAgainst, recordAgainst, unlessRefused, ofFigures, recordOfTwo, verifyOutput, shownOutput, panelOutput, readingsOutput, judgeOutput}
+use Rattle.service.specs.Programs.{unlessRefused, contentOutput, drawOutput, contentAgainst, recordAgainst, recordOfTwo, ofFigures}
+use Rattle.service.specs.Programs.{verifyOutput, shownOutput, panelOutput, readingsOutput, judgeOutput}
 
 -- ---- a text above the limit
 
@@ -86,7 +87,8 @@ module _ (D limit : ℕ) (types : List ChannelType) where
 
 -- ---- the first text of an input and what follows it
 
--- the first text ends within the input, and many bytes are left after it; or it is above the limit, whatever follows
+-- the first text ends within the input, and at most one byte more than the limit stands before what is left; or it is above the limit,
+-- whatever follows
 data Parted (input more : List ℕ) : Type 0 where
   kept : firstText (input ++ more) ≡ firstText input → furtherTexts (input ++ more) ≡ furtherTexts input ++ more
       → length input ≤ suc textLimit + length (furtherTexts input) → Parted input more

@@ -1,12 +1,12 @@
--- The texts of a program's input. A program that takes several has them in order, parted by empty lines: a text runs to the first empty
--- line, which belongs to neither, and the last one to the end of the input. A text that is not there is empty, and so is one that starts
--- with an empty line.
+-- The texts of a program's input. A program that takes several has them in order, parted by empty lines, which belong to no text: a text
+-- runs to the first empty line at or after its start, the last one to the end of the input. A text that is not there is empty, and so is
+-- one, other than the last, that would start with an empty line.
 --     firstTextLength starts l     how many bytes of l stand before its first empty line, all where it has none; `starts` says whether a
 --                                  line starts at the first byte of l
 --     firstText input              the first text
---     furtherTexts input           what follows the empty line after it
---     withEnds parts               the lines of a text that is cut into these parts, each with its byte 10
---     linesWithEnds text           the lines of a text, each with its byte 10
+--     furtherTexts input           what follows the empty line after it; nothing where there is none
+--     withEnds parts               the lines of a text that is cut into these parts, each with its byte 10, if it has one
+--     linesWithEnds text           the lines of a text in the same way
 use Prim.Native.Nat.{ℕ, suc}
 use mathlib.Core.Bool.{Bool, true, cond, _&&_}
 use mathlib.Core.List.{List, [], _∷_, _++_}

@@ -1,15 +1,17 @@
 // The four programs as calls: each takes the whole input of a program and gives its whole output. A program reads, makes one of these
 // calls and writes.
 //
-// `draw` prints the record of a reference text; `verify` says whether a record agrees with a reference text; `judge` gives the verdict
+// `draw` prints the record of the drawing of a reference text's rows; `verify` says whether a record agrees with a reference text; `judge` gives the verdict
 // on each reading of a list; `panel` prints the centre in whole steps. Refused texts are answered by a line `NO`, number, line.
+mod against;
 pub mod draw;
 pub mod judge;
 mod lines;
-mod open;
 pub mod panel;
 mod split;
 pub mod verify;
 
+use text::parts::TEXT_MOST;
+
 // The most bytes that a program reads for each of its texts, one more than a text may have: what follows them changes no output.
-pub const TEXT_READ: usize = 65537;
+pub const TEXT_READ: usize = TEXT_MOST + 1;

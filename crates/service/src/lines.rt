@@ -17,7 +17,7 @@ const QUIET_WORD: [u8; 5] = *b"QUIET";
 
 const ALARM_WORD: [u8; 5] = *b"ALARM";
 
-// A refusal.
+// Prints a refusal from index `at` on, and answers the index after it.
 pub fn put_refusal(out: &mut [u8], at: usize, number: u32, line: u32) -> usize
     requires { ⌜ at + verdictRoom ≤ length (now out) ⌝ }
     ensures { λ r. ⌜ Put (printRefusal number line) (now (out .entry)) at (now (out .exit)) r ⌝ }
@@ -26,7 +26,7 @@ pub fn put_refusal(out: &mut [u8], at: usize, number: u32, line: u32) -> usize
     put_line(out, at, &REFUSAL_WORD, &numbers, 2)
 }
 
-// A verdict.
+// Prints a verdict in the same way.
 pub fn put_verdict(out: &mut [u8], at: usize, verdict: Verdict) -> usize
     requires { ⌜ (verdictExcess verdict < 2 ^ 63) × (at + verdictRoom ≤ length (now out)) ⌝ }
     ensures { λ r. ⌜ Put (printVerdict verdict) (now (out .entry)) at (now (out .exit)) r ⌝ }

@@ -1,4 +1,4 @@
--- The output is printed into an array with room for it, and handed out from there.
+-- The output is printed into an array with room for every output, and handed out from there.
 use borrow.Author.Needs.{needs}
 use Rattle.service.proofs.LineSteps.{handed}
 use Rattle.service.proofs.panel.panel.Statement.{statement}

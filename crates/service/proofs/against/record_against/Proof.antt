@@ -8,8 +8,8 @@ use Rattle.geometry.specs.Limits.{total, rowLimit}
 use Rattle.channel.specs.Channel.{channelTypes}
 use Rattle.service.specs.ProgramLaws.{against-faulty}
 use Rattle.service.proofs.ReadSteps.{TableRead, table-read, rows-read, refused-read, record-read}
-use Rattle.service.proofs.open.open.Statement.{statement}
-use Rattle.service.proofs.open.open.Tie as tie
+use Rattle.service.proofs.against.record_against.Statement.{statement}
+use Rattle.service.proofs.against.record_against.Tie as tie
 
 read-of : (c : tie.After-read) → TableRead (now (c .before .before .before .before .args .reference)) (c .read .result) (c .read .last .1 .0)
 read-of c = table-read _ (c .read .ensures .0) (c .read .ensures .1) (omega (arith, c .read .kept .1 .0))
@@ -64,8 +64,8 @@ returns-2 c =
     ∙ sym (against-faulty total rowLimit channelTypes (now (start .args .reference)) _ _
     (refused-read (read-of at-read) refusal (told .outcome .given .1)) (now (start .args .record-text)))
 
-pub open-spec : {M : Type 1} → statement M
-open-spec =
+pub record-against-spec : {M : Type 1} → statement M
+record-against-spec =
     tie.close
     (tie.spec
     slice-aggregate-read

@@ -1,4 +1,4 @@
-// A reference text and a record: what the programs start from that need an envelope.
+// A reference text and a record, from which the programs that need an envelope start.
 ghost use mathlib.Core.Path.{_≡_};
 ghost use Rattle.geometry.specs.Limits.{total, rowLimit};
 ghost use Rattle.channel.specs.Channel.{channelTypes};
@@ -10,7 +10,7 @@ use record::EnvelopeRead;
 use refusal::Outcome;
 
 // Reads a record against the rows and tags of a reference text. Refused: as the reference text is, then as the record is.
-fn open(reference: &[u8], record_text: &[u8]) -> EnvelopeRead
+fn record_against(reference: &[u8], record_text: &[u8]) -> EnvelopeRead
     ensures { λ r.
         ⌜ r ≡ recordAgainst total rowLimit channelTypes (now (reference .entry)) (now («record_text» .entry)) ⌝ }
 {
@@ -30,12 +30,12 @@ fn open(reference: &[u8], record_text: &[u8]) -> EnvelopeRead
 pub fn record_of_two(input: &[u8]) -> EnvelopeRead
     ensures { λ r. ⌜ r ≡ recordOfTwo total rowLimit channelTypes (now (input .entry)) ⌝ }
 {
-    open(first_text(input), further_texts(input))
+    record_against(first_text(input), further_texts(input))
 }
 
 // The record that is the second of three texts, against the first.
 pub fn record_of_three(input: &[u8]) -> EnvelopeRead
     ensures { λ r. ⌜ r ≡ recordOfThree total rowLimit channelTypes (now (input .entry)) ⌝ }
 {
-    open(first_text(input), first_text(further_texts(input)))
+    record_against(first_text(input), first_text(further_texts(input)))
 }

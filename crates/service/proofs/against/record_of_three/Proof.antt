@@ -5,8 +5,8 @@ use Rattle.geometry.specs.Limits.{total, rowLimit}
 use Rattle.channel.specs.Channel.{channelTypes}
 use Rattle.service.specs.Texts.{firstText}
 use Rattle.service.specs.Programs.{recordAgainst}
-use Rattle.service.proofs.open.record_of_three.Statement.{statement}
-use Rattle.service.proofs.open.record_of_three.Tie as tie
+use Rattle.service.proofs.against.record_of_three.Statement.{statement}
+use Rattle.service.proofs.against.record_of_three.Tie as tie
 
 first-text-requires : tie.Need-first-text-requires
 first-text-requires c κs = search needs
@@ -17,14 +17,14 @@ further-texts-requires c κs = search needs
 first-text-requires-2 : tie.Need-first-text-requires-2
 first-text-requires-2 c κs = search needs
 
-open-requires : tie.Need-open-requires
-open-requires c κs = search needs
+record-against-requires : tie.Need-record-against-requires
+record-against-requires c κs = search needs
 
 returns : tie.Need-returns
 returns c =
     let at-second = c .before in
     let at-further = at-second .before in
-    c .open .ensures
+    c .record-against .ensures
     ∙ ap₂ (recordAgainst total rowLimit channelTypes) (at-further .before .first-text .ensures)
     (at-second .first-text2 .ensures ∙ ap firstText (at-further .further-texts .ensures))
 
@@ -35,5 +35,5 @@ record-of-three-spec =
     first-text-requires
     further-texts-requires
     first-text-requires-2
-    open-requires
+    record-against-requires
     returns)

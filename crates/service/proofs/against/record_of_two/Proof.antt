@@ -4,8 +4,8 @@ use borrow.Author.Needs.{needs}
 use Rattle.geometry.specs.Limits.{total, rowLimit}
 use Rattle.channel.specs.Channel.{channelTypes}
 use Rattle.service.specs.Programs.{recordAgainst}
-use Rattle.service.proofs.open.record_of_two.Statement.{statement}
-use Rattle.service.proofs.open.record_of_two.Tie as tie
+use Rattle.service.proofs.against.record_of_two.Statement.{statement}
+use Rattle.service.proofs.against.record_of_two.Tie as tie
 
 first-text-requires : tie.Need-first-text-requires
 first-text-requires c κs = search needs
@@ -13,13 +13,13 @@ first-text-requires c κs = search needs
 further-texts-requires : tie.Need-further-texts-requires
 further-texts-requires c κs = search needs
 
-open-requires : tie.Need-open-requires
-open-requires c κs = search needs
+record-against-requires : tie.Need-record-against-requires
+record-against-requires c κs = search needs
 
 returns : tie.Need-returns
 returns c =
     let at-further = c .before in
-    c .open .ensures ∙ ap₂ (recordAgainst total rowLimit channelTypes) (at-further .before .first-text .ensures) (at-further .further-texts .ensures)
+    c .record-against .ensures ∙ ap₂ (recordAgainst total rowLimit channelTypes) (at-further .before .first-text .ensures) (at-further .further-texts .ensures)
 
 pub record-of-two-spec : {M : Type 1} → statement M
 record-of-two-spec =
@@ -27,5 +27,5 @@ record-of-two-spec =
     (tie.spec
     first-text-requires
     further-texts-requires
-    open-requires
+    record-against-requires
     returns)
