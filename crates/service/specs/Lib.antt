@@ -8,3 +8,5 @@ pub mod TextsLaws
 pub mod ProgramLaws
 pub mod SizeLaws
 pub mod LongLaws
+pub mod TripLaws
+pub mod ToldLaws

@@ -1,0 +1,449 @@
+-- The first line of an output tells whether a program refuses its texts, as `./envelope` tests it. For any total D, row limit and table
+-- of types:
+--     ofReading number line       the refusals that a single reading meets: 3, 10 and 4, at line 1
+--     refusal-of-length           the refusal of readings together is none of them
+--     content-told                nor is one of a reference text
+--     refusal-of-texts            nor one of a reference text and a record
+--     refusal-of-reading          every refusal of a reading of 1 to 65,536 bytes, against figures within their limits, is one of them
+--     readings-within             readings that together have 1 to 65,536 bytes are such readings
+--     refusalLine number line     the line of a refusal, without its byte 10
+--     firstLine output            the first line of an output, without its byte 10
+--     refusal-injective           a printed refusal states one number and one line
+--     refusesTexts output         the test: the first line is a `NO`, and none that a single reading meets
+--     isFaulty, isRefused         a reference text is refused; a reference text or a record is
+--     tagsApart, house-apart      no tag starts with `N`, which holds of document 01's types
+-- For a sound table of types and a total above 0, the output passes the test exactly where
+--     draw-told                   draw refuses the reference text
+--     verify-told, panel-told     verify refuses one of its texts, or panel, whose types keep tagsApart
+--     judge-told                  judge refuses the reference text, the record or the readings together
+use Prim.Native.Nat.{ℕ, suc, _≤_, _<_}
+use mathlib.Core.Path.{_≡_, refl, sym, ap, ap₂, subst, _∙_}
+use mathlib.Core.Bool.{Bool, true, false, not, cond, _&&_, _||_, and-false, or-false}
+use mathlib.Core.List.{List, [], _∷_, _++_, append-nil, append-assoc}
+use mathlib.Core.Option.{Option, none, some}
+use native.Mathlib.Omega.{arith}
+use borrow.Author.Tests.{eqb-true, eq-eqb, ne-eqb, not-true}
+use lib.Dec.{eqb, leb}
+use lib.IntN.{ℤ, pos}
+use lib.ListN.{length, getD, take, length-append}
+use Rattle.integers.specs.Tests.{both, clash, test-same, range-in}
+use Rattle.lists.specs.Each.{Each, each-cons}
+use Rattle.refusal.specs.Number.{text-length, line-form, value-range, tag-differs, label-repeated, row-count}
+use Rattle.refusal.specs.Outcome.{numberOf, lineOf}
+use Rattle.refusal.specs.declared.Refusal.{Refusal}
+use Rattle.refusal.specs.declared.Outcome.{Outcome}
+use Rattle.refusal.specs.declared.Outcome.the-variants.{Accepted, Refused}
+use Rattle.geometry.specs.Limits.{channelLimit}
+use Rattle.text.specs.Lines.{printLines}
+use Rattle.text.specs.Number.{hyphen, isDigit, plain, print}
+use Rattle.text.specs.NumberLaws.{plain-print, print-free}
+use Rattle.text.specs.Parts.{comma, lineEnd, textLimit, textWithin, same, extend, cut, join, free, allFree}
+use Rattle.text.specs.PartsLaws.{text-within, same-refl, same-eq, join-cut, cut-join, join-length, join-free}
+use Rattle.text.specs.Put.{numbersAfter}
+use Rattle.channel.specs.Channel.{ChannelType, channelTypes, typeOf, tagOf}
+use Rattle.channel.specs.ChannelLaws.{soundTypes}
+use Rattle.value.specs.Values.{valuesInRange}
+use Rattle.heading.specs.Heading.{headingOf, printHeading}
+use Rattle.rows.specs.Row.{Row, rowOf, labelUsed}
+use Rattle.rows.specs.Rows.{Content, faulty, sound, rowLine, lastPart, andRow, rowsFrom, tableOf}
+use Rattle.reference.specs.Reference.{referenceWord, afterHeading, contentOf, content}
+use Rattle.envelope.specs.Figures.{channelCodes, figuresWithin}
+use Rattle.envelope.specs.declared.Figures.{Figures}
+use Rattle.envelope.specs.declared.Envelope.{Envelope}
+use Rattle.reading.specs.Reading.{readingOf}
+use Rattle.reading.specs.Verdict.{judged}
+use Rattle.reading.specs.declared.Verdict.{Verdict}
+use Rattle.reading.specs.declared.Verdict.the-variants.{Quiet, Alarm, Refused as RefusedReading}
+use Rattle.record_form.specs.Record.{printRecord}
+use Rattle.record_print.specs.Printed.{recordText}
+use Rattle.record.specs.ReadLaws.{each-read}
+use Rattle.record.specs.declared.EnvelopeRead.{EnvelopeRead}
+use Rattle.chart.specs.Panel.{panelShown}
+use Rattle.service.specs.Texts.{firstText, furtherTexts, withEnds, linesWithEnds}
+use Rattle.service.specs.Lines.{refusalWord, printRefusal, printAccepted, printVerdict, printVerdicts, printSteps}
+use Rattle.service.specs.SizeLaws.{either, each-verdict}
+use Rattle.service.specs.Programs.{unlessRefused, drawOutput, contentAgainst, recordAgainst, recordOfTwo, recordOfThree, ofFigures}
+use Rattle.service.specs.Programs.{verifyOutput, shownOutput, panelOutput, readingsOutput, judgeOutput}
+use Rattle.service.specs.ProgramLaws.{draw-faulty, draw-record, readings-refused, readings-judged, against-within, panel-accepted}
+use Rattle.service.specs.TripLaws.{cut-line}
+
+abbrev pub ofReading : ℕ → ℕ → Bool
+ofReading number line =
+    (eqb number line-form && eqb line 1) || ((eqb number tag-differs && eqb line 1) || (eqb number value-range && eqb line 1))
+
+pub refusal-of-length : ofReading text-length 0 ≡ false
+refusal-of-length = refl
+
+-- ---- the reference text
+
+-- whether a reference text is refused so
+abbrev contentTest : Content → Bool
+contentTest (faulty number line) = ofReading number line
+contentTest (sound codes rows) = false
+
+-- a fault of a row is past line 1
+row-told : (number : ℕ) (rows : List Row) → ofReading number (rowLine (length rows)) ≡ false
+row-told number rows =
+    rw (
+      ne-eqb (rowLine (length rows)) 1 (λ e. omega arith),
+      and-false (eqb number line-form),
+      and-false (eqb number tag-differs),
+      and-false (eqb number value-range),
+    )
+
+module _ (limit : ℕ) (types : List ChannelType) where
+  module _ (codes : List ℕ) where
+    limit-told : (rows : List Row) (t : Bool) (further : Content) → contentTest further ≡ false
+        → contentTest (cond t further (faulty row-count (rowLine (length rows)))) ≡ false
+    limit-told rows true further h = h
+    limit-told rows false further h = row-told row-count rows
+
+    last-told : (rows : List Row) (part : List ℕ) → contentTest (lastPart limit codes rows part) ≡ false
+    last-told [] [] = refl
+    last-told (row ∷ rows) [] = refl
+    last-told rows (b ∷ part) = limit-told rows (leb (suc (length rows)) limit) (faulty line-form (rowLine (length rows))) (row-told line-form rows)
+
+    and-told : (rows : List Row) (o : Option Row) (further : List Row → Content) → ((longer : List Row) → contentTest (further longer) ≡ false)
+        → contentTest (andRow types codes rows o further) ≡ false
+    and-told rows none further h = row-told line-form rows
+    and-told rows (some row) further h =
+        let Told : Content → Type 0 = λ c. contentTest c ≡ false in
+        either Told (valuesInRange types codes (row .values)) _ _
+        (either Told (labelUsed (row .label) rows) _ _ (row-told label-repeated rows) (h (rows ++ (row ∷ [])))) (row-told value-range rows)
+
+    rows-told : (parts : List (List ℕ)) (rows : List Row) → contentTest (rowsFrom limit types codes rows parts) ≡ false
+    unfolding rowsFrom
+    rows-told [] rows = last-told rows []
+    rows-told (part ∷ []) rows = last-told rows part
+    rows-told (line ∷ next ∷ parts) rows =
+        limit-told rows (leb (suc (length rows)) limit) _ (and-told rows (rowOf (length codes) line) _ (rows-told (next ∷ parts)))
+
+  parts-told : (parts : List (List ℕ)) → contentTest (contentOf limit types parts) ≡ false
+  unfolding contentOf
+  parts-told [] = refl
+  parts-told (line ∷ []) = refl
+  parts-told (line ∷ next ∷ parts) = go (headingOf referenceWord channelLimit types line)
+    where
+      go : (o : Option (List ℕ)) → contentTest (afterHeading limit types o (next ∷ parts)) ≡ false
+      go none = refl
+      go (some codes) = rows-told codes (next ∷ parts) []
+
+  pub content-told : (text : List ℕ) (number line : ℕ) → content limit types text ≡ faulty number line → ofReading number line ≡ false
+  unfolding content
+  content-told text number line is =
+      ap contentTest (sym is)
+      ∙ either (λ (c : Content). contentTest c ≡ false) (textWithin text) (λ _. contentOf limit types (cut lineEnd text)) (λ _. faulty text-length 0)
+      (parts-told (cut lineEnd text)) refl
+
+-- ---- reference text and record
+
+-- the outcome is not such a refusal
+abbrev OfTexts : EnvelopeRead → Type 0
+OfTexts read = ofReading (numberOf (read .outcome)) (lineOf (read .outcome)) ≡ false
+
+module _ (D limit : ℕ) (types : List ChannelType) (reference text : List ℕ) where
+  texts-told : OfTexts (recordAgainst D limit types reference text)
+  unfolding recordAgainst
+  texts-told = go (content limit types reference) refl
+    where
+      go : (c : Content) → content limit types reference ≡ c → OfTexts (contentAgainst D limit types text c)
+      go (faulty number line) is = content-told limit types reference number line is
+      go (sound codes rows) is =
+          each-read D limit types (tableOf rows) (length rows) (length codes) codes text OfTexts refl refl (λ line e. refl) refl (λ e a. refl)
+
+  pub refusal-of-texts : (r : Refusal) → recordAgainst D limit types reference text .outcome ≡ Refused r → ofReading (r .number) (r .line) ≡ false
+  refusal-of-texts r is = ap (λ o. ofReading (numberOf o) (lineOf o)) (sym is) ∙ texts-told
+
+-- ---- readings
+
+-- a verdict that is no refusal, or such a refusal
+abbrev OfReading : Verdict → Type 0
+OfReading Quiet = Unit {0}
+OfReading (Alarm excess) = Unit {0}
+OfReading (RefusedReading r) = ofReading (r .number) (r .line) ≡ true
+
+module _ (D : ℕ) (types : List ChannelType) (f : Figures) (within : figuresWithin D types f ≡ true) where
+  module _ (text : List ℕ) (some-text : textWithin text ≡ true) where
+    judged-told : OfReading (judged D types f text)
+    unfolding judged
+    judged-told = rw (within, some-text) (each-verdict OfReading tt (λ excess. tt) refl refl refl D types f (readingOf (f .n) text))
+
+    pub refusal-of-reading : (r : Refusal) → judged D types f text ≡ RefusedReading r → ofReading (r .number) (r .line) ≡ true
+    refusal-of-reading r is = subst OfReading is judged-told
+
+-- ---- each reading of readings
+
+some-byte : (part : List ℕ) → same part [] ≡ false → 1 ≤ length part
+unfolding same
+some-byte [] h = clash refl h
+some-byte (b ∷ part) h = omega arith
+
+-- a line of at most so many bytes, and at least one
+abbrev Short : ℕ → List ℕ → Type 0
+Short most line = (1 ≤ length line) × (length line ≤ most)
+
+lines-short : (parts : List (List ℕ)) (most : ℕ) → length (join lineEnd parts) ≤ most → Each (Short most) [] (withEnds parts)
+unfolding withEnds join
+lines-short [] most h = λ k l. absurd (omega arith)
+lines-short (part ∷ []) most h = go (same part []) refl
+  where
+    go : (t : Bool) → same part [] ≡ t → Each (Short most) [] (cond t [] (part ∷ []))
+    go true e = λ k l. absurd (omega arith)
+    go false e = each-cons (Short most) [] part [] (some-byte part e, h) (λ k l. absurd (omega arith))
+lines-short (part ∷ next ∷ parts) most h =
+    let long = join-length lineEnd part next parts in
+    let whole = length-append part (lineEnd ∷ []) in
+    each-cons (Short most) [] (part ++ (lineEnd ∷ [])) (withEnds (next ∷ parts)) (omega arith, omega arith) (lines-short (next ∷ parts) most (omega arith))
+
+lines-some : (parts : List (List ℕ)) → 1 ≤ length (join lineEnd parts) → 1 ≤ length (withEnds parts)
+unfolding withEnds join
+lines-some [] h = h
+lines-some (part ∷ []) h = go (same part []) refl
+  where
+    go : (t : Bool) → same part [] ≡ t → 1 ≤ length (cond t [] (part ∷ []))
+    go true e = absurd (omega (arith, ap length (same-eq part [] e)))
+    go false e = omega arith
+lines-some (part ∷ next ∷ parts) h = omega arith
+
+module _ (readings : List ℕ) (within : textWithin readings ≡ true) where
+  pub readings-within : Each (λ reading. textWithin reading ≡ true) [] (linesWithEnds readings)
+  unfolding linesWithEnds
+  readings-within k h =
+      let whole = ap length (join-cut lineEnd readings) in
+      let short = lines-short (cut lineEnd readings) textLimit (omega (arith, whole, text-within readings within .1)) k h in
+      range-in 1 textLimit (length (getD (withEnds (cut lineEnd readings)) k [])) (short .0) (short .1)
+
+  readings-some : 1 ≤ length (linesWithEnds readings)
+  unfolding linesWithEnds
+  readings-some = lines-some (cut lineEnd readings) (omega (arith, ap length (join-cut lineEnd readings), text-within readings within .0))
+
+-- ---- the first line
+
+abbrev pub refusalLine : ℕ → ℕ → List ℕ
+refusalLine number line = numbersAfter refusalWord (pos number ∷ pos line ∷ [])
+
+abbrev pub firstLine : List ℕ → List ℕ
+firstLine output = getD (cut lineEnd output) 0 []
+
+first-line : (line more : List ℕ) → free lineEnd line ≡ true → firstLine (line ++ (lineEnd ∷ more)) ≡ line
+first-line line more h = ap (λ (parts : List (List ℕ)). getD parts 0 []) (cut-line line more h)
+
+module _ (number line : ℕ) where
+  fields-free : (c : ℕ) → isDigit c ≡ false → eqb c hyphen ≡ false → free c refusalWord ≡ true
+      → allFree c (refusalWord ∷ print (pos number) ∷ print (pos line) ∷ []) ≡ true
+  unfolding allFree
+  fields-free c digit sign word = rw (word, print-free c digit sign (pos number), print-free c digit sign (pos line))
+
+  refusal-first : (more : List ℕ) → firstLine (printRefusal number line ++ more) ≡ refusalLine number line
+  unfolding numbersAfter free
+  refusal-first more =
+      let fields = refusalWord ∷ print (pos number) ∷ print (pos line) ∷ [] in
+      ap firstLine (append-assoc (refusalLine number line) (lineEnd ∷ []) more)
+      ∙ first-line (refusalLine number line) more (join-free comma lineEnd fields (λ e. omega arith) (fields-free lineEnd refl refl refl))
+
+  refusal-fields : cut comma (refusalLine number line) ≡ refusalWord ∷ print (pos number) ∷ print (pos line) ∷ []
+  unfolding numbersAfter free
+  refusal-fields = cut-join comma refusalWord (print (pos number) ∷ print (pos line) ∷ []) (fields-free comma refl refl refl)
+
+print-injective : (a b : ℕ) → print (pos a) ≡ print (pos b) → a ≡ b
+print-injective a b e = inside (sym (plain-print (pos a)) ∙ ap plain e ∙ plain-print (pos b))
+  where
+    inside : some (pos a) ≡ some (pos b) → a ≡ b
+    inside h = cc
+
+module _ (number line other-number other-line : ℕ) where
+  line-injective : refusalLine number line ≡ refusalLine other-number other-line → (number ≡ other-number) × (line ≡ other-line)
+  line-injective e =
+      let fields = sym (refusal-fields number line) ∙ ap (cut comma) e ∙ refusal-fields other-number other-line in (
+        print-injective number other-number (ap (λ (l : List (List ℕ)). getD l 1 []) fields),
+        print-injective line other-line (ap (λ (l : List (List ℕ)). getD l 2 []) fields),
+      )
+
+  pub refusal-injective : printRefusal number line ≡ printRefusal other-number other-line → (number ≡ other-number) × (line ≡ other-line)
+  refusal-injective e =
+      line-injective
+      (sym (refusal-first number line []) ∙ ap (λ (l : List ℕ). firstLine (l ++ [])) e ∙ refusal-first other-number other-line [])
+
+  line-same : same (refusalLine number line) (refusalLine other-number other-line) ≡ (eqb number other-number && eqb line other-line)
+  line-same =
+      test-same (same (refusalLine number line) (refusalLine other-number other-line)) (eqb number other-number && eqb line other-line)
+      (λ h.
+      let are = line-injective (same-eq (refusalLine number line) (refusalLine other-number other-line) h) in
+      ap₂ _&&_ (eq-eqb number other-number (are .0)) (eq-eqb line other-line (are .1)))
+      (λ h.
+      let tests = both (eqb number other-number) (eqb line other-line) h in
+      ap₂ (λ k l. same (refusalLine number line) (refusalLine k l)) (sym (eqb-true number other-number (tests .0))) (sym (eqb-true line other-line (tests .1)))
+      ∙ same-refl (refusalLine number line))
+
+-- `NO` and a comma, and none of the three lines
+abbrev lineRefuses : List ℕ → Bool
+lineRefuses line =
+    same (take 3 line) (refusalWord ++ (comma ∷ []))
+    && not (same line (refusalLine line-form 1) || (same line (refusalLine tag-differs 1) || same line (refusalLine value-range 1)))
+
+unfoldable pub refusesTexts : List ℕ → Bool
+refusesTexts output = lineRefuses (firstLine output)
+
+refusal-starts : (number line : ℕ) → same (take 3 (refusalLine number line)) (refusalWord ++ (comma ∷ [])) ≡ true
+unfolding numbersAfter join same
+refusal-starts number line = refl
+
+refusal-told : (number line : ℕ) (more : List ℕ) → refusesTexts (printRefusal number line ++ more) ≡ not (ofReading number line)
+unfolding refusesTexts
+refusal-told number line more =
+    ap lineRefuses (refusal-first number line more)
+    ∙ ap₂ (λ t u. t && not u) (refusal-starts number line)
+    (ap₂ _||_ (line-same number line line-form 1) (ap₂ _||_ (line-same number line tag-differs 1) (line-same number line value-range 1)))
+
+-- a refusal and nothing else
+only-told : (number line : ℕ) → refusesTexts (printRefusal number line) ≡ not (ofReading number line)
+only-told number line = ap refusesTexts (sym (append-nil (printRefusal number line))) ∙ refusal-told number line []
+
+-- the byte `N`
+abbrev refusalByte : ℕ
+refusalByte = 78
+
+nothing-told : refusesTexts [] ≡ false
+unfolding refusesTexts cut same
+nothing-told = refl
+
+-- an output with another first byte
+other-told : (b : ℕ) (l : List ℕ) → eqb b refusalByte ≡ false → refusesTexts (b ∷ l) ≡ false
+unfolding refusesTexts cut extend same
+other-told b l h = go (eqb b lineEnd) (cut lineEnd l)
+  where
+    go : (t : Bool) (parts : List (List ℕ)) → lineRefuses (getD (cond t ([] ∷ parts) (extend b parts)) 0 []) ≡ false
+    go true parts = refl
+    go false [] = rw h
+    go false (part ∷ parts) = rw h
+
+-- ---- draw
+
+abbrev pub isFaulty : Content → Bool
+isFaulty (faulty number line) = true
+isFaulty (sound codes rows) = false
+
+module _ (types : List ChannelType) where
+  record-told : (e : Envelope) → refusesTexts (recordText types e) ≡ false
+  unfolding recordText printRecord printLines printHeading join
+  record-told e = other-told 69 _ refl
+
+  pub draw-told : soundTypes types ≡ true → (D limit : ℕ) (input : List ℕ)
+      → refusesTexts (drawOutput D limit types input) ≡ isFaulty (content limit types input)
+  draw-told types-sound D limit input = go (content limit types input) refl
+    where
+      go : (c : Content) → content limit types input ≡ c → refusesTexts (drawOutput D limit types input) ≡ isFaulty c
+      go (faulty number line) is =
+          ap refusesTexts (draw-faulty D limit types input number line is) ∙ only-told number line
+          ∙ ap not (content-told limit types input number line is)
+      go (sound codes rows) is = ap refusesTexts (draw-record D limit types input codes rows is types-sound) ∙ record-told _
+
+-- ---- verify, panel and judge
+
+abbrev pub isRefused : Outcome → Bool
+isRefused Accepted = false
+isRefused (Refused r) = true
+
+-- what is printed of a record, by what is printed of its figures
+figures-told : (read : EnvelopeRead) (output : Figures → List ℕ) (t : Bool) → OfTexts read
+    → (read .outcome ≡ Accepted → refusesTexts (output (read .envelope .figures)) ≡ t) → refusesTexts (ofFigures read output) ≡ (isRefused (read .outcome) || t)
+figures-told read output t texts further = go (read .outcome) refl
+  where
+    go : (o : Outcome) → read .outcome ≡ o → refusesTexts (unlessRefused o (λ _. output (read .envelope .figures))) ≡ (isRefused o || t)
+    go Accepted is = further is
+    go (Refused r) is =
+        only-told (r .number) (r .line) ∙ ap not (ap (λ (o : Outcome). ofReading (numberOf o) (lineOf o)) (sym is) ∙ texts)
+
+-- no tag starts as `NO` does
+unfoldable pub tagsApart : List ChannelType → Bool
+tagsApart [] = true
+tagsApart (t ∷ types) = not (eqb (getD (t .tag) 0 0) refusalByte) && tagsApart types
+
+pub house-apart : tagsApart channelTypes ≡ true
+unfolding tagsApart channelTypes
+house-apart = refl
+
+tag-apart : (types : List ChannelType) → tagsApart types ≡ true → (code : ℕ) → eqb (getD (tagOf types code) 0 0) refusalByte ≡ false
+unfolding tagsApart typeOf
+tag-apart [] h code = refl
+tag-apart (t ∷ types) h code =
+    let tests = both (not (eqb (getD (t .tag) 0 0) refusalByte)) (tagsApart types) h in
+    go (eqb (t .code) code) (not-true (eqb (getD (t .tag) 0 0) refusalByte) (tests .0)) (tag-apart types (tests .1) code)
+  where
+    go : (b : Bool) → eqb (getD (t .tag) 0 0) refusalByte ≡ false → eqb (getD (tagOf types code) 0 0) refusalByte ≡ false
+        → eqb (getD (cond b t (typeOf types code) .tag) 0 0) refusalByte ≡ false
+    go true first others = first
+    go false first others = others
+
+-- the first line of a panel starts with a tag
+tag-told : (tag number end more : List ℕ) → eqb (getD tag 0 0) refusalByte ≡ false → refusesTexts (((tag ++ (comma ∷ number)) ++ end) ++ more) ≡ false
+tag-told [] number end more h = other-told comma _ refl
+tag-told (b ∷ tag) number end more h = other-told b _ h
+
+steps-told : (types : List ChannelType) → tagsApart types ≡ true → (codes : List ℕ) (steps : List ℤ) → refusesTexts (printSteps types codes steps) ≡ false
+unfolding printSteps numbersAfter join
+steps-told types apart [] steps = nothing-told
+steps-told types apart (code ∷ codes) [] = nothing-told
+steps-told types apart (code ∷ codes) (step ∷ steps) =
+    tag-told (tagOf types code) (print step) (lineEnd ∷ []) (printSteps types codes steps) (tag-apart types apart code)
+
+accepted-told : refusesTexts printAccepted ≡ false
+unfolding numbersAfter join
+accepted-told = other-told 79 _ refl
+
+-- the line of a verdict, and whatever follows it
+line-told : (v : Verdict) → OfReading v → (more : List ℕ) → refusesTexts (printVerdict v ++ more) ≡ false
+unfolding numbersAfter join
+line-told Quiet h more = other-told 81 _ refl
+line-told (Alarm excess) h more = other-told 65 _ refl
+line-told (RefusedReading r) h more = refusal-told (r .number) (r .line) more ∙ ap not h
+
+module _ (D : ℕ) (types : List ChannelType) (f : Figures) (within : figuresWithin D types f ≡ true) where
+  lines-told : (readings : List (List ℕ)) → 1 ≤ length readings → Each (λ reading. textWithin reading ≡ true) [] readings
+      → refusesTexts (printVerdicts D types f readings) ≡ false
+  unfolding printVerdicts
+  lines-told [] h each = absurd (omega arith)
+  lines-told (reading ∷ readings) h each =
+      line-told (judged D types f reading) (judged-told D types f within reading (each 0 (omega arith))) (printVerdicts D types f readings)
+
+  readings-told : (readings : List ℕ) → refusesTexts (readingsOutput D types f readings) ≡ not (textWithin readings)
+  readings-told readings = go (textWithin readings) refl
+    where
+      go : (t : Bool) → textWithin readings ≡ t → refusesTexts (readingsOutput D types f readings) ≡ not t
+      go true e =
+          ap refusesTexts (readings-judged D types f readings e)
+          ∙ lines-told (linesWithEnds readings) (readings-some readings e) (readings-within readings e)
+      go false e = ap refusesTexts (readings-refused D types f readings e) ∙ only-told text-length 0
+
+module _ (D limit : ℕ) (types : List ChannelType) (input : List ℕ) where
+  pub verify-told : refusesTexts (verifyOutput D limit types input) ≡ isRefused (recordOfTwo D limit types input .outcome)
+  unfolding verifyOutput
+  verify-told =
+      let read = recordOfTwo D limit types input in
+      figures-told read (λ f. printAccepted) false (texts-told D limit types (firstText input) (furtherTexts input)) (λ is. accepted-told)
+      ∙ or-false (isRefused (read .outcome))
+
+  module _ (types-sound : soundTypes types ≡ true) (positive : 0 < D) where
+    pub panel-told : tagsApart types ≡ true → refusesTexts (panelOutput D limit types input) ≡ isRefused (recordOfTwo D limit types input .outcome)
+    unfolding panelOutput
+    panel-told apart =
+        let read = recordOfTwo D limit types input in
+        let f = read .envelope .figures in
+        figures-told read (shownOutput D types) false (texts-told D limit types (firstText input) (furtherTexts input))
+        (λ is.
+        ap (λ (o : Outcome). refusesTexts (unlessRefused o (λ _. printSteps types (channelCodes f) (panelShown D types f .steps))))
+        (panel-accepted D limit types types-sound positive (firstText input) (furtherTexts input) is)
+        ∙ steps-told types apart (channelCodes f) (panelShown D types f .steps))
+        ∙ or-false (isRefused (read .outcome))
+
+    pub judge-told : refusesTexts (judgeOutput D limit types input)
+        ≡ (isRefused (recordOfThree D limit types input .outcome) || not (textWithin (furtherTexts (furtherTexts input))))
+    unfolding judgeOutput
+    judge-told =
+        let rest = furtherTexts input in
+        let read = recordOfThree D limit types input in
+        figures-told read (λ f. readingsOutput D types f (furtherTexts rest)) (not (textWithin (furtherTexts rest)))
+        (texts-told D limit types (firstText input) (firstText rest))
+        (λ is.
+        readings-told D types (read .envelope .figures) (against-within D limit types types-sound positive (firstText input) (firstText rest) is)
+        (furtherTexts rest))
