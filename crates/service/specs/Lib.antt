@@ -7,6 +7,3 @@ pub mod Contracts
 pub mod TextsLaws
 pub mod ProgramLaws
 pub mod SizeLaws
-pub mod LongLaws
-pub mod TripLaws
-pub mod ToldLaws

@@ -59,13 +59,13 @@ use Rattle.record_print.specs.Printed.{recordText}
 use Rattle.record.specs.ReadLaws.{each-read}
 use Rattle.record.specs.declared.EnvelopeRead.{EnvelopeRead}
 use Rattle.chart.specs.Panel.{panelShown}
 use Rattle.service.specs.Texts.{firstText, furtherTexts, withEnds, linesWithEnds}
 use Rattle.service.specs.Lines.{refusalWord, printRefusal, printAccepted, printVerdict, printVerdicts, printSteps}
 use Rattle.service.specs.SizeLaws.{either, each-verdict}
 use Rattle.service.specs.Programs.{unlessRefused, drawOutput, contentAgainst, recordAgainst, recordOfTwo, recordOfThree, ofFigures}
 use Rattle.service.specs.Programs.{verifyOutput, shownOutput, panelOutput, readingsOutput, judgeOutput}
 use Rattle.service.specs.ProgramLaws.{draw-faulty, draw-record, readings-refused, readings-judged, against-within, panel-accepted}
-use Rattle.service.specs.TripLaws.{cut-line}
+use Rattle.program_laws.specs.TripLaws.{cut-line}
 
 abbrev pub ofReading : ℕ → ℕ → Bool
 ofReading number line =
