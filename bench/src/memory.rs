@@ -24,7 +24,8 @@ pub fn measure_memory() {
     let largest = format!("REF,8{heading}\n{rows}");
     let line_ends = "\n".repeat(TEXT_LIMIT);
     let judged = format!("{REFERENCE}\n{RECORD}\n{line_ends}");
-    let verified = format!("{largest}\n{RECORD}");
+    let record = String::from_utf8(cundarivo::programs::draw(largest.as_bytes()));
+    let verified = format!("{largest}\n{}", record.expect("a record in ASCII"));
     for (name, input) in [
         ("draw", &largest),
         ("verify", &verified),

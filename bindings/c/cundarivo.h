@@ -77,7 +77,10 @@
  * Threads, memory and stack
  *
  *   The library has no variables of its own and allocates no memory, so that any number of threads may call
- *   it at the same time. It needs memcpy and memset of the C library, and at most 128 KiB of stack.
+ *   it at the same time. It needs memcpy and memset of the C library.
+ *   cundarivo_program_judge needs at most 640 KiB of stack, since its whole output is made there before it is
+ *   handed out; every other cundarivo_program_... at most 64 KiB, and every other call at most 32 KiB. This is
+ *   measured of the built library and tested, not proved.
  *   It is built for x86-64 and its System V calling convention (Linux).
  */
 #ifndef CUNDARIVO_H
@@ -119,21 +122,26 @@ extern "C" {
 /* The most bytes of a text. */
 #define CUNDARIVO_TEXT_BYTES 65536
 
-/* Bytes that are enough for every record: 38 for the first line, 90 for X, 52 for M, L, moves and ending,
- * and 12 for each weight. */
+/*
+ * Bytes that are enough for every record and for every output of a program. They are counted from the limits
+ * of what is written. Proved are wider ones: 320 + 18 * CUNDARIVO_ROWS for a record (`house-room` in
+ * crates/record/specs/HouseLaws.antt), and 8 for each byte of readings (`verdict-length` in
+ * crates/service/specs/SizeLaws.antt). Where fewer are lent than the output has the call is refused by 13.
+ */
+
+/* 38 for the first line, 90 for X, 52 for M, L, moves and ending, and 12 for each weight. */
 #define CUNDARIVO_RECORD_BYTES (38 + 90 + 52 + 12 * CUNDARIVO_ROWS)
 
-/* Bytes that are enough for every output of cundarivo_program_draw: a record. */
+/* A record. */
 #define CUNDARIVO_PROGRAM_DRAW_BYTES CUNDARIVO_RECORD_BYTES
 
-/* Bytes that are enough for every output of cundarivo_program_verify: NO, a number of two digits and a line
- * of three. */
+/* NO, a number of two digits and a line of three. */
 #define CUNDARIVO_PROGRAM_VERIFY_BYTES 10
 
-/* Bytes that are enough for every output of cundarivo_program_judge: 7 for each byte of the readings. */
+/* 7 for each byte of the readings: an empty line has one byte, and NO,3,1 and its byte 10 have 7. */
 #define CUNDARIVO_PROGRAM_JUDGE_BYTES (7 * CUNDARIVO_TEXT_BYTES)
 
-/* Bytes that are enough for every output of cundarivo_program_panel: 10 for each channel. */
+/* 10 for each channel. */
 #define CUNDARIVO_PROGRAM_PANEL_BYTES (10 * CUNDARIVO_CHANNELS)
 
 /* ---- numbers that stand for something */

@@ -140,8 +140,12 @@
 //!
 //! No call panics, whatever it is given. The library has no variables of its own, so that any number
 //! of threads may call it at the same time. It allocates nothing: the calls that answer with lists
-//! allocate these in this package, and the library's own calls use lent slices alone. A call needs
-//! at most 128 KiB of stack.
+//! allocate these in this package, and the library's own calls use lent slices alone.
+//!
+//! [`programs::judge`] needs at most 640 KiB of stack, since its whole output is made there before it
+//! is handed out; the other [`programs`] at most 64 KiB, and every other call at most 32 KiB. The
+//! 2 MiB that a thread of Rust has by default are enough for each. This is measured and tested, not
+//! proved.
 //!
 //! # Building
 //!

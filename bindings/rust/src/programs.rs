@@ -42,7 +42,8 @@ const OUTPUT_PER_READING_BYTE: usize = 7;
 const REFUSAL_BYTES: usize = 64;
 
 /// Bytes that are enough for every output of every program: `judge` writes at most 7 for each byte of
-/// at most 65,536 bytes of readings.
+/// at most 65,536 bytes of readings, as for an empty line. This is counted from the limits of what is
+/// written; proved are 8 for each (`verdict-length` in `crates/service/specs/SizeLaws.antt`).
 pub const OUTPUT_BYTES: usize = OUTPUT_PER_READING_BYTE * READING_BYTES + REFUSAL_BYTES;
 
 /// A program; see the [module](self).

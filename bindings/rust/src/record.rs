@@ -5,8 +5,9 @@ use crate::{
     weight_places,
 };
 
-/// Bytes that are enough for every record: at most 38 for the heading, 90 for X, 52 for M, L and the
-/// moves, and 12 for each of 256 weights.
+/// Bytes that are enough for every record, counted from the limits of what is written: at most 38 for
+/// the heading, 90 for X, 52 for M, L, the moves and the ending, and 12 for each of 256 weights. Proved
+/// is 320 and 18 for each weight (`house-room` in `crates/record/specs/HouseLaws.antt`).
 pub const RECORD_BYTES: usize = 38 + 90 + 52 + 12 * ROWS;
 
 /// An envelope: its figures, and the weights of its rows.

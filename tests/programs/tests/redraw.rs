@@ -20,6 +20,12 @@ fn assert_ends(ended: &Ended, summary: &str, status: i32) {
     );
 }
 
+/// Redraws a folder in which no text is refused.
+fn assert_redrawn(folder: &Folder, drawn: usize, unchanged: usize) {
+    let summary = format!("{drawn} drawn, {unchanged} unchanged, 0 refused\n");
+    assert_ends(&redraw(folder.path()), &summary, 0);
+}
+
 /// What changes where a file is written or replaced.
 fn identity(folder: &Folder, name: &str) -> (u64, i64, i64) {
     let data = fs::metadata(folder.path().join(name)).expect("a file");
@@ -65,17 +71,9 @@ fn a_second_run_changes_nothing() {
     let folder = Folder::new();
     folder.write("a.ref", REFERENCE);
     folder.write("b.ref", ONE_ROW);
-    assert_ends(
-        &redraw(folder.path()),
-        "2 drawn, 0 unchanged, 0 refused\n",
-        0,
-    );
+    assert_redrawn(&folder, 2, 0);
     let first = ["a.env", "b.env"].map(|name| identity(&folder, name));
-    assert_ends(
-        &redraw(folder.path()),
-        "0 drawn, 2 unchanged, 0 refused\n",
-        0,
-    );
+    assert_redrawn(&folder, 0, 2);
     assert_eq!(
         first,
         ["a.env", "b.env"].map(|name| identity(&folder, name))
@@ -95,11 +93,7 @@ fn another_record_is_replaced() {
         let folder = Folder::new();
         folder.write("a.ref", REFERENCE);
         folder.write("a.env", old);
-        assert_ends(
-            &redraw(folder.path()),
-            "1 drawn, 0 unchanged, 0 refused\n",
-            0,
-        );
+        assert_redrawn(&folder, 1, 0);
         assert_eq!(folder.read("a.env"), RECORD.as_bytes(), "{old:?}");
     }
 }
@@ -134,8 +128,7 @@ fn any_name_works() {
         folder.write(&format!("{name}.ref"), REFERENCE);
     }
     let count = names.len();
-    let summary = format!("{count} drawn, 0 unchanged, 0 refused\n");
-    assert_ends(&redraw(folder.path()), &summary, 0);
+    assert_redrawn(&folder, count, 0);
     for name in names {
         assert_eq!(
             folder.read(&format!("{name}.env")),
@@ -232,11 +225,7 @@ fn a_second_redraw_at_the_same_time_is_turned_away() {
     redraw(folder.path()).assert_failed("cannot lock the folder");
     assert_eq!(folder.names(), ["a.ref"]);
     lock.unlock().expect("a lock of ours");
-    assert_ends(
-        &redraw(folder.path()),
-        "1 drawn, 0 unchanged, 0 refused\n",
-        0,
-    );
+    assert_redrawn(&folder, 1, 0);
 }
 
 #[test]
@@ -245,11 +234,7 @@ fn leftovers_are_removed() {
     folder.write("a.ref", REFERENCE);
     folder.write(".envelope-redraw/a.env", "ENV,2,T");
     folder.write(".envelope-redraw/b.env", RECORD);
-    assert_ends(
-        &redraw(folder.path()),
-        "1 drawn, 0 unchanged, 0 refused\n",
-        0,
-    );
+    assert_redrawn(&folder, 1, 0);
     assert_eq!(folder.names(), ["a.env", "a.ref"]);
 }
 
@@ -261,11 +246,7 @@ fn the_examples_are_unchanged() {
             folder.write(&format!("{point}.{kind}"), example(point, kind));
         }
     }
-    assert_ends(
-        &redraw(folder.path()),
-        "0 drawn, 3 unchanged, 0 refused\n",
-        0,
-    );
+    assert_redrawn(&folder, 0, 3);
 }
 
 /// More than two batches for each of two workers.
@@ -277,8 +258,7 @@ fn many_texts_get_their_own_records() {
     for value in 0..count {
         folder.write(&format!("{value}.ref"), text(value));
     }
-    let ended = redraw(folder.path());
-    assert_ends(&ended, "600 drawn, 0 unchanged, 0 refused\n", 0);
+    assert_redrawn(&folder, count, 0);
     let draw = program("draw");
     for value in 0..count {
         let record = run(&draw, text(value).as_bytes());

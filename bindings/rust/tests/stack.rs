@@ -1,0 +1,82 @@
+//! The stack that is said to be enough: each call runs on its largest input in a thread that has no
+//! more. A call that needed more would end the process.
+
+use cundarivo::{CHANNELS, ROWS, Refusal, programs};
+use std::thread;
+
+const KIBIBYTE: usize = 1_024;
+const CALLS: usize = 32 * KIBIBYTE;
+const PROGRAMS: usize = 64 * KIBIBYTE;
+const JUDGE: usize = 640 * KIBIBYTE;
+
+/// What a call gives in a thread with a stack of so many bytes.
+fn within<Output: Send>(stack: usize, call: impl FnOnce() -> Output + Send) -> Output {
+    thread::scope(|scope| {
+        let thread = thread::Builder::new().stack_size(stack);
+        let thread = thread.spawn_scoped(scope, call).expect("a new thread");
+        thread.join().expect("a call that ends")
+    })
+}
+
+/// 256 rows of 8 channels, of which most are no corners.
+fn reference() -> Vec<u8> {
+    let value = |row: usize, channel: usize| (row * row * (channel + 3) + 7 * channel) % 2_001;
+    let line = |row: usize| {
+        let values = (0..CHANNELS).map(|channel| format!(",{}", value(row, channel)));
+        format!("ROW-{row}{}\n", values.collect::<String>())
+    };
+    let rows: String = (1..=ROWS).map(line).collect();
+    format!("REF,8{}\n{rows}", ",TOC".repeat(CHANNELS)).into_bytes()
+}
+
+/// A reading that is far outside.
+fn reading() -> Vec<u8> {
+    format!("LOOP-1{}\n", ",TOC,2000".repeat(CHANNELS)).into_bytes()
+}
+
+#[test]
+fn calls() -> Result<(), Refusal> {
+    let (text, reading) = (reference(), reading());
+    let mut table = vec![0; ROWS * CHANNELS];
+    let mut types = vec![0; CHANNELS];
+    let counts = within(CALLS, || {
+        cundarivo::read_reference(&text, &mut table, &mut types)
+    })?;
+    let (m, n) = (counts.m, counts.n);
+    assert_eq!((m, n), (ROWS, CHANNELS));
+    assert_eq!(within(CALLS, || cundarivo::label(&text, m)), b"ROW-256");
+    let drawing = within(CALLS, || cundarivo::draw(&table, m, n, 10_000))?;
+    within(CALLS, || cundarivo::check(&table, m, n, &drawing.weights))?;
+    let envelope = drawing.envelope(&types);
+    let figures = &envelope.figures;
+    within(CALLS, || cundarivo::judge(figures, &reading))?;
+    within(CALLS, || cundarivo::chart(figures, 1, n))?;
+    within(CALLS, || cundarivo::panel(figures))?;
+    let record = within(CALLS, || cundarivo::write_record(&envelope, &table, m))?;
+    within(CALLS, || {
+        cundarivo::read_record(&table, m, n, &types, &record)
+    })?;
+    Ok(())
+}
+
+#[test]
+fn draw_verify_and_panel() {
+    let text = reference();
+    let record = within(PROGRAMS, || programs::draw(&text));
+    assert!(record.starts_with(b"ENV,8"));
+    let texts = [text, record].join(&b'\n');
+    assert_eq!(within(PROGRAMS, || programs::verify(&texts)), b"OK\n");
+    assert!(within(PROGRAMS, || programs::panel(&texts)).starts_with(b"TOC,"));
+}
+
+#[test]
+fn judge() {
+    let text = reference();
+    let record = programs::draw(&text);
+    for readings in [reading().repeat(800), vec![b'\n'; 65_536]] {
+        let input = [&text[..], &record, &readings].join(&b'\n');
+        let output = within(JUDGE, || programs::judge(&input));
+        let count = |text: &[u8]| text.iter().filter(|&&byte| byte == b'\n').count();
+        assert_eq!(count(&output), count(&readings));
+    }
+}
