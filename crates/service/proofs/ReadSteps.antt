@@ -6,15 +6,15 @@
 --     refused-read                  a refused text
 --     record-read                   a record that is read against them
 use Prim.Native.Nat.{ℕ, _*_, _≤_}
-use mathlib.Core.Path.{_≡_, refl, sym, ap, ap₂, _∙_, subst}
-use mathlib.Core.List.{List, _++_}
+use mathlib.Core.Path.{_≡_, refl, sym, ap, ap₂, _∙_}
+use mathlib.Core.List.{List}
 use native.Mathlib.Nat.{mul-le-mul}
 use native.Mathlib.Omega.{arith}
 use lib.IntN.{ℤ}
 use lib.ListN.{length, take, drop}
 use lib.Seq.{take-at, take-length, length-take-le}
 use Rattle.lists.specs.Filled.{filled}
-use Rattle.lists.specs.Padded.{padded, padded-first}
+use Rattle.lists.specs.Padded.{padded-first}
 use Rattle.refusal.specs.Outcome.{numberOf, lineOf, refusedAt}
 use Rattle.refusal.specs.declared.Refusal.{Refusal}
 use Rattle.refusal.specs.declared.Outcome.the-variants.{Accepted, Refused}

@@ -1,7 +1,7 @@
 -- Laws of the texts of an input.
 --     text-most                       a text is at most as long as the input
 --     textEnd input from              where a text ends that goes on with the line at index from
---     end-none, end-here, end-all     where no byte is left, where that line is empty, and where it is the last one
+--     end-none, end-here, end-all     where no byte is left, where that line is empty, and where it has no byte 10
 --     end-past                        else it goes on with the next line
 --     line-last, line-ended           the line that starts at an index, without its byte 10 and with it, and the lines after it
 --     first-length, further-length    how long the first text and the further ones are

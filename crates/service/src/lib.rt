@@ -1,8 +1,9 @@
 // The four programs as calls: each takes the whole input of a program and gives its whole output. A program reads, makes one of these
 // calls and writes.
 //
-// `draw` prints the record of the drawing of a reference text's rows; `verify` says whether a record agrees with a reference text; `judge` gives the verdict
-// on each reading of a list; `panel` prints the centre in whole steps. Refused texts are answered by a line `NO`, number, line.
+// `draw` prints the record of the drawing of a reference text's rows; `verify` says whether a record agrees with a reference text;
+// `judge` gives the verdict on each of several readings; `panel` prints the centre in whole steps. A refused text is answered by a
+// line `NO`, number, line.
 mod against;
 pub mod draw;
 pub mod judge;

@@ -1,6 +1,6 @@
 -- What is printed into a lent slice from an index on.
 --     numbersAfter word numbers     a word and numbers, each after a comma
---     printNumbers word numbers      a line of these, with its byte 10
+--     printNumbers word numbers     a line of these, with its byte 10
 --     Put w out₀ at out r           the bytes w stand from index at on, up to index r
 use Prim.Native.Nat.{ℕ, _+_}
 use mathlib.Core.Path.{_≡_}

@@ -1,5 +1,5 @@
 -- The table has room for every reference text, so that 7 is not met and the first m·n places of an accepted one are its rows.
-use mathlib.Core.Path.{_≡_, sym, ap, ap₂, _∙_}
+use mathlib.Core.Path.{sym, _∙_}
 use native.Mathlib.Omega.{arith}
 use borrow.Author.Needs.{needs}
 use lib.Seq.{length-take-le}
