@@ -1,0 +1,56 @@
+//! The worked example of README: each command of a `text` block, run from the repository's folder, prints
+//! the lines that follow it.
+
+use programs::root;
+use std::process::Command;
+
+/// A command and the lines that it is said to print.
+type Step = (String, String);
+
+/// The blocks that show commands, each with its steps.
+fn blocks(readme: &str) -> Vec<Vec<Step>> {
+    let texts = readme.split("```text\n").skip(1);
+    let texts = texts.filter_map(|rest| rest.split_once("```"));
+    texts.map(|(text, _)| steps(text)).collect()
+}
+
+fn steps(text: &str) -> Vec<Step> {
+    let mut steps: Vec<Step> = Vec::new();
+    for line in text.lines() {
+        match line.strip_prefix("$ ") {
+            Some(command) => steps.push((command.to_string(), String::new())),
+            None => {
+                let step = steps.last_mut().expect("a command before its output");
+                step.1 += &format!("{line}\n");
+            }
+        }
+    }
+    steps
+}
+
+/// What each command prints, all of them in one shell.
+fn printed(steps: &[Step]) -> Vec<String> {
+    let script: String = steps
+        .iter()
+        .map(|(command, _)| format!("{command}\nprintf '\\0'\n"))
+        .collect();
+    let shell = Command::new("bash")
+        .args(["-euc", &script])
+        .current_dir(root())
+        .output();
+    let text = String::from_utf8(shell.expect("a shell").stdout).expect("a text");
+    let mut parts: Vec<String> = text.split('\0').map(str::to_string).collect();
+    assert_eq!(parts.pop().as_deref(), Some(""), "a command failed");
+    parts
+}
+
+#[test]
+fn the_worked_example_prints_what_it_says() {
+    let readme = std::fs::read_to_string(root().join("README.md")).expect("README");
+    let blocks = blocks(&readme);
+    assert_eq!(blocks.iter().map(Vec::len).sum::<usize>(), 7, "commands");
+    for block in blocks {
+        let said: Vec<String> = block.iter().map(|(_, output)| output.clone()).collect();
+        assert_eq!(printed(&block), said);
+    }
+}
