@@ -129,11 +129,14 @@ extern "C" {
 
 /*
  * 38 for the first line, 90 for X, 52 for M, L, moves and ending, and 12 for each weight: `house-most` and
- * `house-enough` in crates/record/specs/HouseLaws.antt. A record of m rows needs no more than 12 * m of these.
+ * `house-enough` in crates/record/specs/HouseLaws.antt. A record of m rows has at most 38 + 90 + 52 + 12 * m.
  */
 #define CUNDARIVO_RECORD_BYTES (38 + 90 + 52 + 12 * CUNDARIVO_ROWS)
 
-/* A record (`house-drawn-most` beside these), or the line of a refusal, which is within 64 as for verify. */
+/*
+ * A record: `house-drawn-most` beside these. The line of a refusal has at most 64: `refusal-room` in
+ * crates/service/specs/SizeLaws.antt.
+ */
 #define CUNDARIVO_PROGRAM_DRAW_BYTES CUNDARIVO_RECORD_BYTES
 
 /* One line: `output_room` in crates/service/src/verify.rt. */
@@ -430,7 +433,7 @@ cundarivo_panel_answer cundarivo_panel(
  * Each call below is one of the programs draw, verify, judge and panel: it is lent the texts that the program
  * reads, and fills the first `length` places of `output` with what the program prints. Each text is lent by
  * itself and is never joined with another, since whoever writes the first of joined texts decides where the
- * second begins. A text may have any length.
+ * second begins. A text may have any length: above 65,536 bytes it is turned back by 1.
  *
  * The only refusal of a call is 13, for `output` of fewer places than are printed; CUNDARIVO_PROGRAM_..._BYTES
  * are always enough. What the program itself turns back is printed: the line NO, number and line, parted by
