@@ -2,13 +2,11 @@
 --     Arrays e                       what every envelope of the code has: 256 weights of 32 bits
 --     house-room                     a record is within recordRoom
 --     house-text                     so that it has at most 65,536 bytes, and 1 never meets one of ours
---     recordMost rows                the most bytes of a written record of so many rows: 3,252 of 256
---     house-most                     a record that is written has at most so many, 12 for each of its m rows and 180 besides
+--     house-most                     a record that is written has at most recordMost bytes, 12 for each of its m rows and 180 besides
 --     house-enough                   so that 13 never answers a buffer of so many places
 --     house-written-read             2.11: a written record, read against the same rows and codes, gives its own envelope, cleared
---     house-drawn-room               so is a drawn envelope's record
---     house-drawn-most               and has at most recordMost bytes
---     house-drawn-written            which is written to every buffer of recordRoom places
+--     house-drawn-most               the record of a drawn envelope has at most recordMost bytes
+--     house-drawn-written            and is written to every buffer of so many places
 --     house-drawn-read               and, read against the same rows and codes, gives that envelope
 --     house-unread, house-refused    writing refuses with 12 exactly the envelopes whose record reading turns back
 use Prim.Native.Nat.{ℕ, _+_, _*_, _^_, _≤_, min}
@@ -36,7 +34,7 @@ use Rattle.envelope.specs.FigureLaws.{within-figures}
 use Rattle.envelope.specs.Agreement.{cleared, drawnEnvelope}
 use Rattle.envelope.specs.AgreementLaws.{agrees-agreed, agreed-weight}
 use Rattle.envelope.specs.declared.Envelope.{Envelope}
-use Rattle.record_print.specs.Printed.{recordOf, recordText, recordRoom}
+use Rattle.record_print.specs.Printed.{recordOf, recordText, recordRoom, recordMost}
 use Rattle.record_print.specs.PrintedLaws.{heading-short, centre-short, result-short, lines-short, record-length, record-room}
 use Rattle.record.specs.Answers.{recordRead, notWritten, written, recordWritten}
 use Rattle.record.specs.declared.EnvelopeRead.{EnvelopeRead}
@@ -69,11 +67,6 @@ pub house-text : (e : Envelope) → Arrays e → figuresWithin total channelType
 house-text e arrays kept = omega (arith, house-room e arrays kept)
 
 -- ---- the most bytes of a record
-
--- 38 for `ENV`, 8 and eight tags of 3 bytes; 90 for `C` and eight numbers of a hyphen and 9 digits; 52 for `R`, M and L of 19 digits, moves of
--- 7 and a letter; 12 for each `W`, row of 3 digits and weight of 5
-abbrev pub recordMost : ℕ → ℕ
-recordMost rows = 38 + 90 + 52 + 12 * rows
 
 -- whatever envelope, rows and m are given; m above 256 is refused by 8
 module _ (rows : List ℤ) (m : ℕ) (e : Envelope) where
@@ -146,15 +139,12 @@ module _ (rows : List ℤ) (m n : ℕ) (codes : List ℕ) (coded : length codes 
         fitting = λ i h. omega (arith, agreed-weight total rowLimit rows m n (r .ball) (r .weights) agreed i);
       }
 
-  pub house-drawn-room : length (recordText channelTypes own) ≤ recordRoom rowLimit
-  house-drawn-room = house-room own own-arrays (own-writing .figures-kept)
-
   pub house-drawn-most : length (recordText channelTypes own) ≤ recordMost (min m rowLimit)
   house-drawn-most = house-most rows m own own-writing
 
-  pub house-drawn-written : (places : ℕ) → recordRoom rowLimit ≤ places
+  pub house-drawn-written : (places : ℕ) → recordMost rowLimit ≤ places
       → recordWritten total rowLimit channelTypes rows m own places ≡ written (length (recordText channelTypes own))
-  house-drawn-written places room = writing-written total rowLimit channelTypes rows m own places own-writing (omega (arith, house-drawn-room))
+  house-drawn-written places room = writing-written total rowLimit channelTypes rows m own places own-writing (omega (arith, house-drawn-most))
 
   pub house-drawn-read : recordRead total rowLimit channelTypes rows m n (padded channelLimit codes) (recordText channelTypes own) ≡ accepting own
   house-drawn-read =
