@@ -1,13 +1,13 @@
 //! The calls of the product in a chain, each fed with what the one before it gave: a reference text is
 //! drawn, its record verified, its rows judged, its panel shown, its record read, written again,
-//! altered and turned back. SEED and CHAINS in the environment give another seed and another number
-//! of chains.
+//! altered and turned back. CUNDARIVO_SEED and CUNDARIVO_CHAINS in the environment give another
+//! seed and a larger number of chains.
 
 use cundarivo::{Envelope, programs};
 use differential::reached::Reached;
 use outside::envelopes;
 use outside::program_inputs;
-use outside::random::{Random, number_from_environment};
+use outside::random::{Random, count_from_environment, seed_from_environment};
 use outside::reading_texts;
 use outside::record_calls::{self, Fault, FaultyCall};
 use outside::record_texts::Enveloped;
@@ -24,8 +24,8 @@ const SHARE: u64 = 10;
 const RARE_SHARE: u64 = 2_000;
 
 fn main() {
-    let seed = number_from_environment("SEED", SEED);
-    let chains = number_from_environment("CHAINS", CHAINS);
+    let seed = seed_from_environment(SEED);
+    let chains = count_from_environment("CHAINS", CHAINS);
     println!("seed: {seed}");
     let started = Instant::now();
     let random = &mut Random::new(seed);

@@ -1,13 +1,13 @@
 //! The product compared with the outside implementation on seeded inputs of the four programs, whole
-//! and changed, with buffers of every kind of length, and on full sweeps. SEED and INPUTS in the
-//! environment give another seed and another number of inputs of each program.
+//! and changed, with buffers of every kind of length, and on full sweeps. CUNDARIVO_SEED and
+//! CUNDARIVO_INPUTS in the environment give another seed and a larger number of inputs of each program.
 
 use differential::compare_program::Run;
 use differential::reached::Reached;
 use outside::known_programs;
 use outside::program_inputs::{self, Change, Source};
 use outside::programs::{PROGRAMS, Program};
-use outside::random::{Random, number_from_environment};
+use outside::random::{Random, count_from_environment, seed_from_environment};
 use outside::reference::TEXT_LIMIT;
 use outside::sweeps;
 use std::cmp::Ordering;
@@ -33,8 +33,8 @@ struct Comparison {
 }
 
 fn main() {
-    let seed = number_from_environment("SEED", SEED);
-    let inputs = number_from_environment("INPUTS", INPUTS);
+    let seed = seed_from_environment(SEED);
+    let inputs = count_from_environment("INPUTS", INPUTS);
     println!("seed: {seed}");
     let started = Instant::now();
     let mut comparison = Comparison {
