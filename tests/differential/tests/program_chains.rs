@@ -73,32 +73,27 @@ impl Chain {
         }
     }
 
-    fn verify(&self, record: &[u8]) -> Vec<u8> {
-        programs::verify(&[&self.text, record].join(&b'\n'))
-    }
-
     fn verified(&self) {
-        let output = self.verify(&self.record);
+        let output = programs::verify(&self.text, &self.record);
         assert_eq!(output, b"OK\n", "{}", self.shown_texts());
     }
 
     /// Every row of the reference text is Quiet.
     fn judged(&self) {
         let readings = reading_texts::of_rows(&self.reference).concat();
-        let input = [&self.text[..], &self.record, &readings].join(&b'\n');
+        let output = programs::judge(&self.text, &self.record, &readings);
         let quiet = b"QUIET\n".repeat(self.reference.rows.len());
-        assert_eq!(programs::judge(&input), quiet, "{}", self.shown_texts());
+        assert_eq!(output, quiet, "{}", self.shown_texts());
     }
 
     /// The panel is that of the figures which are read from the record.
     fn shown(&self) {
-        let input = [&self.text[..], &self.record].join(&b'\n');
         let steps = cundarivo::panel(&self.read().figures).expect("figures within the limits");
         let lines = self.reference.types.iter().zip(steps);
         let owed: String = lines
             .map(|(channel, step)| format!("{},{step}\n", channel.tag))
             .collect();
-        let output = programs::panel(&input);
+        let output = programs::panel(&self.text, &self.record);
         assert_eq!(output, owed.as_bytes(), "{}", self.shown_texts());
     }
 
@@ -133,7 +128,7 @@ impl Chain {
         let FaultyCall { text, refusal, .. } = self.altered(random);
         let (number, line) = (refusal.number, refusal.line);
         let owed = format!("NO,{number},{line}\n");
-        let output = self.verify(&text);
+        let output = programs::verify(&self.text, &text);
         assert_eq!(output, owed.as_bytes(), "{}", text.escape_ascii());
         format!("altered: {number}")
     }
