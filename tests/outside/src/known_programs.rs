@@ -488,6 +488,8 @@ pub fn large() -> Vec<KnownInput> {
     let (readings, empty_lines) = (readings_of_length(MEGABYTES), "\n".repeat(MEGABYTES));
     let rows = rows(MEGABYTES / 7);
     let large = [&reference[..], &record, &readings];
+    // As many bytes as the text alone has, where a length is held in 16 bits.
+    let wrapped = |text: &str| format!("{text}{}", "\n".repeat(48 << 16));
     let form_before = [REFERENCE, "ENV\n", &readings];
     vec![
         of_reference("reference", &reference, "NO,1,0\n"),
@@ -500,6 +502,9 @@ pub fn large() -> Vec<KnownInput> {
         judged("readings_of_empty_lines", &empty_lines, "NO,1,0\n"),
         three_texts("form_before_readings", form_before, "NO,11,1\n"),
         known_of(&PROGRAMS, "every_text", large, "NO,1,0\n"),
+        of_reference("reference_length_wrapped", &wrapped(REFERENCE), "NO,1,0\n"),
+        of_record("record_length_wrapped", &wrapped(RECORD), "NO,1,0\n"),
+        judged("readings_length_wrapped", &wrapped(READING), "NO,1,0\n"),
     ]
 }
 
