@@ -46,8 +46,8 @@ const OUTPUT_PER_READING_BYTE: usize = 7;
 const REFUSAL_BYTES: usize = 64;
 
 /// Bytes that are enough for every output of every program: `judge` writes at most 7 for each byte of
-/// at most 65,536 bytes of readings, as for an empty line, or a refusal. This is proved (`judge-most`
-/// in `crates/service/specs/SizeLaws.antt`).
+/// at most 65,536 bytes of readings, as for an empty line, or a refusal. This is proved (`output_room`
+/// in `crates/service/src/judge.rt`).
 pub const OUTPUT_BYTES: usize = OUTPUT_PER_READING_BYTE * READING_BYTES + REFUSAL_BYTES;
 
 /// A program with its texts; see the [module](self).
@@ -197,8 +197,10 @@ impl Call<'_> {
         }
     }
 
-    /// Bytes that are enough for the output. The programs but `judge` print no more than a record
-    /// has.
+    /// Bytes that are proved to be enough for the output: for `judge` as many as these readings ask
+    /// for (`readings_room` in `crates/service/src/judge.rt`), for `draw` a record (`house-drawn-most`
+    /// in `crates/record/specs/HouseLaws.antt`), and fewer for `verify` and `panel` (`output_room` in
+    /// their files beside that of `judge`).
     fn room(self) -> usize {
         match self {
             Call::Judge { readings, .. } => {
