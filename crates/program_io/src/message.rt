@@ -1,6 +1,5 @@
 // What is told on standard error. Each message starts with the program's name, and goes out in one write up to the reason.
 ghost use Prim.Native.Nat.{_^_, _≤_, _<_};
-ghost use mathlib.Core.Path.{_≡_};
 ghost use lib.ListN.{length};
 ghost use Rattle.program_io.specs.Message.{
   programPart,

@@ -1,5 +1,4 @@
 -- A name that is shorter than the limit is told whole.
-use Prim.Native.Nat.{_≤_}
 use mathlib.Core.Path.{sym, ap}
 use native.Mathlib.Omega.{arith}
 use lib.ListN.{length}
