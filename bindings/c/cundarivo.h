@@ -133,10 +133,7 @@ extern "C" {
  */
 #define CUNDARIVO_RECORD_BYTES (38 + 90 + 52 + 12 * CUNDARIVO_ROWS)
 
-/*
- * A record: `house-drawn-most` beside these. The line of a refusal has at most 64: `refusal-room` in
- * crates/service/specs/SizeLaws.antt.
- */
+/* A record, or the line of a refusal: `output_room` in crates/service/src/draw.rt. */
 #define CUNDARIVO_PROGRAM_DRAW_BYTES CUNDARIVO_RECORD_BYTES
 
 /* One line: `output_room` in crates/service/src/verify.rt. */
@@ -437,7 +434,7 @@ cundarivo_panel_answer cundarivo_panel(
  *
  * The only refusal of a call is 13, for `output` of fewer places than are printed; CUNDARIVO_PROGRAM_..._BYTES
  * are always enough. What the program itself turns back is printed: the line NO, number and line, parted by
- * commas, and nothing else. The line counts in the text at fault.
+ * commas, and nothing else, but for single readings of judge. The line counts in the text at fault.
  */
 
 /*

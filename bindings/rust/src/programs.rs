@@ -189,9 +189,8 @@ impl Call<'_> {
     }
 
     /// Bytes that are proved to be enough for the output: for `judge` as many as these readings ask
-    /// for (`readings_room` in `crates/service/src/judge.rt`), for `draw` a record (`house-drawn-most`
-    /// in `crates/record/specs/HouseLaws.antt`), and fewer for `verify` and `panel` (`output_room` in
-    /// their files beside that of `judge`).
+    /// for (`readings_room` in `crates/service/src/judge.rt`), for `draw` as many as a record has, and
+    /// fewer for `verify` and `panel` (`output_room` in their files beside that of `judge`).
     fn room(self) -> usize {
         match self {
             Call::Judge { readings, .. } => {

@@ -15,7 +15,7 @@ use lib.Seq.{length-take-le}
 use lib.Signed.{ltZ}
 use borrow.Author.Tests.{ltb-true}
 use Rattle.libc.specs.Io.{Moved}
-use Rattle.integers.specs.Tests.{impossible}
+use Rattle.integers.specs.Tests.{impossible, clash}
 use Rattle.program_io.specs.declared.descriptor.TextRead.{TextRead}
 use Rattle.program_io.specs.declared.descriptor.AfterRead.the-variants.{Done, More}
 use Rattle.program_io.specs.Reading.{notRead, readWhole, afterRead}
@@ -38,11 +38,11 @@ moved-abs n (pos k) some moved = moved
 moved-abs n (negsuc k) some moved = omega arith
 
 pub read-failed : {r : TextRead} {text : List ℕ} → r ≡ notRead → Read r text
-read-failed {text = text} e = subst (λ (a : TextRead). Read a text) (sym e) (record { part = (omega arith, refl); none = refl })
+read-failed {text = text} e = subst (λ (a : TextRead). Read a text) (sym e) (record { part = (omega arith, refl); none = λ h. refl })
 
 pub read-whole : {r : TextRead} {text : List ℕ} {n : ℕ} → n ≤ length text → r ≡ readWhole n → Read r text
 read-whole {text = text} {n} h e =
-    subst (λ (a : TextRead). Read a text) (sym e) (record { part = (h, sym (length-take-le n text h)); none = refl })
+    subst (λ (a : TextRead). Read a text) (sym e) (record { part = (h, sym (length-take-le n text h)); none = λ f. clash refl f })
 
 pub done-read : (z : ℤ) (at : ℕ) (r : TextRead) (text : List ℕ) → at ≤ length text → afterRead z at ≡ Done r → Read r text
 done-read (negsuc k) at r text h e = read-failed (cc)

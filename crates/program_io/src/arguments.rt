@@ -2,9 +2,9 @@
 ghost use mathlib.Core.Path.{_≡_};
 ghost use Prim.Native.Nat.{_^_, _<_};
 ghost use Rattle.program_io.specs.Arguments.{argumentsGiven};
-use crate::message::tell_excess;
-use crate::message::tell_missing;
 use libc::ENAMETOOLONG;
+use message::tell_excess;
+use message::tell_missing;
 
 // How the arguments that are there compare with those that are taken. An argument is told by its index, counted from 1.
 pub enum Given {

@@ -1,19 +1,19 @@
 // The texts that a program reads, and what it writes.
+ghost use Prim.Native.Nat.{_<_};
+ghost use lib.ListN.{length};
+ghost use Rattle.text.specs.Parts.{textLimit};
 ghost use Rattle.program_io.specs.Contracts.{Read};
 use crate::descriptor::TextRead;
 use crate::descriptor::not_read;
 use crate::descriptor::read_descriptor;
-use crate::message::fail_argument;
-use crate::message::fail_file;
-use crate::message::fail_stream;
-use crate::message::tell_missing;
 use libc::ENAMETOOLONG;
 use libc::STDIN_FILENO;
 use libc::STDOUT_FILENO;
-
-const STANDARD_INPUT: [u8; 14] = *b"standard input";
-
-const STANDARD_OUTPUT: [u8; 15] = *b"standard output";
+use message::fail_argument;
+use message::fail_file;
+use message::fail_input;
+use message::fail_output;
+use message::tell_missing;
 
 // Reads the file of this name. What fails is told before the file is closed, while its reason stands.
 fn read_named(program: &[u8], name: &[u8], text: &mut [u8]) -> TextRead
@@ -32,8 +32,10 @@ fn read_named(program: &[u8], name: &[u8], text: &mut [u8]) -> TextRead
     read
 }
 
-// Reads the file that the argument with this index, counted from 1, names, as far as the slice goes. What fails is told.
+// Reads the file that the argument with this index, counted from 1, names, as far as the slice goes. What fails is told. The slice has a
+// place more than a text may have bytes, so that a text above the limit is not taken for its beginning.
 pub fn read_file(program: &[u8], index: u32, text: &mut [u8]) -> TextRead
+    requires { ⌜ textLimit < length (now text) ⌝ }
     ensures { λ r. ⌜ Read r (now (text .exit)) ⌝ }
 {
     let place = index as usize;
@@ -53,11 +55,12 @@ pub fn read_file(program: &[u8], index: u32, text: &mut [u8]) -> TextRead
 
 // Reads standard input in the same way.
 pub fn read_standard_input(program: &[u8], text: &mut [u8]) -> TextRead
+    requires { ⌜ textLimit < length (now text) ⌝ }
     ensures { λ r. ⌜ Read r (now (text .exit)) ⌝ }
 {
     let read = read_descriptor(STDIN_FILENO, text);
     if !read.whole {
-        fail_stream(program, &STANDARD_INPUT);
+        fail_input(program);
     }
     read
 }
@@ -65,6 +68,6 @@ pub fn read_standard_input(program: &[u8], text: &mut [u8]) -> TextRead
 // Writes to standard output. A write that fails is told.
 pub fn write_output(program: &[u8], output: &[u8]) {
     if !io::write_all(STDOUT_FILENO, output) {
-        fail_stream(program, &STANDARD_OUTPUT);
+        fail_output(program);
     }
 }

@@ -1,9 +1,8 @@
 -- The first line of an output tells whether a program refuses its texts, as `./envelope` tests it. For any total D, row limit and table
 -- of types:
 --     ofReading number line       the refusals that a single reading meets: 3, 10 and 4, at line 1
---     refusal-of-length           the refusal of readings together is none of them
---     content-told                nor is one of a reference text
---     refusal-of-texts            nor one of a reference text and a record
+--     content-told                a refusal of a reference text is none of them
+--     refusal-of-texts            nor is one of a reference text and a record
 --     refusal-of-reading          every refusal of a reading of 1 to 65,536 bytes, against figures within their limits, is one of them
 --     readings-within             readings that together have 1 to 65,536 bytes are such readings
 --     refusalLine number line     the line of a refusal, without its byte 10
@@ -70,9 +69,6 @@ use Rattle.program_laws.specs.TripLaws.{cut-line}
 abbrev pub ofReading : ℕ → ℕ → Bool
 ofReading number line =
     (eqb number line-form && eqb line 1) || ((eqb number tag-differs && eqb line 1) || (eqb number value-range && eqb line 1))
-
-pub refusal-of-length : ofReading text-length 0 ≡ false
-refusal-of-length = refl
 
 -- ---- the reference text
 

@@ -6,7 +6,7 @@
 --     house-enough                   so that 13 never answers a buffer of so many places
 --     house-written-read             2.11: a written record, read against the same rows and codes, gives its own envelope, cleared
 --     house-drawn-most               the record of a drawn envelope has at most recordMost bytes
---     house-drawn-written            and is written to every buffer of so many places
+--     house-drawn-written            and is written to every buffer of recordMost rowLimit places, 3,252
 --     house-drawn-read               and, read against the same rows and codes, gives that envelope
 --     house-unread, house-refused    writing refuses with 12 exactly the envelopes whose record reading turns back
 use Prim.Native.Nat.{ℕ, _+_, _*_, _^_, _≤_, min}
@@ -68,7 +68,7 @@ house-text e arrays kept = omega (arith, house-room e arrays kept)
 
 -- ---- the most bytes of a record
 
--- whatever envelope, rows and m are given; m above 256 is refused by 8
+-- whatever envelope, rows and m are given: m above 256 is refused by 8, so that both recordMost m and 3,252 bytes are enough
 module _ (rows : List ℤ) (m : ℕ) (e : Envelope) where
   pub house-most : Writing total rowLimit channelTypes rows m e → length (recordText channelTypes e) ≤ recordMost (min m rowLimit)
   unfolding recordText

@@ -27,7 +27,7 @@ use text::parts::text_within;
 // room for the printing of every record
 const RECORD_ROOM: usize = 320 + ROWS * 18;
 
-// the most bytes of a record that is written
+// a record that is written has at most so many bytes
 pub const RECORD_MOST: usize = 38 + 90 + 52 + 12 * ROWS;
 
 // What reading a record answers. In a refusal every figure and weight is 0.

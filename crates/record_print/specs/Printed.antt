@@ -3,7 +3,7 @@
 --     recordText types e               its text
 --     weightLines weights              its `W` lines, each with its byte 10
 --     lineRoom, recordRoom rows        room for the printing of a `W` line, and of a record of so many rows
---     recordMost rows                  the most bytes of a record of so many rows that is written: 3,252 of 256 (`house-most` of record)
+--     recordMost rows                  a written record of so many rows has at most this many bytes: 3,252 of 256 (`house-most` of record)
 --     Printing figures weights         figures whose record can be printed
 use Prim.Native.Nat.{ℕ, _+_, _*_, _≤_, _<_, _^_}
 use mathlib.Core.List.{List, map}
