@@ -1,36 +1,40 @@
-//! The four programs as calls: the bytes of standard input to the bytes of standard output.
+//! The four programs as calls: their texts, each by itself, to the bytes of standard output.
 //!
-//! | program | texts of its input | output where none is refused |
+//! | program | texts | output where none is refused |
 //! |---|---|---|
 //! | [`draw`] | reference text | the record of the envelope drawn with a budget of 10,000 moves |
 //! | [`verify`] | reference text, record | `OK` |
 //! | [`judge`] | reference text, record, readings | a line for each reading: `QUIET`, or `ALARM` and s - M, or its refusal |
 //! | [`panel`] | reference text, record | a line for each channel: tag and centre to the nearest whole step |
 //!
-//! Texts are parted by an empty line, which belongs to neither; the last one runs to the end of the
-//! input, and one that is not there is empty. Of the first refused text the output is `NO`, number
-//! and line in that text, alone: see [`Refusal`](crate::Refusal). Readings together are one text of
-//! at most 65,536 bytes.
+//! Of the first refused text the output is `NO`, number and line in that text, alone: see
+//! [`Refusal`](crate::Refusal). Readings together are one text of at most 65,536 bytes.
+//!
+//! Texts are not joined: each is a slice of its own, and an empty line parts nothing. Of texts joined
+//! into one input, whoever writes the first decides where it ends, and could bring a record of a wider
+//! ball with it. An empty line in a reference text is refused by 3 (by 2 as the heading, by 6 past the
+//! last row that there can be), in a record by 11.
 //!
 //! ```
 //! use cundarivo::programs;
 //!
-//! let reference = "REF,2,TOC,CND\nA,0,0\nB,6,0\nC,0,8\n";
-//! let record = String::from_utf8(programs::draw(reference.as_bytes()))?;
-//! assert!(record.starts_with("ENV,2,TOC,CND\nC,196608,262144\n"));
+//! let reference = b"REF,2,TOC,CND\nA,0,0\nB,6,0\nC,0,8\n";
+//! let record = programs::draw(reference);
+//! assert!(record.starts_with(b"ENV,2,TOC,CND\nC,196608,262144\n"));
+//! assert_eq!(programs::verify(reference, &record), b"OK\n");
+//! assert_eq!(programs::panel(reference, &record), b"TOC,3\nCND,4\n");
 //!
-//! let texts = format!("{reference}\n{record}");
-//! assert_eq!(programs::verify(texts.as_bytes()), b"OK\n");
-//! assert_eq!(programs::panel(texts.as_bytes()), b"TOC,3\nCND,4\n");
-//!
-//! let readings = "LOOP-1,TOC,3,CND,9\nLOOP-1,TOC,3,CND,10\nLOOP-1,TOC,3,PH,9\n";
-//! let verdicts = programs::judge(format!("{texts}\n{readings}").as_bytes());
+//! let readings = b"LOOP-1,TOC,3,CND,9\nLOOP-1,TOC,3,CND,10\nLOOP-1,TOC,3,PH,9\n";
+//! let verdicts = programs::judge(reference, &record, readings);
 //! assert_eq!(verdicts, b"QUIET\nALARM,47244640256\nNO,10,1\n");
 //!
 //! // No record: an empty text is refused by 1. The reference text comes first.
-//! assert_eq!(programs::verify(reference.as_bytes()), b"NO,1,0\n");
-//! assert_eq!(programs::verify(b"REF,1,TOC\nA,2001\n"), b"NO,4,2\n");
-//! # Ok::<(), std::string::FromUtf8Error>(())
+//! assert_eq!(programs::verify(reference, b""), b"NO,1,0\n");
+//! assert_eq!(programs::verify(b"REF,1,TOC\nA,2001\n", b""), b"NO,4,2\n");
+//!
+//! // A reference text that brings a record, behind an empty line: refused at that line.
+//! let embedding = [&reference[..], &record].join(&b'\n');
+//! assert_eq!(programs::judge(&embedding, &record, readings), b"NO,3,5\n");
 //! ```
 
 use crate::{RECORD_BYTES, Refusal, WrittenAnswer, accepted};
@@ -42,67 +46,107 @@ const OUTPUT_PER_READING_BYTE: usize = 7;
 const REFUSAL_BYTES: usize = 64;
 
 /// Bytes that are enough for every output of every program: `judge` writes at most 7 for each byte of
-/// at most 65,536 bytes of readings, as for an empty line. This is counted from the limits of what is
-/// written; proved are 8 for each (`verdict-length` in `crates/service/specs/SizeLaws.antt`).
+/// at most 65,536 bytes of readings, as for an empty line, or a refusal. This is proved (`judge-most`
+/// in `crates/service/specs/SizeLaws.antt`).
 pub const OUTPUT_BYTES: usize = OUTPUT_PER_READING_BYTE * READING_BYTES + REFUSAL_BYTES;
 
-/// A program; see the [module](self).
+/// A program with its texts; see the [module](self).
 #[derive(Clone, Copy, Debug, PartialEq, Eq, Hash)]
-pub enum Program {
+pub enum Call<'t> {
     /// See [`draw`].
-    Draw,
+    Draw {
+        /// The reference text.
+        reference: &'t [u8],
+    },
     /// See [`verify`].
-    Verify,
+    Verify {
+        /// The reference text.
+        reference: &'t [u8],
+        /// The record.
+        record: &'t [u8],
+    },
     /// See [`judge`].
-    Judge,
+    Judge {
+        /// The reference text.
+        reference: &'t [u8],
+        /// The record.
+        record: &'t [u8],
+        /// The readings, a line each.
+        readings: &'t [u8],
+    },
     /// See [`panel`].
-    Panel,
+    Panel {
+        /// The reference text.
+        reference: &'t [u8],
+        /// The record.
+        record: &'t [u8],
+    },
 }
-
-/// A program of the library: the input's bytes and the lent output, each by pointer and length.
-type Call = unsafe extern "C" fn(*const u8, usize, *mut u8, usize) -> WrittenAnswer;
 
 unsafe extern "C" {
     fn cundarivo_program_draw(
-        input: *const u8,
-        input_len: usize,
+        reference: *const u8,
+        reference_len: usize,
         output: *mut u8,
         output_len: usize,
     ) -> WrittenAnswer;
 
     fn cundarivo_program_verify(
-        input: *const u8,
-        input_len: usize,
+        reference: *const u8,
+        reference_len: usize,
+        record: *const u8,
+        record_len: usize,
         output: *mut u8,
         output_len: usize,
     ) -> WrittenAnswer;
 
     fn cundarivo_program_judge(
-        input: *const u8,
-        input_len: usize,
+        reference: *const u8,
+        reference_len: usize,
+        record: *const u8,
+        record_len: usize,
+        readings: *const u8,
+        readings_len: usize,
         output: *mut u8,
         output_len: usize,
     ) -> WrittenAnswer;
 
     fn cundarivo_program_panel(
-        input: *const u8,
-        input_len: usize,
+        reference: *const u8,
+        reference_len: usize,
+        record: *const u8,
+        record_len: usize,
         output: *mut u8,
         output_len: usize,
     ) -> WrittenAnswer;
 }
 
-impl Program {
-    /// What the program prints of an input.
-    pub fn run(self, input: &[u8]) -> Vec<u8> {
-        let mut output = vec![0; self.room(input)];
-        let length = self.run_into(input, &mut output);
+impl Call<'_> {
+    /// What the program prints of its texts.
+    pub fn run(self) -> Vec<u8> {
+        let mut output = vec![0; self.room()];
+        let length = self.run_into(&mut output);
         output.truncate(length.expect("room for every output"));
         output
     }
 
-    fn run_into(self, input: &[u8], output: &mut [u8]) -> Result<usize, Refusal> {
-        let answer = self.answer(input, output);
+    /// As [`run`](Call::run), into a lent buffer; gives the length of the output.
+    ///
+    /// ```
+    /// use cundarivo::programs::Call;
+    ///
+    /// let call = Call::Verify { reference: b"REF,1,TOC\nA,05\n", record: b"" };
+    /// let mut output = [b'.'; 9];
+    /// assert_eq!(call.run_into(&mut output)?, 7);
+    /// assert_eq!(&output, b"NO,3,2\n..");
+    /// # Ok::<(), cundarivo::Refusal>(())
+    /// ```
+    ///
+    /// # Errors
+    ///
+    /// Refusal 13, where the buffer is too short; then nothing is changed.
+    pub fn run_into(self, output: &mut [u8]) -> Result<usize, Refusal> {
+        let answer = self.answer(output);
         accepted(answer.number, answer.line)?;
         Ok(answer.length)
     }
@@ -110,31 +154,55 @@ impl Program {
     /// The library's own call, which answers with numbers. It fills the first places of `output` with
     /// what the program prints, and no other; where the output is too short for that it changes
     /// nothing, and the answer is 13. [`OUTPUT_BYTES`] are always enough.
-    pub fn answer(self, input: &[u8], output: &mut [u8]) -> WrittenAnswer {
-        let call: Call = match self {
-            Program::Draw => cundarivo_program_draw,
-            Program::Verify => cundarivo_program_verify,
-            Program::Judge => cundarivo_program_judge,
-            Program::Panel => cundarivo_program_panel,
-        };
+    pub fn answer(self, output: &mut [u8]) -> WrittenAnswer {
+        let (places, count) = (output.as_mut_ptr(), output.len());
         // SAFETY: each pointer and length are those of a live slice, the written one lent to nobody
-        // else, and the library is proved to keep within the lengths for every input.
+        // else, and the library is proved to keep within the lengths for every text.
         unsafe {
-            call(
-                input.as_ptr(),
-                input.len(),
-                output.as_mut_ptr(),
-                output.len(),
-            )
+            match self {
+                Call::Draw { reference } => {
+                    cundarivo_program_draw(reference.as_ptr(), reference.len(), places, count)
+                }
+                Call::Verify { reference, record } => cundarivo_program_verify(
+                    reference.as_ptr(),
+                    reference.len(),
+                    record.as_ptr(),
+                    record.len(),
+                    places,
+                    count,
+                ),
+                Call::Judge {
+                    reference,
+                    record,
+                    readings,
+                } => cundarivo_program_judge(
+                    reference.as_ptr(),
+                    reference.len(),
+                    record.as_ptr(),
+                    record.len(),
+                    readings.as_ptr(),
+                    readings.len(),
+                    places,
+                    count,
+                ),
+                Call::Panel { reference, record } => cundarivo_program_panel(
+                    reference.as_ptr(),
+                    reference.len(),
+                    record.as_ptr(),
+                    record.len(),
+                    places,
+                    count,
+                ),
+            }
         }
     }
 
-    /// Bytes that are enough for the output of an input. The programs but `judge` print no more than
-    /// a record has.
-    fn room(self, input: &[u8]) -> usize {
+    /// Bytes that are enough for the output. The programs but `judge` print no more than a record
+    /// has.
+    fn room(self) -> usize {
         match self {
-            Program::Judge => {
-                OUTPUT_PER_READING_BYTE * input.len().min(READING_BYTES) + REFUSAL_BYTES
+            Call::Judge { readings, .. } => {
+                OUTPUT_PER_READING_BYTE * readings.len().min(READING_BYTES) + REFUSAL_BYTES
             }
             _ => RECORD_BYTES,
         }
@@ -153,8 +221,8 @@ impl Program {
 /// assert_eq!(record, expected.as_bytes());
 /// assert_eq!(cundarivo::programs::draw(b"REF,1,TOC\nA,05\n"), b"NO,3,2\n");
 /// ```
-pub fn draw(input: &[u8]) -> Vec<u8> {
-    Program::Draw.run(input)
+pub fn draw(reference: &[u8]) -> Vec<u8> {
+    Call::Draw { reference }.run()
 }
 
 /// `OK` where a record agrees with the rows and tags of a reference text, else a refusal.
@@ -162,43 +230,46 @@ pub fn draw(input: &[u8]) -> Vec<u8> {
 /// ```
 /// use cundarivo::programs::verify;
 ///
-/// let input = "REF,1,TOC\nA,5\n\nENV,1,TOC\nC,327680\nR,0,0,0,S\nW,1,65536\n";
-/// assert_eq!(verify(input.as_bytes()), b"OK\n");
+/// let record = "ENV,1,TOC\nC,327680\nR,0,0,0,S\nW,1,65536\n";
+/// assert_eq!(verify(b"REF,1,TOC\nA,5\n", record.as_bytes()), b"OK\n");
 ///
 /// // Another row: 12. Another form: 11, in the record's third line.
-/// assert_eq!(verify(input.replace("A,5", "A,6").as_bytes()), b"NO,12,0\n");
-/// assert_eq!(verify(input.replace(",S", "").as_bytes()), b"NO,11,3\n");
+/// assert_eq!(verify(b"REF,1,TOC\nA,6\n", record.as_bytes()), b"NO,12,0\n");
+/// let without_letter = record.replace(",S", "");
+/// assert_eq!(verify(b"REF,1,TOC\nA,5\n", without_letter.as_bytes()), b"NO,11,3\n");
 /// ```
-pub fn verify(input: &[u8]) -> Vec<u8> {
-    Program::Verify.run(input)
+pub fn verify(reference: &[u8], record: &[u8]) -> Vec<u8> {
+    Call::Verify { reference, record }.run()
 }
 
 /// The verdict on each reading, or the one refusal of the texts before them.
 ///
 /// ```
-/// let texts = "REF,1,TOC\nA,5\n\nENV,1,TOC\nC,327680\nR,0,0,0,S\nW,1,65536\n";
-/// let judge = |readings: &str| {
-///     let output = cundarivo::programs::judge(format!("{texts}\n{readings}").as_bytes());
-///     String::from_utf8(output).unwrap()
-/// };
-/// assert_eq!(judge("A,TOC,5\nA,TOC,6\n"), "QUIET\nALARM,4294967296\n");
+/// let (reference, record) = (b"REF,1,TOC\nA,5\n", b"ENV,1,TOC\nC,327680\nR,0,0,0,S\nW,1,65536\n");
+/// let judge = |readings: &[u8]| cundarivo::programs::judge(reference, record, readings);
+/// assert_eq!(judge(b"A,TOC,5\nA,TOC,6\n"), b"QUIET\nALARM,4294967296\n");
 ///
 /// // An empty line is a reading too, and so is a last piece without byte 10; none at all is 1.
-/// assert_eq!(judge("A,TOC,5\n\nA,TOC,5"), "QUIET\nNO,3,1\nNO,3,1\n");
-/// assert_eq!(judge(""), "NO,1,0\n");
+/// assert_eq!(judge(b"A,TOC,5\n\nA,TOC,5"), b"QUIET\nNO,3,1\nNO,3,1\n");
+/// assert_eq!(judge(b""), b"NO,1,0\n");
 /// ```
-pub fn judge(input: &[u8]) -> Vec<u8> {
-    Program::Judge.run(input)
+pub fn judge(reference: &[u8], record: &[u8], readings: &[u8]) -> Vec<u8> {
+    Call::Judge {
+        reference,
+        record,
+        readings,
+    }
+    .run()
 }
 
 /// What the panel shows of each channel, or a refusal.
 ///
 /// ```
-/// let input = "REF,1,TOC\nA,5\n\nENV,1,TOC\nC,327680\nR,0,0,0,S\nW,1,65536\n";
-/// assert_eq!(cundarivo::programs::panel(input.as_bytes()), b"TOC,5\n");
+/// let (reference, record) = (b"REF,1,TOC\nA,5\n", b"ENV,1,TOC\nC,327680\nR,0,0,0,S\nW,1,65536\n");
+/// assert_eq!(cundarivo::programs::panel(reference, record), b"TOC,5\n");
 /// ```
-pub fn panel(input: &[u8]) -> Vec<u8> {
-    Program::Panel.run(input)
+pub fn panel(reference: &[u8], record: &[u8]) -> Vec<u8> {
+    Call::Panel { reference, record }.run()
 }
 
 /// As [`draw`], into a lent buffer; gives the length of the output.
@@ -206,8 +277,8 @@ pub fn panel(input: &[u8]) -> Vec<u8> {
 /// # Errors
 ///
 /// Refusal 13, where the buffer is too short; then nothing is changed.
-pub fn draw_into(input: &[u8], output: &mut [u8]) -> Result<usize, Refusal> {
-    Program::Draw.run_into(input, output)
+pub fn draw_into(reference: &[u8], output: &mut [u8]) -> Result<usize, Refusal> {
+    Call::Draw { reference }.run_into(output)
 }
 
 /// As [`verify`], into a lent buffer; gives the length of the output.
@@ -215,17 +286,19 @@ pub fn draw_into(input: &[u8], output: &mut [u8]) -> Result<usize, Refusal> {
 /// # Errors
 ///
 /// Refusal 13, where the buffer is too short; then nothing is changed.
-pub fn verify_into(input: &[u8], output: &mut [u8]) -> Result<usize, Refusal> {
-    Program::Verify.run_into(input, output)
+pub fn verify_into(reference: &[u8], record: &[u8], output: &mut [u8]) -> Result<usize, Refusal> {
+    Call::Verify { reference, record }.run_into(output)
 }
 
 /// As [`judge`], into a lent buffer; gives the length of the output.
 ///
 /// ```
+/// use cundarivo::programs::judge_into;
+///
 /// let mut output = [b'.'; 12];
-/// let length = cundarivo::programs::judge_into(b"", &mut output)?;
+/// let length = judge_into(b"", b"", b"", &mut output)?;
 /// assert_eq!((length, &output), (7, b"NO,1,0\n....."));
-/// let refusal = cundarivo::programs::judge_into(b"", &mut output[..6]).unwrap_err();
+/// let refusal = judge_into(b"", b"", b"", &mut output[..6]).unwrap_err();
 /// assert_eq!((refusal.number, refusal.line), (13, 0));
 /// # Ok::<(), cundarivo::Refusal>(())
 /// ```
@@ -233,8 +306,18 @@ pub fn verify_into(input: &[u8], output: &mut [u8]) -> Result<usize, Refusal> {
 /// # Errors
 ///
 /// Refusal 13, where the buffer is too short; then nothing is changed.
-pub fn judge_into(input: &[u8], output: &mut [u8]) -> Result<usize, Refusal> {
-    Program::Judge.run_into(input, output)
+pub fn judge_into(
+    reference: &[u8],
+    record: &[u8],
+    readings: &[u8],
+    output: &mut [u8],
+) -> Result<usize, Refusal> {
+    Call::Judge {
+        reference,
+        record,
+        readings,
+    }
+    .run_into(output)
 }
 
 /// As [`panel`], into a lent buffer; gives the length of the output.
@@ -242,6 +325,6 @@ pub fn judge_into(input: &[u8], output: &mut [u8]) -> Result<usize, Refusal> {
 /// # Errors
 ///
 /// Refusal 13, where the buffer is too short; then nothing is changed.
-pub fn panel_into(input: &[u8], output: &mut [u8]) -> Result<usize, Refusal> {
-    Program::Panel.run_into(input, output)
+pub fn panel_into(reference: &[u8], record: &[u8], output: &mut [u8]) -> Result<usize, Refusal> {
+    Call::Panel { reference, record }.run_into(output)
 }

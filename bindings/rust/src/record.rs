@@ -5,9 +5,9 @@ use crate::{
     weight_places,
 };
 
-/// Bytes that are enough for every record, counted from the limits of what is written: at most 38 for
-/// the heading, 90 for X, 52 for M, L, the moves and the ending, and 12 for each of 256 weights. Proved
-/// is 320 and 18 for each weight (`house-room` in `crates/record/specs/HouseLaws.antt`).
+/// Bytes that are enough for every record: at most 38 for the heading, 90 for X, 52 for M, L, the moves
+/// and the ending, and 12 for each of 256 weights. This is proved (`house-most` in
+/// `crates/record/specs/HouseLaws.antt`).
 pub const RECORD_BYTES: usize = 38 + 90 + 52 + 12 * ROWS;
 
 /// An envelope: its figures, and the weights of its rows.
@@ -20,7 +20,7 @@ pub struct Envelope {
 }
 
 /// What the library answers to the writing of a record or of what a program prints, in numbers; see
-/// [`write_record_into`] and [`Program::answer`](crate::programs::Program::answer).
+/// [`write_record_into`] and [`Call::answer`](crate::programs::Call::answer).
 #[repr(C)]
 #[derive(Clone, Copy, Debug, PartialEq, Eq, Hash)]
 pub struct WrittenAnswer {

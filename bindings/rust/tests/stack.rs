@@ -64,9 +64,10 @@ fn draw_verify_and_panel() {
     let text = reference();
     let record = within(PROGRAMS, || programs::draw(&text));
     assert!(record.starts_with(b"ENV,8"));
-    let texts = [text, record].join(&b'\n');
-    assert_eq!(within(PROGRAMS, || programs::verify(&texts)), b"OK\n");
-    assert!(within(PROGRAMS, || programs::panel(&texts)).starts_with(b"TOC,"));
+    let verified = within(PROGRAMS, || programs::verify(&text, &record));
+    assert_eq!(verified, b"OK\n");
+    let shown = within(PROGRAMS, || programs::panel(&text, &record));
+    assert!(shown.starts_with(b"TOC,"));
 }
 
 #[test]
@@ -74,8 +75,7 @@ fn judge() {
     let text = reference();
     let record = programs::draw(&text);
     for readings in [reading().repeat(800), vec![b'\n'; 65_536]] {
-        let input = [&text[..], &record, &readings].join(&b'\n');
-        let output = within(JUDGE, || programs::judge(&input));
+        let output = within(JUDGE, || programs::judge(&text, &record, &readings));
         let count = |text: &[u8]| text.iter().filter(|&&byte| byte == b'\n').count();
         assert_eq!(count(&output), count(&readings));
     }

@@ -1,32 +1,33 @@
-//! One input of a program through the product and through the outside implementation.
+//! One run of a program through the product and through the outside implementation.
 
 use crate::lent::{self, Followed, Guarded};
 use crate::product::written_in_numbers;
 use cundarivo::Refusal;
-use cundarivo::programs as product;
+use cundarivo::programs::{self as product, Call};
 use outside::programs::Program;
 use outside::random::Random;
 use outside::records;
 
-/// What follows the input in memory. A product that read past its end would take it for the byte 10
-/// of its last line, for one more line, or for one more text.
-const BEHIND_INPUT: &[u8] = b"\nW,256,1\n\nA,TOC,1\n";
+/// What follows each text in memory. A product that read past an end would take it for the byte 10 of
+/// the last line, for an empty line, for one more line, or for one more text.
+pub const BEHIND_TEXT: &[u8] = b"\nW,256,1\n\nA,TOC,1\n";
 
-/// An input in memory, with what both must print of it.
+/// Texts in memory, each by itself, with what both must print of them.
 #[derive(Clone, Debug)]
 pub struct Run {
     program: Program,
-    input: Followed<u8>,
+    texts: Vec<Followed<u8>>,
     /// The output by the rules.
     pub output: Vec<u8>,
 }
 
 impl Run {
-    pub fn new(program: Program, input: &[u8]) -> Run {
+    pub fn new(program: Program, texts: &[Vec<u8>]) -> Run {
+        let followed = |text: &Vec<u8>| Followed::new(text, BEHIND_TEXT);
         Run {
             program,
-            input: Followed::new(input, BEHIND_INPUT),
-            output: program.run(input),
+            texts: texts.iter().map(followed).collect(),
+            output: program.run(texts),
         }
     }
 
@@ -35,56 +36,78 @@ impl Run {
     pub fn compare(&self, random: &mut Random, length: usize) -> u32 {
         let buffer = Guarded::new(length, || random.number() as u8);
         let (mut written, mut owed) = (buffer.clone(), buffer);
-        let input = self.input.clone();
-        let program = in_product(self.program);
-        let answer = program.answer(input.slice(), written.lent());
+        let texts = self.texts.clone();
+        let answer = in_product(self.program, &texts).answer(written.lent());
         let expected = records::place_text(&self.output, owed.lent());
         let shown = || format!("{length} places, {}", self.shown());
         assert_eq!(answer, written_in_numbers(expected), "{}", shown());
         assert!(written == owed, "a place differs, {}", shown());
-        assert!(input == self.input, "the input changed, {}", shown());
+        assert!(texts == self.texts, "a text changed, {}", shown());
         answer.number
     }
 
     /// The same through the wrapper, into an output of its own and into lent ones.
     pub fn compare_wrapper(&self) {
-        let (run, run_into) = in_wrapper(self.program);
-        let (input, length) = (self.input.slice(), self.output.len());
-        assert!(run(input) == self.output, "wrapper, {}", self.shown());
+        let (call, length) = (in_product(self.program, &self.texts), self.output.len());
+        let own = own_output(call);
+        assert!(own == self.output, "wrapper, {}", self.shown());
         let mut output = vec![0; length];
-        assert_eq!(run_into(input, &mut output), Ok(length));
+        assert_eq!(lent_output(call, &mut output), Ok(length));
         assert!(output == self.output, "lent to, {}", self.shown());
         let refusal = Refusal {
             number: 13,
             line: 0,
         };
-        assert_eq!(run_into(input, &mut output[1..]), Err(refusal));
+        assert_eq!(lent_output(call, &mut output[1..]), Err(refusal));
     }
 
-    /// The program and the beginnings of input and output, for messages.
+    /// The program and the beginnings of texts and output, for messages.
     pub fn shown(&self) -> String {
-        let (input, output) = (lent::shown(self.input.slice()), lent::shown(&self.output));
-        format!("{:?} of {input}, owed {output}", self.program)
+        let texts = self.texts.iter().map(|text| lent::shown(text.slice()));
+        let texts: Vec<String> = texts.collect();
+        let output = lent::shown(&self.output);
+        format!("{:?} of {}, owed {output}", self.program, texts.join("; "))
     }
 }
 
-fn in_product(program: Program) -> product::Program {
-    match program {
-        Program::Draw => product::Program::Draw,
-        Program::Verify => product::Program::Verify,
-        Program::Judge => product::Program::Judge,
-        Program::Panel => product::Program::Panel,
+/// The program with its texts, as the product takes them.
+fn in_product(program: Program, texts: &[Followed<u8>]) -> Call<'_> {
+    let texts: Vec<&[u8]> = texts.iter().map(Followed::slice).collect();
+    match (program, &texts[..]) {
+        (Program::Draw, &[reference]) => Call::Draw { reference },
+        (Program::Verify, &[reference, record]) => Call::Verify { reference, record },
+        (Program::Panel, &[reference, record]) => Call::Panel { reference, record },
+        (Program::Judge, &[reference, record, readings]) => Call::Judge {
+            reference,
+            record,
+            readings,
+        },
+        _ => panic!("{program:?} does not take {} texts", texts.len()),
     }
 }
 
-type OwnOutput = fn(&[u8]) -> Vec<u8>;
-type LentOutput = fn(&[u8], &mut [u8]) -> Result<usize, Refusal>;
+fn own_output(call: Call) -> Vec<u8> {
+    match call {
+        Call::Draw { reference } => product::draw(reference),
+        Call::Verify { reference, record } => product::verify(reference, record),
+        Call::Panel { reference, record } => product::panel(reference, record),
+        Call::Judge {
+            reference,
+            record,
+            readings,
+        } => product::judge(reference, record, readings),
+    }
+}
 
-fn in_wrapper(program: Program) -> (OwnOutput, LentOutput) {
-    match program {
-        Program::Draw => (product::draw, product::draw_into),
-        Program::Verify => (product::verify, product::verify_into),
-        Program::Judge => (product::judge, product::judge_into),
-        Program::Panel => (product::panel, product::panel_into),
+fn lent_output(call: Call, output: &mut [u8]) -> Result<usize, Refusal> {
+    match call {
+        Call::Draw { reference } => product::draw_into(reference, output),
+        Call::Verify { reference, record } => product::verify_into(reference, record, output),
+        Call::Panel { reference, record } => product::panel_into(reference, record, output),
+        Call::Judge {
+            reference,
+            record,
+            readings,
+        } => product::judge_into(reference, record, readings, output),
     }
 }

@@ -5,7 +5,7 @@
 //! - `compare_reading`: one reading through both, in the same way.
 //! - `compare_record`: one record read and one envelope written through both, in the same way.
 //! - `compare_chart`: one chart and one panel through both, in the same way.
-//! - `compare_program`: one input of a program through both, in the same way.
+//! - `compare_program`: one run of a program through both, in the same way.
 //! - `product`: the figures of an envelope, refusals and answers, as the product takes and gives them.
 //! - `lent`: slices lent to the product, with what lies round them.
 //! - `named`: tests by the names of known cases.

@@ -1,6 +1,7 @@
 //! The product compared with the outside implementation on charts and panels of seeded figures, whole
 //! and with faults, and of envelopes that are drawn and checked, whose rows must lie in the disc.
-//! SEED and CHARTS in the environment give another seed and another number of charts and of panels.
+//! CUNDARIVO_SEED and CUNDARIVO_CHARTS in the environment give another seed and a larger number of
+//! charts and of panels.
 
 use differential::compare_chart::{Chart, Panel};
 use differential::reached::Reached;
@@ -8,7 +9,7 @@ use outside::chart_figures::{self, CHANNEL_FAULTS, ChannelFault, PLACES, RADII};
 use outside::charts::Mark;
 use outside::envelopes::{self, FIGURE_FAULTS, Fitted};
 use outside::projections::{self, Tested};
-use outside::random::{Random, number_from_environment};
+use outside::random::{Random, count_from_environment, seed_from_environment};
 use outside::readings::EnvelopeFigures;
 use outside::rules::{CHANNEL_LIMIT, OUTSIDE_LIMITS, ROW_LIMIT, Vector};
 use outside::sets::{self, SHAPES};
@@ -35,8 +36,8 @@ struct Comparison {
 }
 
 fn main() {
-    let seed = number_from_environment("SEED", SEED);
-    let charts = number_from_environment("CHARTS", CHARTS);
+    let seed = seed_from_environment(SEED);
+    let charts = count_from_environment("CHARTS", CHARTS);
     println!("seed: {seed}");
     let started = Instant::now();
     let mut comparison = Comparison {

@@ -1,11 +1,11 @@
-//! The product compared with the outside implementation on seeded sets. SEED and SETS in the
-//! environment give another seed and another number of sets.
+//! The product compared with the outside implementation on seeded sets. CUNDARIVO_SEED and
+//! CUNDARIVO_SETS in the environment give another seed and a larger number of sets.
 
 use differential::compare::{self, Lent, Room};
 use differential::tally::Tally;
 use outside::cases::{self, Answer, Case, WEIGHTINGS};
 use outside::demands::Demands;
-use outside::random::{Random, number_from_environment};
+use outside::random::{Random, count_from_environment, seed_from_environment};
 use outside::rules::{BUDGET_LIMIT, CHANNEL_LIMIT, ROW_LIMIT};
 use outside::sets::{self, DAMAGES, SHAPES, Set};
 
@@ -15,8 +15,8 @@ const SETS: u64 = 200_000;
 const BUDGETS: [u32; 5] = [0, 1, 2, 10_000, BUDGET_LIMIT];
 
 fn main() {
-    let seed = number_from_environment("SEED", SEED);
-    let sets = number_from_environment("SETS", SETS);
+    let seed = seed_from_environment(SEED);
+    let sets = count_from_environment("SETS", SETS);
     println!("seed: {seed}");
     let mut random = Random::new(seed);
     let mut tally = Tally::default();

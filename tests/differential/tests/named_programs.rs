@@ -1,14 +1,19 @@
-//! Inputs of the programs that document 01 names, of every refusal, at every edge of a text and of
-//! several megabytes, each by a test of its own.
+//! Texts of the programs that document 01 names, of every refusal, at every edge of a text, in the
+//! place of another and of several megabytes, each by a test of its own.
 
-use differential::compare_program::Run;
+use cundarivo::programs::{self as product, Call};
+use differential::compare_program::{BEHIND_TEXT, Run};
 use differential::named;
-use outside::known_programs::{self, KnownInput};
-use outside::programs::{PROGRAMS, Program};
+use outside::known_programs::{self, KnownInput, REFERENCE};
+use outside::known_records::RECORD;
+use outside::programs::{PROGRAMS, Program, Texts};
 use outside::random::Random;
 use outside::reference::TEXT_LIMIT;
 use outside::sets::{self, Shape};
 use outside::texts::Draft;
+
+/// A reading of the centre of document 01's record.
+const READING: &[u8] = b"LOOP-1,TOC,3,CND,4\n";
 
 /// The product prints what is written down, in every buffer that is long enough, and is refused by 13
 /// in shorter ones.
@@ -17,8 +22,8 @@ fn holds(list: Vec<KnownInput>, name: &str) {
     let known = known.expect("a known input");
     let random = &mut Random::new(81);
     assert!(!known.runs.is_empty());
-    for (program, input) in known.runs {
-        let run = Run::new(program, &input);
+    for (program, texts) in known.runs {
+        let run = Run::new(program, &texts);
         assert!(run.output == known.output, "the outside implementation");
         let length = run.output.len();
         for places in [length, length + 1, length + 40] {
@@ -40,34 +45,50 @@ named!(halves, outside::known_programs::halves:
     half minus_half minus_one_and_a_half zero highest
 );
 
-named!(draw_refusals, outside::known_programs::draw_refusals:
-    nothing bytes_65536 bytes_65537 heading heading_without_end form row_without_end range
-    label_twice no_row row_257 empty_line_first empty_line_last three_texts
+named!(reference_refusals, outside::known_programs::reference_refusals:
+    nothing one_byte heading heading_without_end form row_without_end range label_twice no_row
+    row_257 line_of_byte_13 line_of_a_blank
 );
 
-named!(refusals, outside::known_programs::refusals:
-    heading form range label_twice no_row row_257 rows_of_another record_form_1
-    record_form_2 record_form_3 record_form_5 record_letter record_tags record_row_4
-    reference_twice both_headings
+named!(reference_empty_lines, outside::known_programs::reference_empty_lines:
+    alone nine_alone first behind_heading within twice_within last behind_heading_alone as_row_256
+    as_row_257
 );
 
-named!(reference_ends, outside::known_programs::reference_ends:
-    nothing one_byte empty_line_first no_parting_line row_for_a_parting_line
-    parting_line_of_byte_13 parting_line_of_a_blank reference_without_end reference_alone
-    parting_line_last one_parting_line two_parting_lines_alone nine_parting_lines_alone exchanged
+named!(record_refusals, outside::known_programs::record_refusals:
+    nothing one_byte form_1 form_2 form_3 form_5 without_end line_of_byte_13 letter tags row_4
+    of_other_rows
 );
 
-named!(record_ends, outside::known_programs::record_ends:
-    record_without_end empty_line_within record_twice reading_in_record
+named!(record_empty_lines, outside::known_programs::record_empty_lines:
+    alone first within before_weights last then_reading reading_without_it
 );
 
-named!(last_records, outside::known_programs::last_records:
-    parting_line_twice empty_line_behind reading_behind
+named!(embedded, outside::known_programs::embedded:
+    record_in_reference record_and_readings_in_reference readings_in_reference
+    own_record_in_reference reference_in_reference record_behind_empty_line_first
+    record_without_empty_line readings_in_record record_in_record reference_in_record
+);
+
+named!(strangers_balls, outside::known_programs::strangers_balls:
+    wide honest wide_record_of_honest_rows honest_record_of_wide_rows
+);
+
+named!(exchanged, outside::known_programs::exchanged:
+    record_and_reference readings_and_record readings_and_reference each_one_back each_one_on
+    reference_twice record_twice reference_as_readings record_as_readings readings_twice
+    reference_three_times readings_three_times
+);
+
+named!(several_refused, outside::known_programs::several_refused:
+    both_headings heading_then_no_record no_reference_then_form nothing_at_all
+    form_then_no_readings no_record_then_form disagreement_then_no_readings
 );
 
 named!(lengths, outside::known_programs::lengths:
-    reference_65536 reference_65537 record_65536 record_65537 both_65536 both_65537
-    form_then_65537 reference_65536_without_end empty_lines_65537
+    reference_65536 reference_65537 reference_65536_without_end reference_of_empty_lines_65536
+    reference_of_empty_lines_65537 record_65536 record_65537 record_of_empty_lines_65536
+    record_of_empty_lines_65537 both_65536 both_65537 heading_then_65537 form_then_65537
 );
 
 named!(verdicts, outside::known_programs::verdicts:
@@ -75,14 +96,9 @@ named!(verdicts, outside::known_programs::verdicts:
     each_row budget_1
 );
 
-named!(reading_starts, outside::known_programs::reading_starts:
-    record_last parting_line_last parting_line_twice empty_line_alone empty_line_first
-    reference_again record_again
-);
-
-named!(reading_ends, outside::known_programs::reading_ends:
-    two_lines empty_lines_within empty_line_last piece_alone piece_last piece_of_one_byte byte_13
-    byte_0
+named!(reading_lines, outside::known_programs::reading_lines:
+    nothing two_lines empty_line_alone empty_line_first empty_lines_first empty_lines_within
+    empty_line_last piece_alone piece_last piece_of_one_byte byte_13 byte_0
 );
 
 named!(reading_lengths, outside::known_programs::reading_lengths:
@@ -91,17 +107,21 @@ named!(reading_lengths, outside::known_programs::reading_lengths:
 );
 
 named!(large, outside::known_programs::large:
-    draw_one_row draw_rows draw_empty_lines reference record heading_before_record
-    empty_lines every_text readings readings_empty_lines form_before_readings
+    reference reference_of_rows reference_of_empty_lines record record_of_empty_lines
+    heading_before_record readings readings_of_empty_lines form_before_readings every_text
+    reference_length_wrapped record_length_wrapped readings_length_wrapped
 );
 
 /// An output that fits and one that does not, in numbers.
 #[test]
 fn answers_in_numbers() {
-    let program = cundarivo::programs::Program::Verify;
+    let call = Call::Verify {
+        reference: b"",
+        record: b"",
+    };
     let run = |places: usize| {
         let mut output = *b".........";
-        let answer = program.answer(b"", &mut output[..places]);
+        let answer = call.answer(&mut output[..places]);
         (answer.number, answer.line, answer.length, output)
     };
     assert_eq!(run(0), (13, 0, 0, *b"........."));
@@ -117,8 +137,8 @@ fn drawings_of_many_moves() {
     let (mut settled, mut budget) = (0, 0);
     while budget < 8 {
         let set = sets::set(random, Shape::Sphere, 12, 3);
-        let input = Draft::of_set(random, &set).bytes();
-        let run = Run::new(Program::Draw, &input);
+        let reference = Draft::of_set(random, &set).bytes();
+        let run = Run::new(Program::Draw, &[reference]);
         assert_eq!(run.compare(random, run.output.len()), 0);
         let output = String::from_utf8(run.output).expect("a text");
         budget += u32::from(output.contains(",10000,B\n"));
@@ -132,8 +152,8 @@ fn drawings_of_many_moves() {
 fn every_length_of_output() {
     let random = &mut Random::new(82);
     let (mut short, mut enough) = (0, 0);
-    for (program, input) in examples_of_each() {
-        let run = Run::new(program, &input);
+    for (program, texts) in examples_of_each() {
+        let run = Run::new(program, &texts);
         let length = run.output.len();
         for places in 0..=length + 1 {
             let number = run.compare(random, places);
@@ -145,7 +165,7 @@ fn every_length_of_output() {
     assert!(short > 200 && enough > 20, "{short}, {enough}");
 }
 
-fn examples_of_each() -> Vec<(Program, Vec<u8>)> {
+fn examples_of_each() -> Vec<(Program, Texts)> {
     let examples = [known_programs::examples(), known_programs::verdicts()].concat();
     let runs: Vec<_> = examples.into_iter().flat_map(|known| known.runs).collect();
     for program in PROGRAMS {
@@ -154,41 +174,100 @@ fn examples_of_each() -> Vec<(Program, Vec<u8>)> {
     runs
 }
 
-/// Every input cut off at each of its bytes, and lengthened by a byte.
-#[test]
-fn every_length_of_input() {
-    let random = &mut Random::new(83);
-    let mut compared = 0;
-    for (program, input) in examples_of_each() {
-        for length in 0..=input.len() {
-            let run = Run::new(program, &input[..length]);
-            assert_eq!(run.compare(random, run.output.len()), 0);
-            compared += 1;
-        }
-        for byte in 0..=u8::MAX {
-            let run = Run::new(program, &[&input[..], &[byte]].concat());
-            assert_eq!(run.compare(random, run.output.len()), 0);
-            compared += 1;
-        }
-    }
-    assert!(compared > 5_000, "{compared}");
+/// The texts with one of them replaced.
+fn with_text(texts: &[Vec<u8>], place: usize, text: &[u8]) -> Texts {
+    let mut changed = texts.to_vec();
+    changed[place] = text.to_vec();
+    changed
 }
 
-/// What follows the first 65,537 bytes for each text changes no output.
+/// Every text cut off at each of its bytes, and lengthened by a byte.
+#[test]
+fn every_length_of_a_text() {
+    let random = &mut Random::new(83);
+    let mut compared = 0;
+    for (program, texts) in examples_of_each() {
+        for (place, text) in texts.iter().enumerate() {
+            let cut = (0..=text.len()).map(|length| text[..length].to_vec());
+            let longer = (0..=u8::MAX).map(|byte| [&text[..], &[byte]].concat());
+            for changed in cut.chain(longer) {
+                let run = Run::new(program, &with_text(&texts, place, &changed));
+                assert_eq!(run.compare(random, run.output.len()), 0);
+                compared += 1;
+            }
+        }
+    }
+    assert!(compared > 10_000, "{compared}");
+}
+
+/// What lies behind each text in memory would change the output, however much of it were read.
+#[test]
+fn what_lies_behind_a_text_would_change_the_output() {
+    let mut tried = 0;
+    let examples = known_programs::examples().into_iter();
+    for (program, texts) in examples.flat_map(|known| known.runs) {
+        for (place, text) in texts.iter().enumerate() {
+            for end in [0, text.len() - 1, text.len()] {
+                let texts = with_text(&texts, place, &text[..end]);
+                let output = program.run(&texts);
+                for count in 1..=BEHIND_TEXT.len() {
+                    let longer = [&text[..end], &BEHIND_TEXT[..count]].concat();
+                    let other = program.run(&with_text(&texts, place, &longer));
+                    assert_ne!(output, other, "{program:?}, text {place}, {count} bytes");
+                    tried += 1;
+                }
+            }
+        }
+    }
+    assert!(tried > 800, "{tried}");
+}
+
+/// Texts that lie one behind another in memory are told apart by their lengths alone.
+#[test]
+fn texts_beside_each_other() {
+    let block = [REFERENCE.as_bytes(), RECORD.as_bytes(), READING].concat();
+    let (reference, rest) = block.split_at(REFERENCE.len());
+    let (record, readings) = rest.split_at(RECORD.len());
+    assert_eq!(product::draw(reference), RECORD.as_bytes());
+    assert_eq!(product::verify(reference, record), b"OK\n");
+    assert_eq!(product::panel(reference, record), b"TOC,3\nCND,4\n");
+    assert_eq!(product::judge(reference, record, readings), b"QUIET\n");
+}
+
+/// The same memory lent for several texts.
+#[test]
+fn the_same_memory_twice() {
+    let (reference, record) = (REFERENCE.as_bytes(), RECORD.as_bytes());
+    assert_eq!(product::verify(reference, reference), b"NO,11,1\n");
+    assert_eq!(product::panel(record, record), b"NO,2,1\n");
+    let refused = b"NO,3,1\n";
+    assert_eq!(product::judge(reference, record, record), refused.repeat(5));
+    assert_eq!(
+        product::judge(reference, record, reference),
+        refused.repeat(4)
+    );
+}
+
+/// What follows the first 65,537 bytes of a text changes no output.
 #[test]
 fn what_follows_the_limit_changes_nothing() {
     let random = &mut Random::new(84);
-    let mut cut = 0;
-    let large = known_programs::large();
-    for (program, input) in large.iter().flat_map(|known| &known.runs) {
-        let output = Run::new(*program, input).output;
-        let first = &input[..program.texts() * (TEXT_LIMIT + 1)];
-        let run = Run::new(*program, first);
-        assert_eq!(run.output, output, "{}", run.shown());
-        assert_eq!(run.compare(random, output.len()), 0);
-        cut += 1;
+    let mut cut = [0; 3];
+    for (program, texts) in known_programs::large()
+        .into_iter()
+        .flat_map(|known| known.runs)
+    {
+        let output = program.run(&texts);
+        for place in 0..texts.len() {
+            if let Some(first) = texts[place].get(..TEXT_LIMIT + 1) {
+                let run = Run::new(program, &with_text(&texts, place, first));
+                assert_eq!(run.output, output, "{}", run.shown());
+                assert_eq!(run.compare(random, output.len()), 0);
+                cut[place] += 1;
+            }
+        }
     }
-    assert!(cut >= 20, "{cut}");
+    assert!(cut.iter().all(|&count| count >= 4), "{cut:?}");
 }
 
 /// The longest output fits into the room that is said to be enough.
@@ -196,10 +275,10 @@ fn what_follows_the_limit_changes_nothing() {
 fn the_longest_output() {
     let known = known_programs::reading_lengths().into_iter();
     let runs = known.flat_map(|known| known.runs);
-    let runs = runs.map(|(program, input)| Run::new(program, &input));
+    let runs = runs.map(|(program, texts)| Run::new(program, &texts));
     let longest = runs.max_by_key(|run| run.output.len());
     let longest = longest.expect("a known input");
     assert_eq!(longest.output.len(), 7 * TEXT_LIMIT);
-    let number = longest.compare(&mut Random::new(86), cundarivo::programs::OUTPUT_BYTES);
+    let number = longest.compare(&mut Random::new(86), product::OUTPUT_BYTES);
     assert_eq!(number, 0);
 }

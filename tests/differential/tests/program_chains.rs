@@ -1,13 +1,13 @@
 //! The calls of the product in a chain, each fed with what the one before it gave: a reference text is
 //! drawn, its record verified, its rows judged, its panel shown, its record read, written again,
-//! altered and turned back. SEED and CHAINS in the environment give another seed and another number
-//! of chains.
+//! altered and turned back. CUNDARIVO_SEED and CUNDARIVO_CHAINS in the environment give another
+//! seed and a larger number of chains.
 
 use cundarivo::{Envelope, programs};
 use differential::reached::Reached;
 use outside::envelopes;
 use outside::program_inputs;
-use outside::random::{Random, number_from_environment};
+use outside::random::{Random, count_from_environment, seed_from_environment};
 use outside::reading_texts;
 use outside::record_calls::{self, Fault, FaultyCall};
 use outside::record_texts::Enveloped;
@@ -24,8 +24,8 @@ const SHARE: u64 = 10;
 const RARE_SHARE: u64 = 2_000;
 
 fn main() {
-    let seed = number_from_environment("SEED", SEED);
-    let chains = number_from_environment("CHAINS", CHAINS);
+    let seed = seed_from_environment(SEED);
+    let chains = count_from_environment("CHAINS", CHAINS);
     println!("seed: {seed}");
     let started = Instant::now();
     let random = &mut Random::new(seed);
@@ -73,32 +73,27 @@ impl Chain {
         }
     }
 
-    fn verify(&self, record: &[u8]) -> Vec<u8> {
-        programs::verify(&[&self.text, record].join(&b'\n'))
-    }
-
     fn verified(&self) {
-        let output = self.verify(&self.record);
+        let output = programs::verify(&self.text, &self.record);
         assert_eq!(output, b"OK\n", "{}", self.shown_texts());
     }
 
     /// Every row of the reference text is Quiet.
     fn judged(&self) {
         let readings = reading_texts::of_rows(&self.reference).concat();
-        let input = [&self.text[..], &self.record, &readings].join(&b'\n');
+        let output = programs::judge(&self.text, &self.record, &readings);
         let quiet = b"QUIET\n".repeat(self.reference.rows.len());
-        assert_eq!(programs::judge(&input), quiet, "{}", self.shown_texts());
+        assert_eq!(output, quiet, "{}", self.shown_texts());
     }
 
     /// The panel is that of the figures which are read from the record.
     fn shown(&self) {
-        let input = [&self.text[..], &self.record].join(&b'\n');
         let steps = cundarivo::panel(&self.read().figures).expect("figures within the limits");
         let lines = self.reference.types.iter().zip(steps);
         let owed: String = lines
             .map(|(channel, step)| format!("{},{step}\n", channel.tag))
             .collect();
-        let output = programs::panel(&input);
+        let output = programs::panel(&self.text, &self.record);
         assert_eq!(output, owed.as_bytes(), "{}", self.shown_texts());
     }
 
@@ -133,7 +128,7 @@ impl Chain {
         let FaultyCall { text, refusal, .. } = self.altered(random);
         let (number, line) = (refusal.number, refusal.line);
         let owed = format!("NO,{number},{line}\n");
-        let output = self.verify(&text);
+        let output = programs::verify(&self.text, &text);
         assert_eq!(output, owed.as_bytes(), "{}", text.escape_ascii());
         format!("altered: {number}")
     }

@@ -1,13 +1,13 @@
 //! The product compared with the outside implementation on seeded inputs of the four programs, whole
-//! and changed, with buffers of every kind of length, and on full sweeps. SEED and INPUTS in the
-//! environment give another seed and another number of inputs of each program.
+//! and changed, with buffers of every kind of length, and on full sweeps. CUNDARIVO_SEED and
+//! CUNDARIVO_INPUTS in the environment give another seed and a larger number of inputs of each program.
 
 use differential::compare_program::Run;
 use differential::reached::Reached;
 use outside::known_programs;
-use outside::program_inputs::{self, Change, Source};
+use outside::program_inputs::{self, Change, READINGS, RECORD, REFERENCE, Source};
 use outside::programs::{PROGRAMS, Program};
-use outside::random::{Random, number_from_environment};
+use outside::random::{Random, count_from_environment, seed_from_environment};
 use outside::reference::TEXT_LIMIT;
 use outside::sweeps;
 use std::cmp::Ordering;
@@ -33,8 +33,8 @@ struct Comparison {
 }
 
 fn main() {
-    let seed = number_from_environment("SEED", SEED);
-    let inputs = number_from_environment("INPUTS", INPUTS);
+    let seed = seed_from_environment(SEED);
+    let inputs = count_from_environment("INPUTS", INPUTS);
     println!("seed: {seed}");
     let started = Instant::now();
     let mut comparison = Comparison {
@@ -57,26 +57,26 @@ fn main() {
 }
 
 impl Comparison {
-    /// An input within the rules but for single readings, or a changed one.
+    /// Texts within the rules but for single readings, or changed ones.
     fn compare_seeded(&mut self, program: Program, source: &Source) {
         let random = &mut self.random;
-        let (input, changes) = if random.below(5) < 2 {
+        let (texts, changes) = if random.below(5) < 2 {
             (source.whole(random, program), Vec::new())
         } else {
             source.changed(random, program)
         };
-        let run = self.compare(program, &input);
+        let run = self.compare(program, &texts);
         for change in changes {
             self.reached.count(change_name(program, change));
         }
-        for answer in answers(program, &input, &run.output) {
+        for answer in answers(program, &texts, &run.output) {
             self.reached.count(answer_name(program, &answer));
         }
     }
 
     /// With a buffer of the output's length, a longer one, or one of any length.
-    fn compare(&mut self, program: Program, input: &[u8]) -> Run {
-        let run = Run::new(program, input);
+    fn compare(&mut self, program: Program, texts: &[Vec<u8>]) -> Run {
+        let run = Run::new(program, texts);
         let length = run.output.len();
         let random = &mut self.random;
         let any = random.index(length + 2);
@@ -115,14 +115,20 @@ impl Comparison {
         self.reached.require(&name, inputs / BUDGET_SHARE);
     }
 
-    /// Inputs that differ from document 01's in a byte or in the order of lines.
+    /// Texts of which one differs from document 01's in a byte or in the order of lines.
     fn compare_sweeps(&mut self) {
         let before = self.compared;
         let examples = known_programs::examples().into_iter();
-        for (program, input) in examples.flat_map(|known| known.runs) {
-            let mut visit = |changed: &[u8]| drop(self.compare(program, changed));
-            sweeps::one_byte_changes(&input, &mut visit);
-            sweeps::line_changes(&input, &mut visit);
+        for (program, texts) in examples.flat_map(|known| known.runs) {
+            for place in 0..texts.len() {
+                let mut changed = texts.clone();
+                let mut visit = |text: &[u8]| {
+                    changed[place] = text.to_vec();
+                    self.compare(program, &changed);
+                };
+                sweeps::one_byte_changes(&texts[place], &mut visit);
+                sweeps::line_changes(&texts[place], &mut visit);
+            }
         }
         let swept = self.compared - before;
         println!("inputs of sweeps: {swept}");
@@ -136,13 +142,13 @@ const ON_READINGS: [&str; 3] = ["NO,3,1", "NO,4,1", "NO,10,1"];
 const TEXTS: [&str; 3] = ["reference text", "record", "readings"];
 
 /// What a program answers: the refusal of a text, or what its lines say, each once.
-fn answers(program: Program, input: &[u8], output: &[u8]) -> BTreeSet<String> {
+fn answers(program: Program, texts: &[Vec<u8>], output: &[u8]) -> BTreeSet<String> {
     let output = std::str::from_utf8(output).expect("a text");
     let first = output.lines().next().expect("a line");
     let on_reading = program == Program::Judge && ON_READINGS.contains(&first);
     let refusal = first.strip_prefix("NO,").filter(|_| !on_reading);
     if let Some((number, _)) = refusal.and_then(|refusal| refusal.split_once(',')) {
-        return [refusal_name(refused_text(program, input, number), number)].into();
+        return [refusal_name(refused_text(texts, number), number)].into();
     }
     let lines = output.lines();
     match program {
@@ -153,17 +159,13 @@ fn answers(program: Program, input: &[u8], output: &[u8]) -> BTreeSet<String> {
     }
 }
 
-/// The text that is refused by a number, counted from 0.
-fn refused_text(program: Program, input: &[u8], number: &str) -> usize {
-    let of_length = |text: &Vec<u8>| (1..=TEXT_LIMIT).contains(&text.len());
+/// The place of the text that is refused by a number.
+fn refused_text(texts: &[Vec<u8>], number: &str) -> usize {
+    let of_length = |text: &&Vec<u8>| (1..=TEXT_LIMIT).contains(&text.len());
     match number {
-        "1" => program
-            .split(input)
-            .iter()
-            .take_while(|text| of_length(text))
-            .count(),
-        "11" | "12" => 1,
-        _ => 0,
+        "1" => texts.iter().take_while(of_length).count(),
+        "11" | "12" => RECORD,
+        _ => REFERENCE,
     }
 }
 
@@ -192,7 +194,8 @@ fn answer_name(program: Program, answer: &str) -> String {
 }
 
 fn change_name(program: Program, change: Change) -> String {
-    format!("{program:?}, change: {change:?}")
+    let Change { kind, text } = change;
+    format!("{program:?}, {}: {kind:?}", TEXTS[text])
 }
 
 fn buffer_name(program: Program, places: usize, length: usize) -> String {
@@ -223,12 +226,12 @@ fn refusals(program: Program) -> Vec<String> {
             .map(|&number| refusal_name(text, number))
             .collect()
     };
-    let mut names = of_text(0, &[1, 2, 3, 4, 5, 6]);
-    if texts > 1 {
-        names.extend(of_text(1, &[1, 11, 12]));
+    let mut names = of_text(REFERENCE, &[1, 2, 3, 4, 5, 6]);
+    if texts > RECORD {
+        names.extend(of_text(RECORD, &[1, 11, 12]));
     }
-    if texts > 2 {
-        names.extend(of_text(2, &[1]));
+    if texts > READINGS {
+        names.extend(of_text(READINGS, &[1]));
     }
     names
 }

@@ -1,11 +1,12 @@
 //! The product compared with the outside implementation on seeded readings, whole and damaged,
 //! against envelopes drawn, checked and arbitrary, within the limits and just outside, and on full
-//! sweeps. SEED and READINGS in the environment give another seed and another number of readings.
+//! sweeps. CUNDARIVO_SEED and CUNDARIVO_READINGS in the environment give another seed and a larger
+//! number of readings.
 
 use differential::compare_reading::Reading;
 use differential::reached::Reached;
 use outside::envelopes::{self, FIGURE_FAULTS, Fitted};
-use outside::random::{Random, number_from_environment};
+use outside::random::{Random, count_from_environment, seed_from_environment};
 use outside::reading_damage;
 use outside::reading_faults::{self, Fault, FaultyCall, LINE_FAULTS, ORDER, STRETCHED, TwoFaults};
 use outside::reading_texts::{self, ReadingDraft};
@@ -45,8 +46,8 @@ struct Comparison {
 }
 
 fn main() {
-    let seed = number_from_environment("SEED", SEED);
-    let readings = number_from_environment("READINGS", READINGS);
+    let seed = seed_from_environment(SEED);
+    let readings = count_from_environment("READINGS", READINGS);
     println!("seed: {seed}");
     let started = Instant::now();
     let mut comparison = Comparison {

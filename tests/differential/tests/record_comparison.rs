@@ -1,13 +1,13 @@
 //! The product compared with the outside implementation on records read and envelopes written:
 //! drawn and checked ones, whole, damaged, out of form, in disagreement and outside the limits, with
-//! rooms and buffers of every length, and on full sweeps. SEED and RECORDS in the environment give
-//! another seed and another number of seeded comparisons.
+//! rooms and buffers of every length, and on full sweeps. CUNDARIVO_SEED and CUNDARIVO_RECORDS in
+//! the environment give another seed and a larger number of seeded comparisons.
 
 use differential::compare_record::{Record, Writing};
 use differential::lent::{ENOUGH, ROOMS, Room};
 use differential::reached::Reached;
 use outside::known_records;
-use outside::random::{Random, number_from_environment};
+use outside::random::{Random, count_from_environment, seed_from_environment};
 use outside::record_calls::{self, FaultyCall};
 use outside::record_damage;
 use outside::record_texts::{self, BUDGETS, Enveloped};
@@ -40,8 +40,8 @@ struct Comparison {
 }
 
 fn main() {
-    let seed = number_from_environment("SEED", SEED);
-    let records = number_from_environment("RECORDS", RECORDS);
+    let seed = seed_from_environment(SEED);
+    let records = count_from_environment("RECORDS", RECORDS);
     println!("seed: {seed}");
     let started = Instant::now();
     let mut comparison = Comparison {
@@ -58,7 +58,7 @@ fn main() {
     comparison.compare_drawings();
     comparison.compare_sweeps();
     println!("comparisons in all: {}", comparison.compared());
-    assert!(records < RECORDS || comparison.compared() >= LEAST_COMPARED);
+    assert!(comparison.compared() >= LEAST_COMPARED);
     println!("seconds: {:.1}", started.elapsed().as_secs_f64());
 }
 

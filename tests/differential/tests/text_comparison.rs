@@ -1,13 +1,13 @@
 //! The product compared with the outside implementation on seeded reference texts, whole and
-//! damaged, and on full sweeps. SEED and TEXTS in the environment give another seed and another
-//! number of seeded texts.
+//! damaged, and on full sweeps. CUNDARIVO_SEED and CUNDARIVO_TEXTS in the environment give another
+//! seed and a larger number of seeded texts.
 
 use differential::compare_text::Text;
 use differential::lent::{ENOUGH, ROOMS, Room};
 use differential::reached::Reached;
 use outside::damage;
 use outside::faults::{self, Faulty};
-use outside::random::{Random, number_from_environment};
+use outside::random::{Random, count_from_environment, seed_from_environment};
 use outside::rules::{CHANNEL_LIMIT, ROW_LIMIT};
 use outside::sweeps;
 use outside::texts::{self, Draft};
@@ -29,8 +29,8 @@ struct Comparison {
 }
 
 fn main() {
-    let seed = number_from_environment("SEED", SEED);
-    let texts = number_from_environment("TEXTS", TEXTS);
+    let seed = seed_from_environment(SEED);
+    let texts = count_from_environment("TEXTS", TEXTS);
     println!("seed: {seed}");
     let started = Instant::now();
     let mut comparison = Comparison {

@@ -1,15 +1,15 @@
-//! Inputs of the programs that document 01 names, of every refusal and at every edge of a text, with
+//! Texts of the programs that document 01 names, of every refusal and at every edge of a text, with
 //! the outputs that the rules give, written down by hand.
 
 use crate::known_records::{RECORD, RECORD_BUDGET_1};
-use crate::programs::Program;
+use crate::programs::{PROGRAMS, Program, Texts};
 use crate::reference::TEXT_LIMIT;
 
-/// By name, the programs with the input of each, and what all of them print.
+/// By name, the programs with the texts of each, and what all of them print.
 #[derive(Clone, Debug)]
 pub struct KnownInput {
     pub name: &'static str,
-    pub runs: Vec<(Program, Vec<u8>)>,
+    pub runs: Vec<(Program, Texts)>,
     pub output: Vec<u8>,
 }
 
@@ -17,71 +17,77 @@ pub struct KnownInput {
 pub const REFERENCE: &str = "REF,2,TOC,CND\nA,0,0\nB,6,0\nC,0,8\n";
 /// A reading of the centre.
 const READING: &str = "LOOP-1,TOC,3,CND,4\n";
-/// Several times the limit on three texts.
+/// Many times the limit on a text.
 const MEGABYTES: usize = 3 << 20;
+
+/// The rows 0 and 10 with their record: the centre is 5 and the radius is 5.
+const HONEST_REFERENCE: &str = "REF,1,TOC\nA,0\nB,10\n";
+const HONEST_RECORD: &str = "ENV,1,TOC\nC,327680\n\
+    R,107374182400,107374182400,1,S\n\
+    W,1,32768\nW,2,32768\n";
+/// A stranger's rows 0 and 1000 with their record: the centre is 500 and the radius is 500.
+const WIDE_REFERENCE: &str = "REF,1,TOC\nA,0\nB,1000\n";
+const WIDE_RECORD: &str = "ENV,1,TOC\nC,32768000\n\
+    R,1073741824000000,1073741824000000,1,S\n\
+    W,1,32768\nW,2,32768\n";
+/// A reading in the wide ball, far outside the honest one.
+const READING_900: &str = "A,TOC,900\n";
 
 /// The programs that read a record.
 const READERS: [Program; 3] = [Program::Verify, Program::Judge, Program::Panel];
 
-fn known(
-    name: &'static str,
-    program: Program,
-    input: impl Into<Vec<u8>>,
-    output: impl Into<Vec<u8>>,
-) -> KnownInput {
-    KnownInput {
-        name,
-        runs: vec![(program, input.into())],
-        output: output.into(),
-    }
-}
-
-/// The same input of several programs.
+/// The same texts of several programs: each takes as many of the three as it reads.
 fn known_of(
     programs: &[Program],
     name: &'static str,
-    input: impl Into<Vec<u8>>,
+    [reference, record, readings]: [&str; 3],
     output: &str,
 ) -> KnownInput {
-    let input = input.into();
-    KnownInput {
-        name,
-        runs: programs
-            .iter()
-            .map(|&program| (program, input.clone()))
-            .collect(),
-        output: output.into(),
-    }
-}
-
-/// Two texts of the programs that read a record; behind the record stands a reading for `judge`.
-fn two_texts(name: &'static str, reference: &str, record: &str, output: &str) -> KnownInput {
-    let run = |program| {
-        let behind = match program {
-            Program::Judge => format!("\n{READING}"),
-            _ => String::new(),
-        };
-        (program, format!("{reference}\n{record}{behind}").into())
+    let run = |&program: &Program| {
+        let texts = [reference, record, readings].into_iter();
+        let texts = texts.take(program.texts()).map(Vec::from).collect();
+        (program, texts)
     };
     KnownInput {
         name,
-        runs: READERS.map(run).into(),
+        runs: programs.iter().map(run).collect(),
         output: output.into(),
     }
 }
 
-fn drawn(name: &'static str, input: impl Into<Vec<u8>>, output: impl Into<Vec<u8>>) -> KnownInput {
-    known(name, Program::Draw, input, output)
+/// A reference text of all four programs, with document 01's record and a reading.
+fn of_reference(name: &'static str, reference: &str, output: &str) -> KnownInput {
+    known_of(&PROGRAMS, name, [reference, RECORD, READING], output)
+}
+
+/// Two texts of the programs that read a record, with a reading for `judge`.
+fn two_texts(name: &'static str, reference: &str, record: &str, output: &str) -> KnownInput {
+    known_of(&READERS, name, [reference, record, READING], output)
+}
+
+/// A record of document 01's reference text.
+fn of_record(name: &'static str, record: &str, output: &str) -> KnownInput {
+    two_texts(name, REFERENCE, record, output)
+}
+
+/// A reference text that is drawn.
+fn drawn(name: &'static str, reference: &str, output: &str) -> KnownInput {
+    known_of(&[Program::Draw], name, [reference, "", ""], output)
+}
+
+/// The three texts of `judge`.
+fn three_texts(name: &'static str, texts: [&str; 3], output: &str) -> KnownInput {
+    known_of(&[Program::Judge], name, texts, output)
 }
 
 /// The readings of document 01's record, with the verdicts on them.
-fn judged(
-    name: &'static str,
-    readings: impl AsRef<[u8]>,
-    output: impl Into<Vec<u8>>,
-) -> KnownInput {
-    let texts = [REFERENCE.as_bytes(), RECORD.as_bytes(), readings.as_ref()];
-    known(name, Program::Judge, texts.join(&b'\n'), output)
+fn judged(name: &'static str, readings: &str, output: &str) -> KnownInput {
+    three_texts(name, [REFERENCE, RECORD, readings], output)
+}
+
+/// Texts joined as one, with an empty line between two of them.
+fn joined(texts: &[&str]) -> String {
+    texts.join("\n")
 }
 
 /// One row labelled A with this value, under TOC.
@@ -113,25 +119,38 @@ fn readings_of_length(length: usize) -> String {
     text
 }
 
+/// One reading of so many bytes, its last value out of range.
+fn long_reading(length: usize) -> String {
+    let digits = "1".repeat(length - READING.len());
+    READING.replace("4\n", &format!("4{digits}\n"))
+}
+
 pub fn examples() -> Vec<KnownInput> {
     let one_row = "ENV,1,TOC\nC,327680\nR,0,0,0,S\nW,1,65536\n";
-    let two_rows = "ENV,1,TOC\nC,327680\nR,107374182400,107374182400,1,S\nW,1,32768\nW,2,32768\n";
-    let small = format!("{}\n{one_row}", under_toc("5"));
-    let whole = format!("{REFERENCE}\n{RECORD}");
-    let budget_1 = format!("{REFERENCE}\n{RECORD_BUDGET_1}");
-    let verified = |name, input: &str| known(name, Program::Verify, input, "OK\n");
-    let shown = |name, input: &str, output: &str| known(name, Program::Panel, input, output);
+    let five = under_toc("5");
+    let verified = |name, reference: &str, record: &str| {
+        let texts = [reference, record, ""];
+        known_of(&[Program::Verify], name, texts, "OK\n")
+    };
+    let shown = |name, reference: &str, record: &str, output: &str| {
+        known_of(&[Program::Panel], name, [reference, record, ""], output)
+    };
     vec![
         drawn("draw_record", REFERENCE, RECORD),
-        drawn("draw_rows_0_10", "REF,1,TOC\nA,0\nB,10\n", two_rows),
-        drawn("draw_one_row", under_toc("5"), one_row),
+        drawn("draw_rows_0_10", HONEST_REFERENCE, HONEST_RECORD),
+        drawn("draw_one_row", &five, one_row),
         drawn("draw_rows_5_5", "REF,1,TOC\nA,5\nB,5\n", one_row),
-        verified("verify_record", &whole),
-        verified("verify_budget_1", &budget_1),
-        verified("verify_one_row", &small),
-        shown("panel_record", &whole, "TOC,3\nCND,4\n"),
-        shown("panel_budget_1", &budget_1, "TOC,0\nCND,4\n"),
-        shown("panel_one_row", &small, "TOC,5\n"),
+        verified("verify_record", REFERENCE, RECORD),
+        verified("verify_budget_1", REFERENCE, RECORD_BUDGET_1),
+        verified("verify_one_row", &five, one_row),
+        shown("panel_record", REFERENCE, RECORD, "TOC,3\nCND,4\n"),
+        shown(
+            "panel_budget_1",
+            REFERENCE,
+            RECORD_BUDGET_1,
+            "TOC,0\nCND,4\n",
+        ),
+        shown("panel_one_row", &five, one_row, "TOC,5\n"),
         judged("judge_record", READING, "QUIET\n"),
     ]
 }
@@ -144,8 +163,7 @@ pub fn halves() -> Vec<KnownInput> {
         let radius = i64::from(32_768 * (high - low)).pow(2);
         let weights = "W,1,32768\nW,2,32768\n";
         let record = format!("ENV,1,{tag}\nC,{centre}\nR,{radius},{radius},1,S\n{weights}");
-        let input = format!("{reference}\n{record}");
-        known(name, Program::Panel, input, output)
+        known_of(&[Program::Panel], name, [&reference, &record, ""], output)
     };
     vec![
         shown("half", ("PH", 0, 1), "PH,1\n"),
@@ -156,143 +174,225 @@ pub fn halves() -> Vec<KnownInput> {
     ]
 }
 
-pub fn draw_refusals() -> Vec<KnownInput> {
-    let three = format!("{REFERENCE}\n{RECORD}\n{READING}");
+/// The refusals of the reference text, the same in each program.
+pub fn reference_refusals() -> Vec<KnownInput> {
+    let without_end = REFERENCE.trim_end();
     vec![
-        drawn("nothing", "", "NO,1,0\n"),
-        drawn("bytes_65536", reference_of_length(TEXT_LIMIT), "NO,4,2\n"),
-        drawn(
-            "bytes_65537",
-            reference_of_length(TEXT_LIMIT + 1),
-            "NO,1,0\n",
-        ),
-        drawn("heading", "REF,2,TOC\nA,1,1\n", "NO,2,1\n"),
-        drawn("heading_without_end", "REF,1,TOC", "NO,2,1\n"),
-        drawn("form", under_toc("05"), "NO,3,2\n"),
-        drawn("row_without_end", "REF,1,TOC\nA,5", "NO,3,2\n"),
-        drawn("range", under_toc("2001"), "NO,4,2\n"),
-        drawn("label_twice", "REF,1,TOC\nA,1\nA,2\n", "NO,5,3\n"),
-        drawn("no_row", "REF,1,TOC\n", "NO,6,2\n"),
-        drawn("row_257", rows(257), "NO,6,258\n"),
-        drawn("empty_line_first", format!("\n{REFERENCE}"), "NO,2,1\n"),
-        drawn("empty_line_last", format!("{REFERENCE}\n"), "NO,3,5\n"),
-        drawn("three_texts", three, "NO,3,5\n"),
+        of_reference("nothing", "", "NO,1,0\n"),
+        of_reference("one_byte", "R", "NO,2,1\n"),
+        of_reference("heading", "REF,2,TOC\nA,1,1\n", "NO,2,1\n"),
+        of_reference("heading_without_end", "REF,1,TOC", "NO,2,1\n"),
+        of_reference("form", &under_toc("05"), "NO,3,2\n"),
+        of_reference("row_without_end", without_end, "NO,3,4\n"),
+        of_reference("range", &under_toc("2001"), "NO,4,2\n"),
+        of_reference("label_twice", "REF,1,TOC\nA,1\nA,2\n", "NO,5,3\n"),
+        of_reference("no_row", "REF,1,TOC\n", "NO,6,2\n"),
+        of_reference("row_257", &rows(257), "NO,6,258\n"),
+        of_reference("line_of_byte_13", &format!("{REFERENCE}\r\n"), "NO,3,5\n"),
+        of_reference("line_of_a_blank", &format!("{REFERENCE} \n"), "NO,3,5\n"),
     ]
 }
 
-/// The refusals of the first two texts.
-pub fn refusals() -> Vec<KnownInput> {
-    let reference = |name, text: &str, output| two_texts(name, text, RECORD, output);
-    let record = |name, from: &str, to: &str, output| {
-        two_texts(name, REFERENCE, &RECORD.replace(from, to), output)
-    };
+/// A reference text with an empty line, which is a line out of form like any other.
+pub fn reference_empty_lines() -> Vec<KnownInput> {
+    let first = format!("\n{REFERENCE}");
+    let behind_heading = REFERENCE.replacen("\n", "\n\n", 1);
+    let within = REFERENCE.replace("\nB", "\n\nB");
+    let twice = REFERENCE.replace("\nB", "\n\n\nB");
     vec![
-        reference("heading", "REF,2,TOC\nA,1,1\n", "NO,2,1\n"),
-        reference("form", &under_toc("05"), "NO,3,2\n"),
-        reference("range", &under_toc("2001"), "NO,4,2\n"),
-        reference("label_twice", "REF,1,TOC\nA,1\nA,2\n", "NO,5,3\n"),
-        reference("no_row", "REF,1,TOC\n", "NO,6,2\n"),
-        reference("row_257", &rows(257), "NO,6,258\n"),
-        reference("rows_of_another", &rows(256), "NO,12,0\n"),
-        record("record_form_1", "ENV", "REF", "NO,11,1\n"),
-        record("record_form_2", "C,1", "C,01", "NO,11,2\n"),
-        record("record_form_3", ",S", ",s", "NO,11,3\n"),
-        record("record_form_5", "W,3", "W,2", "NO,11,5\n"),
-        record("record_letter", ",S", ",B", "NO,12,0\n"),
-        record("record_tags", "CND", "TC", "NO,12,0\n"),
-        record("record_row_4", "W,3", "W,4", "NO,12,0\n"),
-        two_texts("reference_twice", REFERENCE, REFERENCE, "NO,11,1\n"),
-        two_texts("both_headings", "REF,9\n", "ENV,9\n", "NO,2,1\n"),
+        of_reference("alone", "\n", "NO,2,1\n"),
+        of_reference("nine_alone", &"\n".repeat(9), "NO,2,1\n"),
+        of_reference("first", &first, "NO,2,1\n"),
+        of_reference("behind_heading", &behind_heading, "NO,3,2\n"),
+        of_reference("within", &within, "NO,3,3\n"),
+        of_reference("twice_within", &twice, "NO,3,3\n"),
+        of_reference("last", &format!("{REFERENCE}\n"), "NO,3,5\n"),
+        of_reference("behind_heading_alone", "REF,1,TOC\n\n", "NO,3,2\n"),
+        of_reference("as_row_256", &format!("{}\n", rows(255)), "NO,3,257\n"),
+        of_reference("as_row_257", &format!("{}\n", rows(256)), "NO,6,258\n"),
     ]
 }
 
-/// Where the reference text ends.
-pub fn reference_ends() -> Vec<KnownInput> {
-    let split = |name, input: &str, output| known_of(&READERS, name, input, output);
-    let parted_by = |line: &str| format!("{REFERENCE}{line}{RECORD}\n{READING}");
-    let empty_line_first = format!("\n{}", parted_by("\n"));
-    let without_end = format!("{}\n{RECORD}", REFERENCE.trim_end());
+/// The refusals of the record, the same in each program that reads one.
+pub fn record_refusals() -> Vec<KnownInput> {
+    let changed =
+        |name, from: &str, to: &str, output| of_record(name, &RECORD.replace(from, to), output);
     vec![
-        split("nothing", "", "NO,1,0\n"),
-        split("one_byte", "R", "NO,2,1\n"),
-        split("empty_line_first", &empty_line_first, "NO,1,0\n"),
-        split("no_parting_line", &parted_by(""), "NO,3,5\n"),
-        split("row_for_a_parting_line", &parted_by("A,1,1\n"), "NO,5,5\n"),
-        split("parting_line_of_byte_13", &parted_by("\r\n"), "NO,3,5\n"),
-        split("parting_line_of_a_blank", &parted_by(" \n"), "NO,3,5\n"),
-        split("reference_without_end", &without_end, "NO,3,5\n"),
-        split("reference_alone", REFERENCE, "NO,1,0\n"),
-        split("parting_line_last", &format!("{REFERENCE}\n"), "NO,1,0\n"),
-        split("one_parting_line", "\n", "NO,1,0\n"),
-        split("two_parting_lines_alone", "\n\n", "NO,1,0\n"),
-        split("nine_parting_lines_alone", &"\n".repeat(9), "NO,1,0\n"),
-        split("exchanged", &format!("{RECORD}\n{REFERENCE}"), "NO,2,1\n"),
+        of_record("nothing", "", "NO,1,0\n"),
+        of_record("one_byte", "E", "NO,11,1\n"),
+        changed("form_1", "ENV", "REF", "NO,11,1\n"),
+        changed("form_2", "C,1", "C,01", "NO,11,2\n"),
+        changed("form_3", ",S", ",s", "NO,11,3\n"),
+        changed("form_5", "W,3", "W,2", "NO,11,5\n"),
+        of_record("without_end", RECORD.trim_end(), "NO,11,5\n"),
+        of_record("line_of_byte_13", &format!("{RECORD}\r\n"), "NO,11,6\n"),
+        changed("letter", ",S", ",B", "NO,12,0\n"),
+        changed("tags", "CND", "TC", "NO,12,0\n"),
+        changed("row_4", "W,3", "W,4", "NO,12,0\n"),
+        two_texts("of_other_rows", &rows(256), RECORD, "NO,12,0\n"),
     ]
 }
 
-/// What stands behind the reference text and its parting line.
-fn behind_reference(
-    programs: &[Program],
-    name: &'static str,
-    rest: &str,
-    output: &str,
-) -> KnownInput {
-    known_of(programs, name, format!("{REFERENCE}\n{rest}"), output)
-}
-
-/// Where the record ends.
-pub fn record_ends() -> Vec<KnownInput> {
-    let split = |name, rest: &str, output| behind_reference(&READERS, name, rest, output);
-    let empty_line_within = RECORD.replace("\nR", "\n\nR");
+/// A record with an empty line, and with a reading behind it.
+pub fn record_empty_lines() -> Vec<KnownInput> {
+    let first = format!("\n{RECORD}");
+    let within = RECORD.replace("\nR", "\n\nR");
+    let before_weights = RECORD.replacen("\nW", "\n\nW", 1);
     vec![
-        split("record_without_end", RECORD.trim_end(), "NO,11,5\n"),
-        split("empty_line_within", &empty_line_within, "NO,11,3\n"),
-        split("record_twice", &RECORD.repeat(2), "NO,11,6\n"),
-        split(
-            "reading_in_record",
+        of_record("alone", "\n", "NO,11,1\n"),
+        of_record("first", &first, "NO,11,1\n"),
+        of_record("within", &within, "NO,11,3\n"),
+        of_record("before_weights", &before_weights, "NO,11,4\n"),
+        of_record("last", &format!("{RECORD}\n"), "NO,11,6\n"),
+        of_record("then_reading", &joined(&[RECORD, READING]), "NO,11,6\n"),
+        of_record(
+            "reading_without_it",
             &format!("{RECORD}{READING}"),
             "NO,11,6\n",
         ),
     ]
 }
 
-/// The record is the last text of `verify` and `panel`: empty lines belong to it.
-pub fn last_records() -> Vec<KnownInput> {
-    let programs = [Program::Verify, Program::Panel];
-    let split = |name, rest: &str, output| behind_reference(&programs, name, rest, output);
-    let reading_behind = format!("{RECORD}\n{READING}");
+/// Texts that a stranger has put into another text.
+pub fn embedded() -> Vec<KnownInput> {
+    let of_stranger = |name, reference: &str, output: &str| {
+        known_of(
+            &PROGRAMS,
+            name,
+            [reference, HONEST_RECORD, READING_900],
+            output,
+        )
+    };
+    let with_record = joined(&[WIDE_REFERENCE, WIDE_RECORD]);
+    let with_both = joined(&[WIDE_REFERENCE, WIDE_RECORD, READING_900]);
+    let with_readings = joined(&[HONEST_REFERENCE, "A,TOC,5\n"]);
+    let own_record = joined(&[HONEST_REFERENCE, HONEST_RECORD]);
+    let two_references = joined(&[WIDE_REFERENCE, HONEST_REFERENCE]);
+    let empty_line_first = format!("\n{with_record}");
+    let record_behind = format!("{WIDE_REFERENCE}{WIDE_RECORD}");
+    let in_record = |name, record: &str| {
+        let texts = [HONEST_REFERENCE, record, READING_900];
+        known_of(&READERS, name, texts, "NO,11,6\n")
+    };
     vec![
-        split("parting_line_twice", &format!("\n{RECORD}"), "NO,11,1\n"),
-        split("empty_line_behind", &format!("{RECORD}\n"), "NO,11,6\n"),
-        split("reading_behind", &reading_behind, "NO,11,6\n"),
+        of_stranger("record_in_reference", &with_record, "NO,3,4\n"),
+        of_stranger("record_and_readings_in_reference", &with_both, "NO,3,4\n"),
+        of_stranger("readings_in_reference", &with_readings, "NO,3,4\n"),
+        of_stranger("own_record_in_reference", &own_record, "NO,3,4\n"),
+        of_stranger("reference_in_reference", &two_references, "NO,3,4\n"),
+        of_stranger(
+            "record_behind_empty_line_first",
+            &empty_line_first,
+            "NO,2,1\n",
+        ),
+        of_stranger("record_without_empty_line", &record_behind, "NO,3,4\n"),
+        in_record("readings_in_record", &joined(&[HONEST_RECORD, "A,TOC,5\n"])),
+        in_record("record_in_record", &joined(&[HONEST_RECORD, WIDE_RECORD])),
+        in_record(
+            "reference_in_record",
+            &joined(&[HONEST_RECORD, WIDE_REFERENCE]),
+        ),
     ]
 }
 
-/// Texts as long as the limit and one byte longer.
-pub fn lengths() -> Vec<KnownInput> {
-    let [reference, longer] = [TEXT_LIMIT, TEXT_LIMIT + 1].map(reference_of_length);
-    let [record, longer_record] = [TEXT_LIMIT, TEXT_LIMIT + 1].map(record_of_length);
-    let without_end = format!("{}1", reference.trim_end());
-    assert_eq!(without_end.len(), TEXT_LIMIT);
+/// The same balls without an embedded text.
+pub fn strangers_balls() -> Vec<KnownInput> {
     vec![
-        two_texts("reference_65536", &reference, RECORD, "NO,4,2\n"),
-        two_texts("reference_65537", &longer, RECORD, "NO,1,0\n"),
-        two_texts("record_65536", REFERENCE, &record, "NO,11,2\n"),
-        two_texts("record_65537", REFERENCE, &longer_record, "NO,1,0\n"),
-        two_texts("both_65536", &reference, &record, "NO,4,2\n"),
-        two_texts("both_65537", &longer, &longer_record, "NO,1,0\n"),
-        two_texts("form_then_65537", "REF,9\n", &longer_record, "NO,2,1\n"),
-        two_texts(
-            "reference_65536_without_end",
-            &without_end,
-            RECORD,
-            "NO,1,0\n",
+        three_texts(
+            "wide",
+            [WIDE_REFERENCE, WIDE_RECORD, READING_900],
+            "QUIET\n",
+        ),
+        three_texts(
+            "honest",
+            [HONEST_REFERENCE, HONEST_RECORD, READING_900],
+            "ALARM,3440268804096000\n",
         ),
         known_of(
             &READERS,
-            "empty_lines_65537",
-            "\n".repeat(TEXT_LIMIT + 1),
-            "NO,1,0\n",
+            "wide_record_of_honest_rows",
+            [HONEST_REFERENCE, WIDE_RECORD, READING_900],
+            "NO,12,0\n",
+        ),
+        known_of(
+            &READERS,
+            "honest_record_of_wide_rows",
+            [WIDE_REFERENCE, HONEST_RECORD, READING_900],
+            "NO,12,0\n",
+        ),
+    ]
+}
+
+/// Texts in another's place.
+pub fn exchanged() -> Vec<KnownInput> {
+    let form = "NO,3,1\n";
+    vec![
+        two_texts("record_and_reference", RECORD, REFERENCE, "NO,2,1\n"),
+        three_texts(
+            "readings_and_record",
+            [REFERENCE, READING, RECORD],
+            "NO,11,1\n",
+        ),
+        three_texts(
+            "readings_and_reference",
+            [READING, RECORD, REFERENCE],
+            "NO,2,1\n",
+        ),
+        three_texts("each_one_back", [RECORD, READING, REFERENCE], "NO,2,1\n"),
+        three_texts("each_one_on", [READING, REFERENCE, RECORD], "NO,2,1\n"),
+        two_texts("reference_twice", REFERENCE, REFERENCE, "NO,11,1\n"),
+        two_texts("record_twice", RECORD, RECORD, "NO,2,1\n"),
+        judged("reference_as_readings", REFERENCE, &form.repeat(4)),
+        judged("record_as_readings", RECORD, &form.repeat(5)),
+        three_texts("readings_twice", [REFERENCE, READING, READING], "NO,11,1\n"),
+        three_texts("reference_three_times", [REFERENCE; 3], "NO,11,1\n"),
+        three_texts("readings_three_times", [READING; 3], "NO,2,1\n"),
+    ]
+}
+
+/// Of several refused texts the first is told.
+pub fn several_refused() -> Vec<KnownInput> {
+    let (heading, form) = ("REF,9\n", "ENV,9\n");
+    let disagrees = RECORD.replace(",S", ",B");
+    vec![
+        two_texts("both_headings", heading, form, "NO,2,1\n"),
+        two_texts("heading_then_no_record", heading, "", "NO,2,1\n"),
+        two_texts("no_reference_then_form", "", form, "NO,1,0\n"),
+        three_texts("nothing_at_all", ["", "", ""], "NO,1,0\n"),
+        three_texts("form_then_no_readings", [REFERENCE, form, ""], "NO,11,1\n"),
+        three_texts("no_record_then_form", [REFERENCE, "", "\n"], "NO,1,0\n"),
+        three_texts(
+            "disagreement_then_no_readings",
+            [REFERENCE, &disagrees, ""],
+            "NO,12,0\n",
+        ),
+    ]
+}
+
+/// Reference texts and records as long as the limit and one byte longer.
+pub fn lengths() -> Vec<KnownInput> {
+    let [reference, longer] = [TEXT_LIMIT, TEXT_LIMIT + 1].map(reference_of_length);
+    let [record, longer_record] = [TEXT_LIMIT, TEXT_LIMIT + 1].map(record_of_length);
+    let [empty, more_empty] = [TEXT_LIMIT, TEXT_LIMIT + 1].map(|count| "\n".repeat(count));
+    let without_end = format!("{}1", reference.trim_end());
+    assert_eq!(without_end.len(), TEXT_LIMIT);
+    vec![
+        of_reference("reference_65536", &reference, "NO,4,2\n"),
+        of_reference("reference_65537", &longer, "NO,1,0\n"),
+        of_reference("reference_65536_without_end", &without_end, "NO,3,2\n"),
+        of_reference("reference_of_empty_lines_65536", &empty, "NO,2,1\n"),
+        of_reference("reference_of_empty_lines_65537", &more_empty, "NO,1,0\n"),
+        of_record("record_65536", &record, "NO,11,2\n"),
+        of_record("record_65537", &longer_record, "NO,1,0\n"),
+        of_record("record_of_empty_lines_65536", &empty, "NO,11,1\n"),
+        of_record("record_of_empty_lines_65537", &more_empty, "NO,1,0\n"),
+        two_texts("both_65536", &reference, &record, "NO,4,2\n"),
+        two_texts("both_65537", &longer, &longer_record, "NO,1,0\n"),
+        two_texts("heading_then_65537", "REF,9\n", &longer_record, "NO,2,1\n"),
+        three_texts(
+            "form_then_65537",
+            [REFERENCE, "ENV\n", &more_empty],
+            "NO,11,1\n",
         ),
     ]
 }
@@ -300,6 +400,7 @@ pub fn lengths() -> Vec<KnownInput> {
 /// Verdicts on readings of document 01's record.
 pub fn verdicts() -> Vec<KnownInput> {
     let every = "A,TOC,3,CND,9\nA,TOC,3,CND,10\nA,TOC,3,PH,9\nA,TOC,2001,CND,9\nA,TOC,03,CND,9\n";
+    let each_row = "A,TOC,0,CND,0\nB,TOC,6,CND,0\nC,TOC,0,CND,8\n";
     vec![
         judged("at_the_edge", "B,TOC,6,CND,0\n", "QUIET\n"),
         judged("inside", "A,TOC,3,CND,4\n", "QUIET\n"),
@@ -318,57 +419,44 @@ pub fn verdicts() -> Vec<KnownInput> {
             every,
             "QUIET\nALARM,47244640256\nNO,10,1\nNO,4,1\nNO,3,1\n",
         ),
-        judged(
-            "each_row",
-            "A,TOC,0,CND,0\nB,TOC,6,CND,0\nC,TOC,0,CND,8\n",
-            "QUIET\nQUIET\nQUIET\n",
-        ),
-        known(
+        judged("each_row", each_row, "QUIET\nQUIET\nQUIET\n"),
+        three_texts(
             "budget_1",
-            Program::Judge,
-            format!("{REFERENCE}\n{RECORD_BUDGET_1}\nA,TOC,6,CND,0\nA,TOC,6,CND,9\n"),
+            [REFERENCE, RECORD_BUDGET_1, "A,TOC,6,CND,0\nA,TOC,6,CND,9\n"],
             "QUIET\nALARM,38654705664\n",
         ),
     ]
 }
 
-/// Where readings start.
-pub fn reading_starts() -> Vec<KnownInput> {
-    let judge = [Program::Judge];
-    let split = |name, rest: &str, output| behind_reference(&judge, name, rest, output);
-    let parting_line_twice = format!("\n{RECORD}\n{READING}");
-    vec![
-        split("record_last", RECORD, "NO,1,0\n"),
-        split("parting_line_last", &format!("{RECORD}\n"), "NO,1,0\n"),
-        split("parting_line_twice", &parting_line_twice, "NO,1,0\n"),
-        judged("empty_line_alone", "\n", "NO,3,1\n"),
-        judged(
-            "empty_line_first",
-            format!("\n{READING}"),
-            "NO,3,1\nQUIET\n",
-        ),
-        judged("reference_again", REFERENCE, "NO,3,1\n".repeat(4)),
-        judged("record_again", RECORD, "NO,3,1\n".repeat(5)),
-    ]
-}
-
-/// Where readings end: each line is one, and so is a last piece without byte 10.
-pub fn reading_ends() -> Vec<KnownInput> {
+/// Each line is a reading, an empty one too, and so is a last piece without byte 10.
+pub fn reading_lines() -> Vec<KnownInput> {
     let without_end = READING.trim_end();
     let then_piece = |piece: &str| format!("{READING}{piece}");
     let empty_lines = format!("{READING}\n\n{READING}");
     vec![
-        judged("two_lines", READING.repeat(2), "QUIET\nQUIET\n"),
+        judged("nothing", "", "NO,1,0\n"),
+        judged("two_lines", &READING.repeat(2), "QUIET\nQUIET\n"),
+        judged("empty_line_alone", "\n", "NO,3,1\n"),
+        judged(
+            "empty_line_first",
+            &format!("\n{READING}"),
+            "NO,3,1\nQUIET\n",
+        ),
+        judged(
+            "empty_lines_first",
+            &format!("\n\n{READING}"),
+            "NO,3,1\nNO,3,1\nQUIET\n",
+        ),
         judged(
             "empty_lines_within",
-            empty_lines,
+            &empty_lines,
             "QUIET\nNO,3,1\nNO,3,1\nQUIET\n",
         ),
-        judged("empty_line_last", then_piece("\n"), "QUIET\nNO,3,1\n"),
+        judged("empty_line_last", &then_piece("\n"), "QUIET\nNO,3,1\n"),
         judged("piece_alone", without_end, "NO,3,1\n"),
-        judged("piece_last", then_piece(without_end), "QUIET\nNO,3,1\n"),
-        judged("piece_of_one_byte", then_piece("L"), "QUIET\nNO,3,1\n"),
-        judged("byte_13", READING.replace('\n', "\r\n"), "NO,3,1\n"),
+        judged("piece_last", &then_piece(without_end), "QUIET\nNO,3,1\n"),
+        judged("piece_of_one_byte", &then_piece("L"), "QUIET\nNO,3,1\n"),
+        judged("byte_13", &READING.replace('\n', "\r\n"), "NO,3,1\n"),
         judged("byte_0", "\0", "NO,3,1\n"),
     ]
 }
@@ -383,41 +471,40 @@ pub fn reading_lengths() -> Vec<KnownInput> {
     let whole = format!("ABCDE{READING}") + &READING.repeat(lines - 1);
     assert_eq!(whole.len(), TEXT_LIMIT);
     vec![
-        judged("bytes_65536", cut, format!("{quiet}NO,3,1\n")),
-        judged("bytes_65537", longer, "NO,1,0\n"),
-        judged("whole_lines_65536", &whole, quiet),
-        judged("whole_lines_65537", format!("\n{whole}"), "NO,1,0\n"),
-        judged("one_line_65536", line, "NO,4,1\n"),
-        judged("one_line_65537", longer_line, "NO,1,0\n"),
-        judged("empty_lines_65536", empty, "NO,3,1\n".repeat(TEXT_LIMIT)),
-        judged("empty_lines_65537", more_empty, "NO,1,0\n"),
+        judged("bytes_65536", &cut, &format!("{quiet}NO,3,1\n")),
+        judged("bytes_65537", &longer, "NO,1,0\n"),
+        judged("whole_lines_65536", &whole, &quiet),
+        judged("whole_lines_65537", &format!("\n{whole}"), "NO,1,0\n"),
+        judged("one_line_65536", &line, "NO,4,1\n"),
+        judged("one_line_65537", &longer_line, "NO,1,0\n"),
+        judged("empty_lines_65536", &empty, &"NO,3,1\n".repeat(TEXT_LIMIT)),
+        judged("empty_lines_65537", &more_empty, "NO,1,0\n"),
     ]
 }
 
-/// One reading of so many bytes, its last value out of range.
-fn long_reading(length: usize) -> String {
-    let digits = "1".repeat(length - READING.len());
-    READING.replace("4\n", &format!("4{digits}\n"))
-}
-
-/// Inputs of several megabytes: a text above its limit, or another refused before it.
+/// Texts of several megabytes in each place: above the limit, or refused for another text.
 pub fn large() -> Vec<KnownInput> {
     let (reference, record) = (reference_of_length(MEGABYTES), record_of_length(MEGABYTES));
     let (readings, empty_lines) = (readings_of_length(MEGABYTES), "\n".repeat(MEGABYTES));
-    let every = format!("{reference}\n{record}\n{readings}");
-    let faulty = format!("{REFERENCE}\nENV\n\n{readings}");
+    let rows = rows(MEGABYTES / 7);
+    let large = [&reference[..], &record, &readings];
+    // As many bytes as the text alone has, where a length is held in 16 bits.
+    let wrapped = |text: &str| format!("{text}{}", "\n".repeat(48 << 16));
+    let form_before = [REFERENCE, "ENV\n", &readings];
     vec![
-        drawn("draw_one_row", reference.clone(), "NO,1,0\n"),
-        drawn("draw_rows", rows(MEGABYTES / 7), "NO,1,0\n"),
-        drawn("draw_empty_lines", empty_lines.clone(), "NO,1,0\n"),
-        two_texts("reference", &reference, RECORD, "NO,1,0\n"),
-        two_texts("record", REFERENCE, &record, "NO,1,0\n"),
+        of_reference("reference", &reference, "NO,1,0\n"),
+        of_reference("reference_of_rows", &rows, "NO,1,0\n"),
+        of_reference("reference_of_empty_lines", &empty_lines, "NO,1,0\n"),
+        of_record("record", &record, "NO,1,0\n"),
+        of_record("record_of_empty_lines", &empty_lines, "NO,1,0\n"),
         two_texts("heading_before_record", "REF,9\n", &record, "NO,2,1\n"),
-        known_of(&READERS, "empty_lines", empty_lines.clone(), "NO,1,0\n"),
-        known_of(&READERS, "every_text", every, "NO,1,0\n"),
         judged("readings", &readings, "NO,1,0\n"),
-        judged("readings_empty_lines", &empty_lines, "NO,1,0\n"),
-        known("form_before_readings", Program::Judge, faulty, "NO,11,1\n"),
+        judged("readings_of_empty_lines", &empty_lines, "NO,1,0\n"),
+        three_texts("form_before_readings", form_before, "NO,11,1\n"),
+        known_of(&PROGRAMS, "every_text", large, "NO,1,0\n"),
+        of_reference("reference_length_wrapped", &wrapped(REFERENCE), "NO,1,0\n"),
+        of_record("record_length_wrapped", &wrapped(RECORD), "NO,1,0\n"),
+        judged("readings_length_wrapped", &wrapped(READING), "NO,1,0\n"),
     ]
 }
 
@@ -425,15 +512,17 @@ pub fn all() -> Vec<KnownInput> {
     [
         examples(),
         halves(),
-        draw_refusals(),
-        refusals(),
-        reference_ends(),
-        record_ends(),
-        last_records(),
+        reference_refusals(),
+        reference_empty_lines(),
+        record_refusals(),
+        record_empty_lines(),
+        embedded(),
+        strangers_balls(),
+        exchanged(),
+        several_refused(),
         lengths(),
         verdicts(),
-        reading_starts(),
-        reading_ends(),
+        reading_lines(),
         reading_lengths(),
         large(),
     ]

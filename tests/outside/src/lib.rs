@@ -7,7 +7,7 @@
 //! - `records`: reading and writing the record of an envelope, and the refusals of both.
 //! - `fractions`: exact fractions, and the bits of the binary64 number that equals one.
 //! - `charts`: the mark of an envelope in a chart, what the panel shows, and the refusals of both.
-//! - `programs`: the four programs, input bytes to output bytes.
+//! - `programs`: the four programs, each text by itself to output bytes.
 //! - `random`: a seeded source of numbers.
 //! - `sets`: reference sets of many shapes and sizes, whole and damaged.
 //! - `cases`: arguments of the two calls, with budgets and weights of many kinds.
@@ -33,8 +33,8 @@
 //! - `writing_faults`: envelopes with one fault, and with two.
 //! - `known_records`: the records that document 01 and the list of bad input name.
 //! - `known_writings`: the envelopes that they name.
-//! - `known_programs`: inputs of the programs with what these print.
-//! - `program_inputs`: seeded inputs of the programs, whole and changed.
+//! - `known_programs`: texts of the programs with what these print.
+//! - `program_inputs`: seeded texts of the programs, whole and with each text changed.
 //! - `chart_figures`: figures for charts and the panel, and channels within the limits and outside.
 //! - `projections`: what the radius of a mark says of the rows, tested in whole numbers.
 //! - `known_charts`: the charts and panels that document 01 and the list of bad input name.

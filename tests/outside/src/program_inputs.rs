@@ -1,22 +1,27 @@
 //! Inputs of the programs: a reference text, the record of an envelope of its rows, and readings in
-//! and about its ball; whole, and changed as texts, in their parting lines and as bytes.
+//! and about its ball, each text by itself; whole, and with each text changed.
 
 use crate::damage::{self, OF_ANY_TEXT};
 use crate::envelopes;
-use crate::programs::Program;
+use crate::programs::{Program, Texts};
 use crate::random::Random;
 use crate::reading_damage;
 use crate::reading_texts::{self, ReadingDraft};
 use crate::record_damage;
 use crate::record_faults;
-use crate::record_texts::{self, Enveloped, RecordDraft};
+use crate::record_texts::{Enveloped, RecordDraft};
 use crate::reference::TEXT_LIMIT;
 use crate::sets::{self, Shape};
 use crate::texts::{self, Draft, Fields};
 
+/// The places of the texts in a run.
+pub const REFERENCE: usize = 0;
+pub const RECORD: usize = 1;
+pub const READINGS: usize = 2;
+
 /// The most readings of an input that is not full of them.
-const READINGS: usize = 6;
-/// What is put behind an input.
+const READING_COUNT: usize = 6;
+/// What is put behind a text.
 const BEHIND: [&str; 8] = [
     "\n",
     "\n\n",
@@ -28,93 +33,90 @@ const BEHIND: [&str; 8] = [
     "\nENV,1,TOC\nC,65536\nR,0,0,0,S\nW,1,65536\n",
 ];
 
-/// How an input differs from one within the rules.
+/// How a text differs from one within the rules.
 #[derive(Clone, Copy, Debug, PartialEq, Eq)]
-pub enum Change {
-    ReferenceDamaged,
-    RecordDamaged,
-    RecordOfOtherRows,
-    /// Readings repeated up to the limit, or to a byte more.
-    ReadingsRepeated,
-    /// A text stretched to the limit, or to a few bytes less.
-    AtTheLimit,
-    AboveTheLimit,
-    TextEmptied,
-    /// A text and the parting line beside it.
-    TextDropped,
-    TextDoubled,
-    TextsExchanged,
-    PartingRemoved,
-    PartingDoubled,
-    /// An empty line before any line, or at the end.
-    EmptyLineAdded,
-    /// Damage that any text takes.
+pub enum Kind {
+    /// Damage that a text of its kind takes.
     Damaged,
+    /// Damage that any text takes.
+    BytesDamaged,
     LastByteRemoved,
     BytesBehind,
+    /// An empty line before any line, or at the end.
+    EmptyLineAdded,
+    Emptied,
+    /// A text of another run, or this one, with further texts of that run behind empty lines.
+    OthersEmbedded,
+    /// The same text of another run.
+    OfOtherRows,
+    /// Another text of the run, which stands in its own place too.
+    SameTwice,
+    /// Exchanged with another text of the run.
+    Exchanged,
+    /// Readings repeated up to the limit, or to a byte more.
+    Repeated,
+    /// Stretched to the limit, or to a few bytes less.
+    AtTheLimit,
+    /// Stretched to a few bytes more than the limit.
+    AboveTheLimit,
+    /// Stretched to some times the limit.
+    FarAboveTheLimit,
 }
 
-/// Changes of the texts and the parting lines between them.
-const OF_TEXTS: [Change; 12] = [
-    Change::ReferenceDamaged,
-    Change::RecordDamaged,
-    Change::RecordOfOtherRows,
-    Change::ReadingsRepeated,
-    Change::AtTheLimit,
-    Change::AboveTheLimit,
-    Change::TextEmptied,
-    Change::TextDropped,
-    Change::TextDoubled,
-    Change::TextsExchanged,
-    Change::PartingRemoved,
-    Change::PartingDoubled,
+const KINDS: [Kind; 14] = [
+    Kind::Damaged,
+    Kind::BytesDamaged,
+    Kind::LastByteRemoved,
+    Kind::BytesBehind,
+    Kind::EmptyLineAdded,
+    Kind::Emptied,
+    Kind::OthersEmbedded,
+    Kind::OfOtherRows,
+    Kind::SameTwice,
+    Kind::Exchanged,
+    Kind::Repeated,
+    Kind::AtTheLimit,
+    Kind::AboveTheLimit,
+    Kind::FarAboveTheLimit,
 ];
 
-/// Changes of the whole input as bytes.
-const OF_BYTES: [Change; 4] = [
-    Change::EmptyLineAdded,
-    Change::Damaged,
-    Change::LastByteRemoved,
-    Change::BytesBehind,
-];
-
-impl Change {
-    /// How many texts the input of a program must have.
-    fn least_texts(self) -> usize {
+impl Kind {
+    /// Whether a text of a program can be changed so.
+    fn fits(self, program: Program, text: usize) -> bool {
         match self {
-            Change::ReadingsRepeated => 3,
-            Change::RecordDamaged
-            | Change::RecordOfOtherRows
-            | Change::TextDropped
-            | Change::TextsExchanged
-            | Change::PartingRemoved
-            | Change::PartingDoubled => 2,
-            _ => 1,
+            Kind::Repeated => text == READINGS,
+            Kind::SameTwice | Kind::Exchanged => program.texts() > 1,
+            _ => true,
         }
     }
 
     fn lengthens(self) -> bool {
         matches!(
             self,
-            Change::ReadingsRepeated | Change::AtTheLimit | Change::AboveTheLimit
+            Kind::Repeated | Kind::AtTheLimit | Kind::AboveTheLimit | Kind::FarAboveTheLimit
         )
     }
 }
 
-/// Every change that an input of this program can have.
+/// A kind, and the place of the text that is changed.
+#[derive(Clone, Copy, Debug, PartialEq, Eq)]
+pub struct Change {
+    pub kind: Kind,
+    pub text: usize,
+}
+
+/// Every change that the texts of this program can have.
 pub fn changes(program: Program) -> Vec<Change> {
-    let fits = |change: &Change| change.least_texts() <= program.texts();
-    [&OF_TEXTS[..], &OF_BYTES]
-        .concat()
-        .into_iter()
-        .filter(fits)
+    let of_text = |text| KINDS.map(|kind| Change { kind, text });
+    let all = (0..program.texts()).flat_map(of_text);
+    all.filter(|change| change.kind.fits(program, change.text))
         .collect()
 }
 
-/// A change of texts; those that make inputs long are rare.
-fn change_of_texts(random: &mut Random, program: Program) -> Change {
+/// A change; those that make texts long are rare.
+fn change(random: &mut Random, program: Program) -> Change {
     let long = random.once_in(50);
-    let fits = |change: &Change| OF_TEXTS.contains(change) && change.lengthens() == long;
+    let fits = |change: &Change| change.kind.lengthens() == long;
     let fitting: Vec<Change> = changes(program).into_iter().filter(fits).collect();
     random.pick(&fitting)
 }
@@ -143,38 +145,25 @@ impl Source {
         }
     }
 
-    /// An input within the rules, but for single readings.
-    pub fn whole(&self, random: &mut Random, program: Program) -> Vec<u8> {
-        self.pieces(random, program).concat()
+    /// The texts that a program takes, within the rules but for single readings.
+    pub fn whole(&self, random: &mut Random, program: Program) -> Texts {
+        let count = 1 + random.index(READING_COUNT);
+        let readings = (0..count).flat_map(|_| self.reading(random)).collect();
+        let mut texts = vec![self.reference.bytes(), self.enveloped.text(), readings];
+        texts.truncate(program.texts());
+        texts
     }
 
-    /// An input with one to three changes, one after the other, and these.
-    pub fn changed(&self, random: &mut Random, program: Program) -> (Vec<u8>, Vec<Change>) {
-        let mut pieces = self.pieces(random, program);
+    /// Texts with one to three changes, one after the other, and these.
+    pub fn changed(&self, random: &mut Random, program: Program) -> (Texts, Vec<Change>) {
+        let mut texts = self.whole(random, program);
         let mut changes = Vec::new();
-        if random.below(4) < 3 {
-            let change = change_of_texts(random, program);
-            self.change_texts(random, &mut pieces, change);
+        while changes.is_empty() || changes.len() < 3 && random.once_in(6) {
+            let change = change(random, program);
+            self.change(random, &mut texts, change);
             changes.push(change);
         }
-        let mut bytes = pieces.concat();
-        while changes.is_empty() || changes.len() < 3 && random.once_in(8) {
-            let change = random.pick(&OF_BYTES);
-            change_bytes(random, &mut bytes, change);
-            changes.push(change);
-        }
-        (bytes, changes)
-    }
-
-    /// The texts that a program takes, with the parting lines between them.
-    fn pieces(&self, random: &mut Random, program: Program) -> Vec<Vec<u8>> {
-        let parting = || b"\n".to_vec();
-        let mut pieces = vec![self.reference.bytes(), parting(), self.enveloped.text()];
-        let readings = 1 + random.index(READINGS);
-        let readings = (0..readings).flat_map(|_| self.reading(random));
-        pieces.extend([parting(), readings.collect()]);
-        pieces.truncate(2 * program.texts() - 1);
-        pieces
+        (texts, changes)
     }
 
     /// A row, a neighbour of one, any reading within the rules, or a damaged one.
@@ -193,32 +182,49 @@ impl Source {
         }
     }
 
-    fn change_texts(&self, random: &mut Random, pieces: &mut Vec<Vec<u8>>, change: Change) {
-        let texts = pieces.len().div_ceil(2);
-        let (one, other) = (2 * random.index(texts), 2 * random.index(texts));
-        let parting = one.max(2) - 1;
-        match change {
-            Change::ReferenceDamaged => {
-                let kind = damage::kind(random);
-                damage::damage(random, &mut pieces[0], kind, &self.reference.types);
+    fn change(&self, random: &mut Random, texts: &mut [Vec<u8>], change: Change) {
+        let Change { kind, text } = change;
+        match kind {
+            Kind::Damaged => self.damage(random, texts, text),
+            Kind::OthersEmbedded | Kind::OfOtherRows => {
+                let others = self.others(random, kind);
+                let count = match kind {
+                    Kind::OfOtherRows => 1,
+                    _ => 2 + random.index(2),
+                };
+                texts[text] = one_behind_another(&others, text, count);
             }
-            Change::RecordDamaged => {
-                pieces[2] = record_damage::damaged(random, &self.enveloped).0;
-            }
-            Change::RecordOfOtherRows => pieces[2] = record_texts::any(random).text(),
-            Change::ReadingsRepeated => repeat(random, &mut pieces[4]),
-            Change::AtTheLimit => stretch(random, &mut pieces[one], TEXT_LIMIT - 2),
-            Change::AboveTheLimit => stretch(random, &mut pieces[one], TEXT_LIMIT + 1),
-            Change::TextDropped => drop(pieces.drain(parting - 1..=parting)),
-            Change::TextDoubled => {
-                let copy = [pieces[one].clone(), b"\n".to_vec()];
-                pieces.splice(one..one, copy);
-            }
-            Change::TextsExchanged => pieces.swap(one, other),
-            Change::PartingRemoved => pieces[parting].clear(),
-            Change::PartingDoubled => pieces[parting].push(b'\n'),
-            _ => pieces[one].clear(),
+            Kind::SameTwice => texts[text] = texts[other(random, texts, text)].clone(),
+            Kind::Exchanged => texts.swap(text, other(random, texts, text)),
+            _ => change_text(random, &mut texts[text], kind),
         }
+    }
+
+    /// Damage that a text of its kind takes.
+    fn damage(&self, random: &mut Random, texts: &mut [Vec<u8>], text: usize) {
+        let types = &self.reference.types;
+        let damaged = &mut texts[text];
+        match text {
+            REFERENCE => {
+                let kind = damage::kind(random);
+                damage::damage(random, damaged, kind, types);
+            }
+            RECORD => *damaged = record_damage::damaged(random, &self.enveloped).0,
+            _ => {
+                let kind = reading_damage::kind(random);
+                reading_damage::damage(random, damaged, kind, types);
+            }
+        }
+    }
+
+    /// All three texts of another run, or of one of these rows.
+    fn others(&self, random: &mut Random, kind: Kind) -> Texts {
+        let source = if kind == Kind::OthersEmbedded && random.once_in(2) {
+            self.clone()
+        } else {
+            Source::new(random)
+        };
+        source.whole(random, Program::Judge)
     }
 }
 
@@ -254,6 +260,17 @@ fn neighbour(random: &mut Random, reference: &Draft) -> Vec<u8> {
     reading_texts::line(reading_texts::label(random), types, &fields).bytes()
 }
 
+/// The place of any other text.
+fn other(random: &mut Random, texts: &[Vec<u8>], text: usize) -> usize {
+    (text + 1 + random.index(texts.len() - 1)) % texts.len()
+}
+
+/// So many texts from a place on, the first behind the last, with an empty line between two of them.
+fn one_behind_another(texts: &[Vec<u8>], from: usize, count: usize) -> Vec<u8> {
+    let cycle = texts.iter().cycle().skip(from).take(count);
+    cycle.map(Vec::as_slice).collect::<Vec<_>>().join(&b'\n')
+}
+
 /// Repeats readings up to the limit, a byte less or a byte more.
 fn repeat(random: &mut Random, readings: &mut Vec<u8>) {
     let length = TEXT_LIMIT - 1 + random.index(3);
@@ -269,18 +286,26 @@ fn stretch(random: &mut Random, text: &mut Vec<u8>, least: usize) {
     *text = draft.bytes();
 }
 
-fn change_bytes(random: &mut Random, bytes: &mut Vec<u8>, change: Change) {
-    match change {
-        Change::EmptyLineAdded => {
-            let ends = (0..bytes.len()).filter(|&place| bytes[place] == b'\n');
+fn change_text(random: &mut Random, text: &mut Vec<u8>, kind: Kind) {
+    match kind {
+        Kind::LastByteRemoved => drop(text.pop()),
+        Kind::BytesBehind => text.extend(random.pick(&BEHIND).bytes()),
+        Kind::EmptyLineAdded => {
+            let ends = (0..text.len()).filter(|&place| text[place] == b'\n');
             let starts: Vec<usize> = ends.map(|end| end + 1).chain([0]).collect();
-            bytes.insert(random.pick(&starts), b'\n');
+            text.insert(random.pick(&starts), b'\n');
         }
-        Change::LastByteRemoved => drop(bytes.pop()),
-        Change::BytesBehind => bytes.extend(random.pick(&BEHIND).bytes()),
+        Kind::Emptied => text.clear(),
+        Kind::Repeated => repeat(random, text),
+        Kind::AtTheLimit => stretch(random, text, TEXT_LIMIT - 2),
+        Kind::AboveTheLimit => stretch(random, text, TEXT_LIMIT + 1),
+        Kind::FarAboveTheLimit => {
+            let times = 2 + random.index(3);
+            stretch(random, text, times * TEXT_LIMIT);
+        }
         _ => {
             let kind = random.pick(OF_ANY_TEXT);
-            damage::damage(random, bytes, kind, &[]);
+            damage::damage(random, text, kind, &[]);
         }
     }
 }

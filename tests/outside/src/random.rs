@@ -1,4 +1,7 @@
 //! A seeded source of numbers (SplitMix64): the same seed gives the same cases on every machine.
+//! The environment gives another seed and larger counts: variables that begin with `CUNDARIVO_`.
+
+use std::ffi::OsString;
 
 pub struct Random {
     state: u64,
@@ -48,12 +51,67 @@ impl Random {
     }
 }
 
-/// The number in the environment variable `name`, else `default`.
-pub fn number_from_environment(name: &str, default: u64) -> u64 {
-    match std::env::var(name) {
-        Ok(text) => text
-            .parse()
-            .unwrap_or_else(|_| panic!("{name} is a whole number, not {text:?}")),
-        Err(_) => default,
+/// The seed: CUNDARIVO_SEED of the environment, else `default`.
+pub fn seed_from_environment(default: u64) -> u64 {
+    number("SEED", std::env::var_os).unwrap_or(default)
+}
+
+/// A count: the larger of CUNDARIVO_`name` of the environment and `least`, so that the environment
+/// raises a count and never lowers it.
+pub fn count_from_environment(name: &str, least: u64) -> u64 {
+    count(name, least, std::env::var_os)
+}
+
+fn count(name: &str, least: u64, variable: impl FnOnce(String) -> Option<OsString>) -> u64 {
+    number(name, variable).map_or(least, |count| count.max(least))
+}
+
+/// The number in a variable whose name begins with `CUNDARIVO_`, where there is such a variable.
+fn number(name: &str, variable: impl FnOnce(String) -> Option<OsString>) -> Option<u64> {
+    let name = format!("CUNDARIVO_{name}");
+    let value = variable(name.clone())?;
+    let number = value.to_str().and_then(|text| text.parse().ok());
+    Some(number.unwrap_or_else(|| panic!("{name} is a whole number, not {value:?}")))
+}
+
+#[cfg(test)]
+mod tests {
+    use super::*;
+
+    /// An environment in which one variable is set.
+    fn holding(value: &str) -> impl FnOnce(String) -> Option<OsString> {
+        move |name| (name == "CUNDARIVO_TEXTS").then(|| value.into())
+    }
+
+    #[test]
+    fn the_environment_raises_a_count_and_never_lowers_it() {
+        assert_eq!(count("TEXTS", 100, |_| None), 100);
+        assert_eq!(count("TEXTS", 100, holding("101")), 101);
+        for lower in ["0", "1", "99", "100"] {
+            assert_eq!(count("TEXTS", 100, holding(lower)), 100);
+        }
+        assert_eq!(count("RECORDS", 100, holding("101")), 100);
+    }
+
+    #[test]
+    fn a_seed_is_any_number() {
+        assert_eq!(number("TEXTS", holding("0")), Some(0));
+        assert_eq!(
+            number("TEXTS", holding(&u64::MAX.to_string())),
+            Some(u64::MAX)
+        );
+        assert_eq!(number("SEED", holding("0")), None);
+    }
+
+    #[test]
+    #[should_panic(expected = "CUNDARIVO_TEXTS is a whole number")]
+    fn what_is_no_number_stops_the_tests() {
+        count("TEXTS", 100, holding("-1"));
+    }
+
+    #[test]
+    #[should_panic(expected = "CUNDARIVO_TEXTS is a whole number")]
+    fn an_empty_variable_stops_the_tests() {
+        count("TEXTS", 100, holding(""));
     }
 }

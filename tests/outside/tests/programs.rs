@@ -1,21 +1,23 @@
 //! The outside implementation of the programs held to outputs that were written down, and to what
-//! the rules say of every input.
+//! the rules say of every text.
 
 use outside::known_programs;
 use outside::known_records::RECORD;
 use outside::program_inputs::{self, Source};
-use outside::programs::{self, PROGRAMS, Program};
+use outside::programs::{self, PROGRAMS, Program, Texts};
 use outside::random::Random;
+use outside::reading_texts;
 use outside::reference::TEXT_LIMIT;
+use outside::rules::ROW_LIMIT;
 use std::collections::BTreeSet;
 
 #[test]
 fn known_inputs_hold() {
     let list = known_programs::all();
-    assert!(list.len() >= 110, "{}", list.len());
+    assert!(list.len() >= 140, "{}", list.len());
     for known in list {
-        for (program, input) in known.runs {
-            let output = program.run(&input);
+        for (program, texts) in known.runs {
+            let output = program.run(&texts);
             let shown = output[..output.len().min(200)].escape_ascii();
             let name = known.name;
             assert!(output == known.output, "{program:?}, {name}: {shown}");
@@ -26,13 +28,14 @@ fn known_inputs_hold() {
 /// Document 01: the drawing program prints the record of its reference text.
 #[test]
 fn the_record_of_document_01() {
-    let input = b"REF,2,TOC,CND\nA,0,0\nB,6,0\nC,0,8\n";
-    assert_eq!(programs::draw(input), RECORD.as_bytes());
-    let verified = [&input[..], b"\n", RECORD.as_bytes()].concat();
-    assert_eq!(programs::verify(&verified), b"OK\n");
-    assert_eq!(programs::panel(&verified), b"TOC,3\nCND,4\n");
-    let judged = [&verified[..], b"\nA,TOC,3,CND,9\nA,TOC,3,CND,10\n"].concat();
-    assert_eq!(programs::judge(&judged), b"QUIET\nALARM,47244640256\n");
+    let reference = b"REF,2,TOC,CND\nA,0,0\nB,6,0\nC,0,8\n";
+    let record = RECORD.as_bytes();
+    assert_eq!(programs::draw(reference), record);
+    assert_eq!(programs::verify(reference, record), b"OK\n");
+    assert_eq!(programs::panel(reference, record), b"TOC,3\nCND,4\n");
+    let readings = b"A,TOC,3,CND,9\nA,TOC,3,CND,10\n";
+    let verdicts = programs::judge(reference, record, readings);
+    assert_eq!(verdicts, b"QUIET\nALARM,47244640256\n");
 }
 
 /// The numbers of the refusals that an output has.
@@ -55,80 +58,44 @@ fn known_inputs_reach_every_refusal() {
     }
 }
 
-/// An empty line: a byte 10 at the start of the input, or behind another.
-fn empty_lines(input: &[u8]) -> Vec<usize> {
-    let starts_a_line = |place: usize| place == 0 || input[place - 1] == b'\n';
-    (0..input.len())
-        .filter(|&place| input[place] == b'\n' && starts_a_line(place))
-        .collect()
-}
-
-/// The texts are what stands before, between and behind the first empty lines.
-fn assert_split<const COUNT: usize>(input: &[u8]) {
-    let partings = empty_lines(input);
-    let mut start = 0;
-    let mut owed: Vec<&[u8]> = Vec::new();
-    for &parting in partings.iter().take(COUNT - 1) {
-        owed.push(&input[start..parting]);
-        start = parting + 1;
-    }
-    owed.push(&input[start..]);
-    owed.resize(COUNT, b"");
-    assert_eq!(&programs::texts::<COUNT>(input)[..], owed);
-}
-
-/// Every input of up to nine bytes of three kinds.
+/// Whole texts are accepted, but for single readings.
 #[test]
-fn short_inputs_are_split_at_empty_lines() {
-    let bytes = b"\n\rA";
-    let mut inputs = vec![Vec::new()];
-    let mut split = 0;
-    for _ in 0..=9 {
-        for input in &inputs {
-            assert_split::<1>(input);
-            assert_split::<2>(input);
-            assert_split::<3>(input);
-            split += 1;
-        }
-        let longer = |input: &Vec<u8>| bytes.map(|byte| [&input[..], &[byte]].concat());
-        inputs = inputs.iter().flat_map(longer).collect();
-    }
-    assert_eq!(split, (3_usize.pow(10) - 1) / 2);
-}
-
-/// A whole input is accepted, but for single readings.
-#[test]
-fn whole_inputs_are_accepted() {
+fn whole_texts_are_accepted() {
     let random = &mut Random::new(71);
     let (mut quiet, mut alarms) = (0, 0);
     for _ in 0..2_000 {
         let source = Source::new(random);
-        let input = source.whole(random, Program::Draw);
-        assert!(programs::draw(&input).starts_with(b"ENV,"));
-        let input = source.whole(random, Program::Verify);
-        assert_eq!(programs::verify(&input), b"OK\n");
-        let shown = programs::panel(&input);
-        let lines = shown.split_inclusive(|&byte| byte == b'\n').count();
-        assert_eq!(lines, source.reference.types.len());
-        let input = source.whole(random, Program::Judge);
-        let output = String::from_utf8(programs::judge(&input)).expect("a text");
+        let texts = source.whole(random, Program::Judge);
+        let [reference, record, readings] = &texts[..] else {
+            panic!("{} texts", texts.len());
+        };
+        assert!(programs::draw(reference).starts_with(b"ENV,"));
+        assert_eq!(programs::verify(reference, record), b"OK\n");
+        let shown = programs::panel(reference, record);
+        assert_eq!(lines(&shown), source.reference.types.len());
+        let output = programs::judge(reference, record, readings);
+        let output = String::from_utf8(output).expect("a text");
         quiet += output.matches("QUIET\n").count();
         alarms += output.matches("ALARM,").count();
     }
     assert!(quiet > 1_000 && alarms > 1_000, "{quiet}, {alarms}");
 }
 
-/// The changed inputs of a program reach every refusal that can occur and every change.
+fn lines(text: &[u8]) -> usize {
+    text.split_inclusive(|&byte| byte == b'\n').count()
+}
+
+/// The changed texts of a program reach every refusal that can occur and every change.
 #[test]
-fn changed_inputs_reach_every_refusal() {
+fn changed_texts_reach_every_refusal() {
     let random = &mut Random::new(72);
     for program in PROGRAMS {
         let mut reached = BTreeSet::new();
         let mut changes = BTreeSet::new();
-        for _ in 0..5_000 {
+        for _ in 0..10_000 {
             let source = Source::new(random);
-            let (input, kinds) = source.changed(random, program);
-            reached.extend(refusals(&program.run(&input)));
+            let (texts, kinds) = source.changed(random, program);
+            reached.extend(refusals(&program.run(&texts)));
             changes.extend(kinds.into_iter().map(|change| format!("{change:?}")));
         }
         assert!(reached.iter().eq(program.refusals()), "{reached:?}");
@@ -137,43 +104,105 @@ fn changed_inputs_reach_every_refusal() {
     }
 }
 
-/// What follows the first 65,537 bytes for each text changes no output.
-#[test]
-fn what_follows_the_limit_changes_nothing() {
-    let random = &mut Random::new(73);
-    let mut cut = 0;
+/// Known texts of every program, and seeded ones with changes.
+fn any_texts(random: &mut Random) -> Vec<(Program, Texts)> {
     let known = known_programs::all().into_iter();
-    let mut inputs: Vec<(Program, Vec<u8>)> = known.flat_map(|known| known.runs).collect();
+    let mut runs: Vec<(Program, Texts)> = known.flat_map(|known| known.runs).collect();
     for program in PROGRAMS {
         for _ in 0..1_000 {
             let source = Source::new(random);
-            inputs.push((program, source.changed(random, program).0));
+            runs.push((program, source.changed(random, program).0));
         }
     }
-    for (program, input) in inputs {
-        let length = program.texts() * (TEXT_LIMIT + 1);
-        if let Some(first) = input.get(..length) {
-            assert!(program.run(first) == program.run(&input), "{program:?}");
-            cut += 1;
+    runs
+}
+
+/// What follows the first 65,537 bytes of a text changes no output.
+#[test]
+fn what_follows_the_limit_changes_nothing() {
+    let mut cut = [0; 3];
+    for (program, texts) in any_texts(&mut Random::new(73)) {
+        let output = program.run(&texts);
+        for text in 0..texts.len() {
+            if texts[text].len() > TEXT_LIMIT + 1 {
+                let mut first = texts.clone();
+                first[text].truncate(TEXT_LIMIT + 1);
+                assert!(program.run(&first) == output, "{program:?}, {text}");
+                cut[text] += 1;
+            }
         }
     }
-    assert!(cut >= 12, "{cut}");
+    assert!(cut.iter().all(|&count| count >= 12), "{cut:?}");
+}
+
+/// Every program turns a reference text back as `draw` does, whatever the other texts are.
+#[test]
+fn a_reference_text_is_refused_for_itself() {
+    let mut refused = 0;
+    for (program, texts) in any_texts(&mut Random::new(75)) {
+        let drawn = programs::draw(&texts[0]);
+        if drawn.starts_with(b"NO,") {
+            assert_eq!(program.run(&texts), drawn, "{program:?}");
+            refused += 1;
+        }
+    }
+    assert!(refused > 1_000, "{refused}");
+}
+
+/// `judge` and `panel` turn a record back as `verify` does, whatever the readings are.
+#[test]
+fn a_record_is_refused_for_itself() {
+    let mut refused = 0;
+    for (program, texts) in any_texts(&mut Random::new(76)) {
+        if let [reference, record, ..] = &texts[..] {
+            let verified = programs::verify(reference, record);
+            if verified != b"OK\n" {
+                assert_eq!(program.run(&texts), verified, "{program:?}");
+                refused += 1;
+            }
+        }
+    }
+    assert!(refused > 1_000, "{refused}");
+}
+
+/// An empty line is a fault of any reference text and of any record, with or without a text behind
+/// it.
+#[test]
+fn an_empty_line_is_refused() {
+    let random = &mut Random::new(77);
+    for _ in 0..2_000 {
+        let source = Source::new(random);
+        let [reference, record] = [source.reference.bytes(), source.enveloped.text()];
+        let readings = reading_texts::of_rows(&source.reference).concat();
+        let line = lines(&reference) + 1;
+        let number = if line > ROW_LIMIT + 1 { 6 } else { 3 };
+        let of_reference = format!("NO,{number},{line}\n").into_bytes();
+        let of_record = format!("NO,11,{}\n", lines(&record) + 1).into_bytes();
+        for behind in [&b""[..], &record, &readings] {
+            let embedding = [&reference[..], behind].join(&b'\n');
+            assert_eq!(programs::draw(&embedding), of_reference);
+            let verdicts = programs::judge(&embedding, &record, &readings);
+            assert_eq!(verdicts, of_reference);
+            let embedding = [&record[..], behind].join(&b'\n');
+            let verdicts = programs::judge(&reference, &embedding, &readings);
+            assert_eq!(verdicts, of_record);
+        }
+    }
 }
 
 /// An output of `judge` has one line for each reading, and at most 7 bytes for each of theirs.
 #[test]
 fn a_line_for_each_reading() {
     let random = &mut Random::new(74);
-    let lines = |text: &[u8]| text.split_inclusive(|&byte| byte == b'\n').count();
     let mut judged = 0;
     for _ in 0..3_000 {
-        let input = Source::new(random).whole(random, Program::Judge);
-        let [_, _, readings] = programs::texts(&input);
+        let texts = Source::new(random).whole(random, Program::Judge);
+        let readings = &texts[2];
         if (1..=TEXT_LIMIT).contains(&readings.len()) {
-            let output = programs::judge(&input);
-            assert_eq!(lines(&output), lines(&readings));
+            let output = Program::Judge.run(&texts);
+            assert_eq!(lines(&output), lines(readings));
             assert!(output.len() <= 7 * readings.len());
-            judged += lines(&readings);
+            judged += lines(readings);
         }
     }
     assert!(judged > 8_000, "{judged}");

@@ -1,7 +1,7 @@
-//! Writes the stored cases: `cases INPUT OUTPUT`, two paths. SEED in the environment gives another
-//! seed. The module `stored` says what the two files hold.
+//! Writes the stored cases: `cases INPUT OUTPUT`, two paths. CUNDARIVO_SEED in the environment
+//! gives another seed. The module `stored` says what the two files hold.
 
-use outside::random::{Random, number_from_environment};
+use outside::random::{Random, seed_from_environment};
 use outside::stored;
 use std::io::{Error, ErrorKind};
 
@@ -13,7 +13,7 @@ fn main() -> std::io::Result<()> {
             "two paths: cases INPUT OUTPUT",
         ));
     };
-    let seed = number_from_environment("SEED", stored::SEED);
+    let seed = seed_from_environment(stored::SEED);
     let list = stored::stored_cases(&mut Random::new(seed));
     let bytes = stored::input(&list);
     println!("seed {seed}: {} cases, {} bytes", list.len(), bytes.len());

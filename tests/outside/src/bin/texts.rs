@@ -1,7 +1,7 @@
-//! Writes the stored texts: `texts INPUT OUTPUT`, two paths. SEED in the environment gives another
-//! seed. The module `stored_texts` says what the two files hold.
+//! Writes the stored texts: `texts INPUT OUTPUT`, two paths. CUNDARIVO_SEED in the environment
+//! gives another seed. The module `stored_texts` says what the two files hold.
 
-use outside::random::{Random, number_from_environment};
+use outside::random::{Random, seed_from_environment};
 use outside::stored_texts;
 use std::io::{Error, ErrorKind};
 
@@ -13,7 +13,7 @@ fn main() -> std::io::Result<()> {
             "two paths: texts INPUT OUTPUT",
         ));
     };
-    let seed = number_from_environment("SEED", stored_texts::SEED);
+    let seed = seed_from_environment(stored_texts::SEED);
     let list = stored_texts::stored_texts(&mut Random::new(seed));
     let bytes = stored_texts::input(&list);
     println!("seed {seed}: {} texts, {} bytes", list.len(), bytes.len());
