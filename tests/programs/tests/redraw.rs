@@ -1,12 +1,14 @@
 //! `./envelope redraw`: what it draws, leaves alone, turns back and reports.
 
+use programs::call::run;
 use programs::folder::Folder;
-use programs::process::run;
-use programs::script::{Ended, end, path, redraw};
-use programs::{EXAMPLES, RECORD, REFERENCE, example, program};
+use programs::process::{Ended, command, end};
+use programs::script::{path, redraw};
+use programs::{EXAMPLES, RECORD, REFERENCE, example};
+use std::ffi::OsStr;
 use std::fs::{self, File};
+use std::os::unix::ffi::OsStrExt;
 use std::os::unix::fs::{MetadataExt, symlink};
-use std::process::Command;
 
 const ONE_ROW: &str = "REF,1,TOC\nA,5\n";
 const ONE_ROW_RECORD: &[u8] = b"ENV,1,TOC\nC,327680\nR,0,0,0,S\nW,1,65536\n";
@@ -140,6 +142,22 @@ fn any_name_works() {
 }
 
 #[test]
+fn names_are_bytes() {
+    for locale in ["C", "C.UTF-8"] {
+        let folder = Folder::new();
+        folder.write(OsStr::from_bytes(b"\xff.ref"), REFERENCE);
+        folder.write(OsStr::from_bytes(b"a\xc3.ref"), "REF,0\n");
+        let mut command = command(path());
+        command.arg("redraw").arg(folder.path());
+        let ended = end(command.env("LC_ALL", locale), b"");
+        let summary = "1 drawn, 0 unchanged, 1 refused\n$'a\\303.ref': NO,2,1\n";
+        assert_ends(&ended, summary, 1);
+        let record = folder.read(OsStr::from_bytes(b"\xff.env"));
+        assert_eq!(record, RECORD.as_bytes());
+    }
+}
+
+#[test]
 fn a_refused_name_takes_one_line() {
     let folder = Folder::new();
     folder.write("a\nb c.ref", "REF,0\n");
@@ -152,7 +170,7 @@ fn folders_of_any_name_and_from_anywhere() {
     let folder = Folder::new();
     for name in ["-", "--", "-P", "two words", "~", "line\nend"] {
         folder.write(&format!("{name}/a.ref"), REFERENCE);
-        let mut command = Command::new(path());
+        let mut command = command(path());
         command.args(["redraw", name]).current_dir(folder.path());
         command.env("CDPATH", "/").env("OLDPWD", "/");
         assert_ends(
@@ -179,7 +197,7 @@ fn bad_usage_ends_in_2() {
     let folder = Folder::new();
     folder.write("a.ref", REFERENCE);
     let run = |words: &[&str]| {
-        let mut command = Command::new(path());
+        let mut command = command(path());
         end(
             command.arg("redraw").args(words).current_dir(folder.path()),
             b"",
@@ -259,9 +277,8 @@ fn many_texts_get_their_own_records() {
         folder.write(&format!("{value}.ref"), text(value));
     }
     assert_redrawn(&folder, count, 0);
-    let draw = program("draw");
     for value in 0..count {
-        let record = run(&draw, text(value).as_bytes());
+        let record = run("draw", &[text(value)]);
         assert_eq!(folder.read(&format!("{value}.env")), record, "{value}");
     }
 }
