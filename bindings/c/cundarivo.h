@@ -123,26 +123,33 @@ extern "C" {
 #define CUNDARIVO_TEXT_BYTES 65536
 
 /*
- * Bytes that are enough for every record and for every output of a program. They are counted from the limits
- * of what is written. Proved are wider ones: 320 + 18 * CUNDARIVO_ROWS for a record (`house-room` in
- * crates/record/specs/HouseLaws.antt), and 8 for each byte of readings (`verdict-length` in
- * crates/service/specs/SizeLaws.antt). Where fewer are lent than the output has the call is refused by 13.
+ * Bytes that are proved to be enough for every record and for every output of a program, whatever the texts
+ * are. Where fewer are lent than the output has the call is refused by 13.
  */
 
-/* 38 for the first line, 90 for X, 52 for M, L, moves and ending, and 12 for each weight. */
+/*
+ * 38 for the first line, 90 for X, 52 for M, L, moves and ending, and 12 for each weight: `house-most` and
+ * `house-enough` in crates/record/specs/HouseLaws.antt. A record of m rows has at most 38 + 90 + 52 + 12 * m.
+ */
 #define CUNDARIVO_RECORD_BYTES (38 + 90 + 52 + 12 * CUNDARIVO_ROWS)
 
-/* A record. */
+/*
+ * A record: `house-drawn-most` beside these. The line of a refusal has at most 64: `refusal-room` in
+ * crates/service/specs/SizeLaws.antt.
+ */
 #define CUNDARIVO_PROGRAM_DRAW_BYTES CUNDARIVO_RECORD_BYTES
 
-/* NO, a number of two digits and a line of three. */
-#define CUNDARIVO_PROGRAM_VERIFY_BYTES 10
+/* One line: `output_room` in crates/service/src/verify.rt. */
+#define CUNDARIVO_PROGRAM_VERIFY_BYTES 64
 
-/* 7 for each byte of the readings: an empty line has one byte, and NO,3,1 and its byte 10 have 7. */
-#define CUNDARIVO_PROGRAM_JUDGE_BYTES (7 * CUNDARIVO_TEXT_BYTES)
+/*
+ * 7 for each byte of the readings, and 64 for the line of a refusal: `output_room` in
+ * crates/service/src/judge.rt. For given readings 7 for each of their bytes and 64 are enough: `readings_room`.
+ */
+#define CUNDARIVO_PROGRAM_JUDGE_BYTES (7 * CUNDARIVO_TEXT_BYTES + 64)
 
-/* 10 for each channel. */
-#define CUNDARIVO_PROGRAM_PANEL_BYTES (10 * CUNDARIVO_CHANNELS)
+/* 64 for the line of a refusal and 32 for each channel: `output_room` in crates/service/src/panel.rt. */
+#define CUNDARIVO_PROGRAM_PANEL_BYTES (64 + 32 * CUNDARIVO_CHANNELS)
 
 /* ---- numbers that stand for something */
 
@@ -423,50 +430,54 @@ cundarivo_panel_answer cundarivo_panel(
 /* ---- the programs */
 
 /*
- * Each call below is one of the programs draw, verify, judge and panel: `input` is what the program reads
- * and `output` what it prints. The input may have any length. The call fills the first `length` places of
- * `output`. Its only refusal is 13, for `output` of fewer places than are printed; CUNDARIVO_PROGRAM_..._BYTES
+ * Each call below is one of the programs draw, verify, judge and panel: it is lent the texts that the program
+ * reads, and fills the first `length` places of `output` with what the program prints. Each text is lent by
+ * itself and is never joined with another, since whoever writes the first of joined texts decides where the
+ * second begins. A text may have any length: above 65,536 bytes it is turned back by 1.
+ *
+ * The only refusal of a call is 13, for `output` of fewer places than are printed; CUNDARIVO_PROGRAM_..._BYTES
  * are always enough. What the program itself turns back is printed: the line NO, number and line, parted by
  * commas, and nothing else. The line counts in the text at fault.
- *
- * An input of several texts is split at empty lines. A text runs to the first byte 10 that stands where a
- * line starts, its own first line included; this byte parts, and belongs to neither text. The last text runs
- * to the end of the input. A text that is not there is empty, and so refused by 1.
  */
 
 /*
- * Input: a reference text. Prints the record of its drawing with a budget of 10,000.
+ * Prints the record of the drawing of a reference text, with a budget of 10,000.
  * NO: as cundarivo_read_reference refuses the text, without 7 and 13.
  */
 cundarivo_written_answer cundarivo_program_draw(
-    const uint8_t *input, size_t input_length,
+    const uint8_t *reference, size_t reference_length,
     uint8_t *output, size_t output_length);
 
 /*
- * Input: a reference text, then a record. Prints the line OK where the record is accepted against the rows.
+ * Prints the line OK where a record is accepted against the rows of a reference text.
  * NO: as for draw, then as cundarivo_read_record refuses the record: 1, 11, 12.
  */
 cundarivo_written_answer cundarivo_program_verify(
-    const uint8_t *input, size_t input_length,
+    const uint8_t *reference, size_t reference_length,
+    const uint8_t *record, size_t record_length,
     uint8_t *output, size_t output_length);
 
 /*
- * Input: a reference text, a record, then readings. Each line of the readings is a reading, an empty line and
- * a last line without byte 10 too. Prints a line for each reading, in order: QUIET; or ALARM and s - M, parted
- * by a comma; or NO, number and line as cundarivo_judge refuses the reading: 3, 10, 4.
+ * Judges readings against a record that is accepted against the rows of a reference text. Each line of the
+ * readings is a reading, an empty line and a last line without byte 10 too. Prints a line for each reading, in
+ * order: QUIET; or ALARM and s - M, parted by a comma; or NO, number and line as cundarivo_judge refuses the
+ * reading: 3, 10, 4.
  * NO alone: as for verify, then 1 where the readings together are empty or have more than 65,536 bytes.
  */
 cundarivo_written_answer cundarivo_program_judge(
-    const uint8_t *input, size_t input_length,
+    const uint8_t *reference, size_t reference_length,
+    const uint8_t *record, size_t record_length,
+    const uint8_t *readings, size_t readings_length,
     uint8_t *output, size_t output_length);
 
 /*
- * Input: a reference text, then a record. Prints a line for each channel, in order: its tag and its centre to
- * the nearest whole step as cundarivo_panel gives it, parted by a comma.
+ * Prints a line for each channel of a record that is accepted against the rows of a reference text, in order:
+ * its tag and its centre to the nearest whole step as cundarivo_panel gives it, parted by a comma.
  * NO: as for verify.
  */
 cundarivo_written_answer cundarivo_program_panel(
-    const uint8_t *input, size_t input_length,
+    const uint8_t *reference, size_t reference_length,
+    const uint8_t *record, size_t record_length,
     uint8_t *output, size_t output_length);
 
 #ifdef __cplusplus

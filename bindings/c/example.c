@@ -1,6 +1,6 @@
 /*
  * An envelope from C: the reference text is read, its ball drawn and checked, the record written and read
- * back, readings judged, the chart and the panel made; at last the program judge does the same from one text.
+ * back, readings judged, the chart and the panel made; at last the four programs do the same from the texts.
  *
  * Every answer is looked at. A call that has to be accepted here ends the example with a message and status 1
  * where it is refused; refusals that belong to the example are printed with number, line and reason.
@@ -306,23 +306,70 @@ static void chart_and_panel(const struct envelope *envelope)
     printf("\n");
 }
 
-/* The reference text, the record and the readings as one input; an empty line parts two texts. */
-static void run_judge(const struct text *record)
+/* Prints what a program printed. */
+static void print_output(const char *program, cundarivo_written_answer answer, const uint8_t *output)
 {
-    static struct text input;
-    static uint8_t output[CUNDARIVO_PROGRAM_JUDGE_BYTES];
-    append(&input, bytes_of(REFERENCE), strlen(REFERENCE));
-    append(&input, bytes_of("\n"), 1);
-    append(&input, record->bytes, record->length);
-    append(&input, bytes_of("\n"), 1);
-    for (size_t i = 0; i < READING_COUNT; i++) {
-        append(&input, bytes_of(READINGS[i]), strlen(READINGS[i]));
-    }
-    cundarivo_written_answer answer =
-        cundarivo_program_judge(input.bytes, input.length, output, sizeof output);
-    require("program judge", answer.number, answer.line);
-    printf("program judge:\n");
+    require(program, answer.number, answer.line);
+    printf("%s:\n", program);
     print_bytes(output, answer.length);
+}
+
+/* The four programs on the texts of the example, each lent by itself. */
+static void run_programs(const struct text *record)
+{
+    static struct text readings;
+    static uint8_t output[CUNDARIVO_PROGRAM_JUDGE_BYTES];
+    const uint8_t *reference = bytes_of(REFERENCE);
+    size_t reference_length = strlen(REFERENCE);
+    for (size_t i = 0; i < READING_COUNT; i++) {
+        append(&readings, bytes_of(READINGS[i]), strlen(READINGS[i]));
+    }
+
+    cundarivo_written_answer answer = cundarivo_program_draw(
+        reference, reference_length, output, CUNDARIVO_PROGRAM_DRAW_BYTES);
+    require("program draw", answer.number, answer.line);
+    if (answer.length != record->length || memcmp(output, record->bytes, record->length) != 0) {
+        fail("program draw prints another record");
+    }
+    printf("program draw: the same record\n");
+
+    answer = cundarivo_program_verify(
+        reference, reference_length, record->bytes, record->length,
+        output, CUNDARIVO_PROGRAM_VERIFY_BYTES);
+    print_output("program verify", answer, output);
+    answer = cundarivo_program_panel(
+        reference, reference_length, record->bytes, record->length,
+        output, CUNDARIVO_PROGRAM_PANEL_BYTES);
+    print_output("program panel", answer, output);
+    answer = cundarivo_program_judge(
+        reference, reference_length, record->bytes, record->length, readings.bytes, readings.length,
+        output, CUNDARIVO_PROGRAM_JUDGE_BYTES);
+    print_output("program judge", answer, output);
+}
+
+/* What the programs turn back is printed; only lent memory that is too short is refused. */
+static void run_programs_on_faults(const struct text *record)
+{
+    static struct text joined;
+    uint8_t output[CUNDARIVO_PROGRAM_VERIFY_BYTES];
+    const uint8_t *reference = bytes_of(REFERENCE);
+    size_t reference_length = strlen(REFERENCE);
+    append(&joined, reference, reference_length);
+    append(&joined, bytes_of("\n"), 1);
+    append(&joined, record->bytes, record->length);
+
+    cundarivo_written_answer answer = cundarivo_program_verify(
+        joined.bytes, joined.length, record->bytes, record->length, output, sizeof output);
+    print_output("program verify of a reference text that holds a record", answer, output);
+    answer = cundarivo_program_verify(
+        record->bytes, record->length, reference, reference_length, output, sizeof output);
+    print_output("program verify of record and reference text exchanged", answer, output);
+    answer = cundarivo_program_verify(
+        reference, reference_length, record->bytes, record->length, output, 2);
+    if (answer.number == CUNDARIVO_ACCEPTED) {
+        fail("OK and its byte 10 fit 2 bytes");
+    }
+    print_refusal(stdout, "program verify in 2 bytes", answer.number, answer.line);
 }
 
 int main(void)
@@ -339,7 +386,8 @@ int main(void)
         judge(&envelope, READINGS[i]);
     }
     chart_and_panel(&envelope);
-    run_judge(&record);
+    run_programs(&record);
+    run_programs_on_faults(&record);
     if (fflush(stdout) != 0 || ferror(stdout)) {
         fail("standard output cannot be written");
     }

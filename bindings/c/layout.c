@@ -1,12 +1,15 @@
 /*
- * The sizes and offsets of the structs that cross the boundary, in bytes. The Rust package states the same
- * numbers in tests/layout.rs. It is compiled as C11 and never run.
+ * The sizes and offsets of the structs that cross the boundary, in bytes, and the bytes that are enough for
+ * what is written. The Rust package states the same sizes and offsets in tests/layout.rs. It is compiled as C11
+ * and never run.
  */
 #include "cundarivo.h"
 
 #define SIZE(type, size) _Static_assert(sizeof(type) == (size), "size of " #type)
 #define OFFSET(type, member, offset) \
     _Static_assert(offsetof(type, member) == (offset), "offset of " #member " in " #type)
+
+#define ENOUGH(bytes, number) _Static_assert((bytes) == (number), "value of " #bytes)
 
 SIZE(size_t, 8);
 SIZE(double, 8);
@@ -65,3 +68,9 @@ OFFSET(cundarivo_mark_answer, radius, 32);
 SIZE(cundarivo_panel_answer, 8);
 OFFSET(cundarivo_panel_answer, number, 0);
 OFFSET(cundarivo_panel_answer, line, 4);
+
+ENOUGH(CUNDARIVO_RECORD_BYTES, 3252);
+ENOUGH(CUNDARIVO_PROGRAM_DRAW_BYTES, 3252);
+ENOUGH(CUNDARIVO_PROGRAM_VERIFY_BYTES, 64);
+ENOUGH(CUNDARIVO_PROGRAM_JUDGE_BYTES, 458816);
+ENOUGH(CUNDARIVO_PROGRAM_PANEL_BYTES, 320);

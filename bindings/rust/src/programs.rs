@@ -7,8 +7,8 @@
 //! | [`judge`] | reference text, record, readings | a line for each reading: `QUIET`, or `ALARM` and s - M, or its refusal |
 //! | [`panel`] | reference text, record | a line for each channel: tag and centre to the nearest whole step |
 //!
-//! Of the first refused text the output is `NO`, number and line in that text, alone: see
-//! [`Refusal`](crate::Refusal). Readings together are one text of at most 65,536 bytes.
+//! Of the first refused text the output is `NO`, number and line in that text, alone: see [`Refusal`].
+//! Readings together are one text of at most 65,536 bytes.
 //!
 //! Texts are not joined: each is a slice of its own, and an empty line parts nothing. Of texts joined
 //! into one input, whoever writes the first decides where it ends, and could bring a record of a wider
@@ -46,8 +46,8 @@ const OUTPUT_PER_READING_BYTE: usize = 7;
 const REFUSAL_BYTES: usize = 64;
 
 /// Bytes that are enough for every output of every program: `judge` writes at most 7 for each byte of
-/// at most 65,536 bytes of readings, as for an empty line, or a refusal. This is proved (`judge-most`
-/// in `crates/service/specs/SizeLaws.antt`).
+/// at most 65,536 bytes of readings, as for an empty line, or a refusal. This is proved (`output_room`
+/// in `crates/service/src/judge.rt`).
 pub const OUTPUT_BYTES: usize = OUTPUT_PER_READING_BYTE * READING_BYTES + REFUSAL_BYTES;
 
 /// A program with its texts; see the [module](self).
@@ -156,26 +156,25 @@ impl Call<'_> {
     /// nothing, and the answer is 13. [`OUTPUT_BYTES`] are always enough.
     pub fn answer(self, output: &mut [u8]) -> WrittenAnswer {
         let (places, count) = (output.as_mut_ptr(), output.len());
-        // SAFETY: each pointer and length are those of a live slice, the written one lent to nobody
-        // else, and the library is proved to keep within the lengths for every text.
-        unsafe {
-            match self {
-                Call::Draw { reference } => {
-                    cundarivo_program_draw(reference.as_ptr(), reference.len(), places, count)
-                }
-                Call::Verify { reference, record } => cundarivo_program_verify(
-                    reference.as_ptr(),
-                    reference.len(),
-                    record.as_ptr(),
-                    record.len(),
-                    places,
-                    count,
-                ),
-                Call::Judge {
-                    reference,
-                    record,
-                    readings,
-                } => cundarivo_program_judge(
+        match self {
+            // SAFETY: each pointer and length are those of a live slice, the written one lent to
+            // nobody else, and the library is proved to keep within the lengths for every text.
+            Call::Draw { reference } => unsafe {
+                cundarivo_program_draw(reference.as_ptr(), reference.len(), places, count)
+            },
+            Call::Verify { reference, record } => {
+                answer_to_two(cundarivo_program_verify, reference, record, output)
+            }
+            Call::Panel { reference, record } => {
+                answer_to_two(cundarivo_program_panel, reference, record, output)
+            }
+            // SAFETY: as for `Draw`.
+            Call::Judge {
+                reference,
+                record,
+                readings,
+            } => unsafe {
+                cundarivo_program_judge(
                     reference.as_ptr(),
                     reference.len(),
                     record.as_ptr(),
@@ -184,21 +183,15 @@ impl Call<'_> {
                     readings.len(),
                     places,
                     count,
-                ),
-                Call::Panel { reference, record } => cundarivo_program_panel(
-                    reference.as_ptr(),
-                    reference.len(),
-                    record.as_ptr(),
-                    record.len(),
-                    places,
-                    count,
-                ),
-            }
+                )
+            },
         }
     }
 
-    /// Bytes that are enough for the output. The programs but `judge` print no more than a record
-    /// has.
+    /// Bytes that are proved to be enough for the output: for `judge` as many as these readings ask
+    /// for (`readings_room` in `crates/service/src/judge.rt`), for `draw` a record (`house-drawn-most`
+    /// in `crates/record/specs/HouseLaws.antt`), and fewer for `verify` and `panel` (`output_room` in
+    /// their files beside that of `judge`).
     fn room(self) -> usize {
         match self {
             Call::Judge { readings, .. } => {
@@ -206,6 +199,29 @@ impl Call<'_> {
             }
             _ => RECORD_BYTES,
         }
+    }
+}
+
+/// A program of the library that takes two texts: each by pointer and length, and so the output.
+type OfTwoTexts =
+    unsafe extern "C" fn(*const u8, usize, *const u8, usize, *mut u8, usize) -> WrittenAnswer;
+
+fn answer_to_two(
+    program: OfTwoTexts,
+    reference: &[u8],
+    record: &[u8],
+    output: &mut [u8],
+) -> WrittenAnswer {
+    // SAFETY: as in `Call::answer`; the program is one of the library's.
+    unsafe {
+        program(
+            reference.as_ptr(),
+            reference.len(),
+            record.as_ptr(),
+            record.len(),
+            output.as_mut_ptr(),
+            output.len(),
+        )
     }
 }
 

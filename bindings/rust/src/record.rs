@@ -6,7 +6,7 @@ use crate::{
 };
 
 /// Bytes that are enough for every record: at most 38 for the heading, 90 for X, 52 for M, L, the moves
-/// and the ending, and 12 for each of 256 weights. This is proved (`house-most` in
+/// and the ending, and 12 for each of 256 weights. This is proved (`house-most` and `house-enough` in
 /// `crates/record/specs/HouseLaws.antt`).
 pub const RECORD_BYTES: usize = 38 + 90 + 52 + 12 * ROWS;
 

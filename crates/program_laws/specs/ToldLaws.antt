@@ -59,10 +59,10 @@ use Rattle.record_print.specs.Printed.{recordText}
 use Rattle.record.specs.ReadLaws.{each-read}
 use Rattle.record.specs.declared.EnvelopeRead.{EnvelopeRead}
 use Rattle.chart.specs.Panel.{panelShown}
-use Rattle.service.specs.Texts.{firstText, furtherTexts, withEnds, linesWithEnds}
+use Rattle.service.specs.Readings.{withEnds, linesWithEnds}
 use Rattle.service.specs.Lines.{refusalWord, printRefusal, printAccepted, printVerdict, printVerdicts, printSteps}
 use Rattle.service.specs.SizeLaws.{either, each-verdict}
-use Rattle.service.specs.Programs.{unlessRefused, drawOutput, contentAgainst, recordAgainst, recordOfTwo, recordOfThree, ofFigures}
+use Rattle.service.specs.Programs.{unlessRefused, drawOutput, contentAgainst, recordAgainst, ofFigures}
 use Rattle.service.specs.Programs.{verifyOutput, shownOutput, panelOutput, readingsOutput, judgeOutput}
 use Rattle.service.specs.ProgramLaws.{draw-faulty, draw-record, readings-refused, readings-judged, against-within, panel-accepted}
 use Rattle.program_laws.specs.TripLaws.{cut-line}
@@ -328,15 +328,15 @@ module _ (types : List ChannelType) where
   unfolding recordText printRecord printLines printHeading join
   record-told e = other-told 69 _ refl
 
-  pub draw-told : soundTypes types ≡ true → (D limit : ℕ) (input : List ℕ)
-      → refusesTexts (drawOutput D limit types input) ≡ isFaulty (content limit types input)
-  draw-told types-sound D limit input = go (content limit types input) refl
+  pub draw-told : soundTypes types ≡ true → (D limit : ℕ) (reference : List ℕ)
+      → refusesTexts (drawOutput D limit types reference) ≡ isFaulty (content limit types reference)
+  draw-told types-sound D limit reference = go (content limit types reference) refl
     where
-      go : (c : Content) → content limit types input ≡ c → refusesTexts (drawOutput D limit types input) ≡ isFaulty c
+      go : (c : Content) → content limit types reference ≡ c → refusesTexts (drawOutput D limit types reference) ≡ isFaulty c
       go (faulty number line) is =
-          ap refusesTexts (draw-faulty D limit types input number line is) ∙ only-told number line
-          ∙ ap not (content-told limit types input number line is)
-      go (sound codes rows) is = ap refusesTexts (draw-record D limit types input codes rows is types-sound) ∙ record-told _
+          ap refusesTexts (draw-faulty D limit types reference number line is) ∙ only-told number line
+          ∙ ap not (content-told limit types reference number line is)
+      go (sound codes rows) is = ap refusesTexts (draw-record D limit types reference codes rows is types-sound) ∙ record-told _
 
 -- ---- verify, panel and judge
 
@@ -415,35 +415,31 @@ module _ (D : ℕ) (types : List ChannelType) (f : Figures) (within : figuresWit
           ∙ lines-told (linesWithEnds readings) (readings-some readings e) (readings-within readings e)
       go false e = ap refusesTexts (readings-refused D types f readings e) ∙ only-told text-length 0
 
-module _ (D limit : ℕ) (types : List ChannelType) (input : List ℕ) where
-  pub verify-told : refusesTexts (verifyOutput D limit types input) ≡ isRefused (recordOfTwo D limit types input .outcome)
+module _ (D limit : ℕ) (types : List ChannelType) (reference text : List ℕ) where
+  -- the record, read against the reference text
+  abbrev read : EnvelopeRead
+  read = recordAgainst D limit types reference text
+
+  pub verify-told : refusesTexts (verifyOutput D limit types reference text) ≡ isRefused (read .outcome)
   unfolding verifyOutput
   verify-told =
-      let read = recordOfTwo D limit types input in
-      figures-told read (λ f. printAccepted) false (texts-told D limit types (firstText input) (furtherTexts input)) (λ is. accepted-told)
-      ∙ or-false (isRefused (read .outcome))
+      figures-told read (λ f. printAccepted) false (texts-told D limit types reference text) (λ is. accepted-told) ∙ or-false (isRefused (read .outcome))
 
   module _ (types-sound : soundTypes types ≡ true) (positive : 0 < D) where
-    pub panel-told : tagsApart types ≡ true → refusesTexts (panelOutput D limit types input) ≡ isRefused (recordOfTwo D limit types input .outcome)
+    pub panel-told : tagsApart types ≡ true → refusesTexts (panelOutput D limit types reference text) ≡ isRefused (read .outcome)
     unfolding panelOutput
     panel-told apart =
-        let read = recordOfTwo D limit types input in
         let f = read .envelope .figures in
-        figures-told read (shownOutput D types) false (texts-told D limit types (firstText input) (furtherTexts input))
+        figures-told read (shownOutput D types) false (texts-told D limit types reference text)
         (λ is.
         ap (λ (o : Outcome). refusesTexts (unlessRefused o (λ _. printSteps types (channelCodes f) (panelShown D types f .steps))))
-        (panel-accepted D limit types types-sound positive (firstText input) (furtherTexts input) is)
+        (panel-accepted D limit types types-sound positive reference text is)
         ∙ steps-told types apart (channelCodes f) (panelShown D types f .steps))
         ∙ or-false (isRefused (read .outcome))
 
-    pub judge-told : refusesTexts (judgeOutput D limit types input)
-        ≡ (isRefused (recordOfThree D limit types input .outcome) || not (textWithin (furtherTexts (furtherTexts input))))
+    pub judge-told : (readings : List ℕ)
+        → refusesTexts (judgeOutput D limit types reference text readings) ≡ (isRefused (read .outcome) || not (textWithin readings))
     unfolding judgeOutput
-    judge-told =
-        let rest = furtherTexts input in
-        let read = recordOfThree D limit types input in
-        figures-told read (λ f. readingsOutput D types f (furtherTexts rest)) (not (textWithin (furtherTexts rest)))
-        (texts-told D limit types (firstText input) (firstText rest))
-        (λ is.
-        readings-told D types (read .envelope .figures) (against-within D limit types types-sound positive (firstText input) (firstText rest) is)
-        (furtherTexts rest))
+    judge-told readings =
+        figures-told read (λ f. readingsOutput D types f readings) (not (textWithin readings)) (texts-told D limit types reference text)
+        (λ is. readings-told D types (read .envelope .figures) (against-within D limit types types-sound positive reference text is) readings)

@@ -2,12 +2,14 @@
 --     Arrays e                       what every envelope of the code has: 256 weights of 32 bits
 --     house-room                     a record is within recordRoom
 --     house-text                     so that it has at most 65,536 bytes, and 1 never meets one of ours
+--     house-most                     a record that is written has at most recordMost bytes, 12 for each of its m rows and 180 besides
+--     house-enough                   so that 13 never answers a buffer of so many places
 --     house-written-read             2.11: a written record, read against the same rows and codes, gives its own envelope, cleared
---     house-drawn-room               so is a drawn envelope's record
---     house-drawn-written            which is written to every buffer of so many places
+--     house-drawn-most               the record of a drawn envelope has at most recordMost bytes
+--     house-drawn-written            and is written to every buffer of so many places
 --     house-drawn-read               and, read against the same rows and codes, gives that envelope
 --     house-unread, house-refused    writing refuses with 12 exactly the envelopes whose record reading turns back
-use Prim.Native.Nat.{ℕ, _^_, _≤_}
+use Prim.Native.Nat.{ℕ, _+_, _*_, _^_, _≤_, min}
 use mathlib.Core.Path.{_≡_}
 use mathlib.Core.Bool.{true}
 use mathlib.Core.List.{List}
@@ -15,10 +17,11 @@ use native.Mathlib.Omega.{arith}
 use lib.IntN.{ℤ}
 use lib.ListN.{length}
 use Rattle.lists.specs.Padded.{padded}
-use Rattle.refusal.specs.Number.{disagreement}
+use Rattle.refusal.specs.Number.{disagreement, buffer-short}
 use Rattle.refusal.specs.Outcome.{refused, numberOf}
 use Rattle.refusal.specs.declared.Outcome.the-variants.{Accepted}
 use Rattle.geometry.specs.Limits.{total, rowLimit, channelLimit, rowsWithin}
+use Rattle.geometry.specs.TableLaws.{within-limits}
 use Rattle.ball.specs.Draw.{drawing}
 use Rattle.ball.specs.DrawnWeights.{drawing-length}
 use Rattle.text.specs.Parts.{textLimit}
@@ -31,12 +34,13 @@ use Rattle.envelope.specs.FigureLaws.{within-figures}
 use Rattle.envelope.specs.Agreement.{cleared, drawnEnvelope}
 use Rattle.envelope.specs.AgreementLaws.{agrees-agreed, agreed-weight}
 use Rattle.envelope.specs.declared.Envelope.{Envelope}
-use Rattle.record_print.specs.Printed.{recordText, recordRoom}
-use Rattle.record_print.specs.PrintedLaws.{record-room}
+use Rattle.record_print.specs.Printed.{recordOf, recordText, recordRoom, recordMost}
+use Rattle.record_print.specs.PrintedLaws.{heading-short, centre-short, result-short, lines-short, record-length, record-room}
 use Rattle.record.specs.Answers.{recordRead, notWritten, written, recordWritten}
 use Rattle.record.specs.declared.EnvelopeRead.{EnvelopeRead}
+use Rattle.record.specs.declared.TextWritten.{TextWritten}
 use Rattle.record.specs.ReadLaws.{accepting}
-use Rattle.record.specs.WriteLaws.{within-printing, Writing, written-writing, writing-written}
+use Rattle.record.specs.WriteLaws.{within-printing, Writing, each-written, written-writing, writing-written}
 use Rattle.record.specs.TripLaws.{Holds, written-envelope, disagreement-unread, unread-disagreement}
 use Rattle.record.specs.DrawnLaws.{drawn-writing, drawn-read}
 
@@ -61,6 +65,39 @@ house-room e arrays kept =
 
 pub house-text : (e : Envelope) → Arrays e → figuresWithin total channelTypes (e .figures) ≡ true → length (recordText channelTypes e) ≤ textLimit
 house-text e arrays kept = omega (arith, house-room e arrays kept)
+
+-- ---- the most bytes of a record
+
+-- whatever envelope, rows and m are given; m above 256 is refused by 8
+module _ (rows : List ℤ) (m : ℕ) (e : Envelope) where
+  pub house-most : Writing total rowLimit channelTypes rows m e → length (recordText channelTypes e) ≤ recordMost (min m rowLimit)
+  unfolding recordText
+  house-most writing =
+      let f = e .figures in
+      let ball = f .ball in
+      let figures = within-figures total channelTypes f (writing .figures-kept) in
+      let few = within-limits rowLimit rows m (f .n) (writing .rows-kept) .rows-most in
+      let agreed = agrees-agreed total rowLimit rows m (f .n) ball (e .weights) (writing .agreeing) in
+      omega (
+        arith,
+        few,
+        figures .channels,
+        record-length channelTypes (recordOf f (e .weights)),
+        heading-short f channelTypes house-short (omega (arith, figures .channels)) (figures .typed),
+        centre-short 9 (f .n) (ball .«scaled_centre») (omega arith) (figures .places) (λ k h. omega (arith, figures .centre-limit k h)),
+        result-short 19 7 (ball .«scaled_squared_radius») (ball .«scaled_lower_bound») (f .moves) (omega arith) (omega arith)
+            (omega (arith, figures .radius-limit)) (omega (arith, figures .floor-limit)) (omega (arith, figures .moves-limit)) (ball .settled),
+        lines-short 3 5 (omega arith) (omega arith) 1 m (e .weights) (λ i h. omega (arith, few))
+            (λ i h. omega (arith, agreed-weight total rowLimit rows m (f .n) ball (e .weights) agreed i)) (agreed .rest),
+      )
+
+  pub house-enough : (places : ℕ) → recordMost (min m rowLimit) ≤ places
+      → numberOf (recordWritten total rowLimit channelTypes rows m e places .outcome) ≡ buffer-short → ⊥
+  house-enough places room =
+      each-written total rowLimit channelTypes rows m e places (λ (a : TextWritten). numberOf (a .outcome) ≡ buffer-short → ⊥)
+      (λ h. omega arith) (λ f r a h. omega arith) (λ w l h. omega (arith, house-most w)) (λ w l h. omega arith)
+
+-- ---- a record that is read back
 
 module _ (rows : List ℤ) (m : ℕ) (e : Envelope) (arrays : Arrays e) (places : ℕ) where
   -- what is read of the envelope's own text, against the same rows and codes
@@ -102,12 +139,12 @@ module _ (rows : List ℤ) (m n : ℕ) (codes : List ℕ) (coded : length codes 
         fitting = λ i h. omega (arith, agreed-weight total rowLimit rows m n (r .ball) (r .weights) agreed i);
       }
 
-  pub house-drawn-room : length (recordText channelTypes own) ≤ recordRoom rowLimit
-  house-drawn-room = house-room own own-arrays (own-writing .figures-kept)
+  pub house-drawn-most : length (recordText channelTypes own) ≤ recordMost (min m rowLimit)
+  house-drawn-most = house-most rows m own own-writing
 
-  pub house-drawn-written : (places : ℕ) → recordRoom rowLimit ≤ places
+  pub house-drawn-written : (places : ℕ) → recordMost rowLimit ≤ places
       → recordWritten total rowLimit channelTypes rows m own places ≡ written (length (recordText channelTypes own))
-  house-drawn-written places room = writing-written total rowLimit channelTypes rows m own places own-writing (omega (arith, house-drawn-room))
+  house-drawn-written places room = writing-written total rowLimit channelTypes rows m own places own-writing (omega (arith, house-drawn-most))
 
   pub house-drawn-read : recordRead total rowLimit channelTypes rows m n (padded channelLimit codes) (recordText channelTypes own) ≡ accepting own
   house-drawn-read =

@@ -15,7 +15,7 @@ use mathlib.Core.Path.{_≡_, refl, _∙_, ap}
 use mathlib.Core.Bool.{Bool, true, false, _&&_}
 use mathlib.Core.List.{List}
 use native.Mathlib.Omega.{arith}
-use borrow.Author.Tests.{leb-true, le-leb, lt-leb}
+use borrow.Author.Tests.{leb-true, leb-false, le-leb, lt-leb}
 use lib.Dec.{leb}
 use lib.IntN.{ℤ}
 use lib.ListN.{length}
@@ -110,7 +110,7 @@ module _ (D limit : ℕ) (types : List ChannelType) (rows : List ℤ) (m : ℕ) 
     module _ (P : TextWritten → Type 0) (outside : P (notWritten (refused outside-limits)))
         (disagreed : figuresWithin D types (e .figures) ≡ true → rowsWithin limit rows m (e .figures .n) ≡ true
         → agrees D limit rows m (e .figures .n) (e .figures .ball) (e .weights) ≡ false → P (notWritten (refused disagreement)))
-        (short : P (notWritten (refused buffer-short)))
+        (short : Writing D limit types rows m e → places < length (recordText types e) → P (notWritten (refused buffer-short)))
         (whole : Writing D limit types rows m e → length (recordText types e) ≤ places → P (written (length (recordText types e)))) where
       pub each-written : P (recordWritten D limit types rows m e places)
       unfolding recordWritten
@@ -124,7 +124,8 @@ module _ (D limit : ℕ) (types : List ChannelType) (rows : List ℤ) (m : ℕ) 
               (λ _. notWritten (refused buffer-short))) (λ _. notWritten (refused disagreement))) (λ _. notWritten (refused outside-limits)))
           go true true true true f r a l =
               whole (record { figures-kept = f; rows-kept = r; agreeing = a }) (leb-true (length (recordText types e)) places l)
-          go true true true false f r a l = short
+          go true true true false f r a l =
+              short (record { figures-kept = f; rows-kept = r; agreeing = a }) (leb-false (length (recordText types e)) places l)
           go true true false l f r a h = disagreed f r a
           go true false a l f r g h = outside
           go false r a l f s g h = outside
@@ -132,7 +133,7 @@ module _ (D limit : ℕ) (types : List ChannelType) (rows : List ℤ) (m : ℕ) 
     pub written-writing : recordWritten D limit types rows m e places .outcome ≡ Accepted → Writing D limit types rows m e
     written-writing h =
         each-written (λ (a : TextWritten). numberOf (a .outcome) ≡ 0 → Writing D limit types rows m e)
-        nonzero (λ f r a. nonzero) nonzero (λ w l k. w) (ap numberOf h)
+        nonzero (λ f r a. nonzero) (λ w l. nonzero) (λ w l k. w) (ap numberOf h)
 
     pub writing-refused : numberOf (recordWritten D limit types rows m e places .outcome) ≡ disagreement
         → (figuresWithin D types (e .figures) ≡ true) × (rowsWithin limit rows m (e .figures .n) ≡ true)
@@ -142,4 +143,4 @@ module _ (D limit : ℕ) (types : List ChannelType) (rows : List ℤ) (m : ℕ) 
         (λ (a : TextWritten). numberOf (a .outcome) ≡ disagreement
         → (figuresWithin D types (e .figures) ≡ true) × (rowsWithin limit rows m (e .figures .n) ≡ true)
         × (agrees D limit rows m (e .figures .n) (e .figures .ball) (e .weights) ≡ false))
-        (λ h. absurd (omega arith)) (λ f r a h. (f, r, a)) (λ h. absurd (omega arith)) (λ w l h. absurd (omega arith))
+        (λ h. absurd (omega arith)) (λ f r a h. (f, r, a)) (λ w l h. absurd (omega arith)) (λ w l h. absurd (omega arith))

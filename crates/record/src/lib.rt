@@ -24,8 +24,11 @@ use refusal::Outcome;
 use text::parts::same_bytes;
 use text::parts::text_within;
 
-// room enough for every record
-pub const RECORD_MOST: usize = 320 + ROWS * 18;
+// room for the printing of every record
+const RECORD_ROOM: usize = 320 + ROWS * 18;
+
+// the most bytes of a record that is written
+pub const RECORD_MOST: usize = 38 + 90 + 52 + 12 * ROWS;
 
 // What reading a record answers. In a refusal every figure and weight is 0.
 pub struct EnvelopeRead {
@@ -193,7 +196,7 @@ pub fn write(envelope: Envelope, rows: &[i32], m: usize, buffer: &mut [u8]) -> T
     if !agrees(rows, m, n, ball, &weights) {
         return not_written(refusal::DISAGREEMENT);
     }
-    let mut text = [0u8; RECORD_MOST];
+    let mut text = [0u8; RECORD_ROOM];
     let length = print_record(figures, &weights, &mut text);
     hand_out(&text[..length], buffer)
 }

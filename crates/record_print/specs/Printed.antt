@@ -2,7 +2,8 @@
 --     recordOf figures weights         what the record of an envelope states
 --     recordText types e               its text
 --     weightLines weights              its `W` lines, each with its byte 10
---     lineRoom, recordRoom rows        the most bytes of a `W` line, and of a record of so many rows
+--     lineRoom, recordRoom rows        room for the printing of a `W` line, and of a record of so many rows
+--     recordMost rows                  the most bytes of a record of so many rows that is written: 3,252 of 256 (`house-most` of record)
 --     Printing figures weights         figures whose record can be printed
 use Prim.Native.Nat.{ℕ, _+_, _*_, _≤_, _<_, _^_}
 use mathlib.Core.List.{List, map}
@@ -48,6 +49,11 @@ lineRoom = 18
 -- the lines before the `W` lines, and what the last of these may want besides, take at most 320 bytes
 abbrev pub recordRoom : ℕ → ℕ
 recordRoom rows = 320 + rows * lineRoom
+
+-- 38 for `ENV`, 8 and eight tags of 3 bytes; 90 for `C` and eight numbers of a hyphen and 9 digits; 52 for `R`, M and L of 19 digits, moves of
+-- 7 and a letter; 12 for each `W`, row of 3 digits and weight of 5
+abbrev pub recordMost : ℕ → ℕ
+recordMost rows = 38 + 90 + 52 + 12 * rows
 
 -- n types and places of X, and numbers below 2^63
 pub record Printing (f : Figures) (weights : List ℕ) : Type 0 where

@@ -1,20 +1,25 @@
 -- Laws of the text of a record, for any table of types whose tags have at most three bytes.
---     Small n X, taken-small                          the first n numbers are below 2 ^ 63; so is each of the list of them
---     centre-length, result-length, weight-length     how many bytes the lines `C`, `R` and `W` have at most, without their byte 10
---     result-below, result-numbers                    the numbers of an `R` line are below 2 ^ 63 where each is; the bytes of its word and numbers
+--     Small limit n X, taken-small                    the first n numbers are below the limit; so is each of the list of them
+--     heading-short, centre-short,                    how many bytes the lines of a record have at most, without their byte 10, for any
+--     result-short, weight-short                      numbers of digits
+--     result-numbers-short                            the same of the word and the numbers of an `R` line
+--     lines-short                                     the same of the `W` lines of so many rows, with their bytes 10
 --     letter-length                                   a letter is one byte
 --     linesFrom row weights                           the `W` lines of weights, the first of which is that of this row
---     record-lines                                    a record is its lines, each with its byte 10
+--     record-lines, record-length                     a record is its lines, each with its byte 10, and as long as they are
 --     weightLimit                                     a number that is above any weight of 32 bits
+--     result-below                                    the numbers of an `R` line are below 2 ^ 63 where each is
+--     result-numbers, result-length, weight-length    how many bytes `R` and `W` lines have at most, where these are their limits
 --     heading-most, centre-most, result-most          how many bytes the first three lines of an envelope's record have at most
 --     record-room                                     the text of the record is within recordRoom
 use Prim.Native.Nat.{ℕ, zero, suc, _+_, _*_, _^_, _≤_, _<_}
 use mathlib.Core.Path.{_≡_, refl, sym, ap, _∙_}
 use mathlib.Core.Bool.{Bool, true, false}
 use mathlib.Core.List.{List, [], _∷_, _++_, map, append-assoc}
+use native.Mathlib.Nat.{suc-mul}
 use native.Mathlib.Omega.{arith}
 use lib.IntN.{ℤ, pos, natAbs}
-use lib.ListN.{length, getD, take, length-append}
+use lib.ListN.{length, getD, take, length-append, List·getD-eq-default}
 use lib.Seq.{length-take-le, getD-take}
 use Rattle.text.specs.Parts.{comma, lineEnd, join}
 use Rattle.text.specs.Lines.{printLines}
@@ -22,7 +27,7 @@ use Rattle.text.specs.Number.{print}
 use Rattle.text.specs.NumberLaws.{magnitude-short}
 use Rattle.text.specs.Put.{numbersAfter}
 use Rattle.text.specs.PutLaws.{numbers-short}
-use Rattle.text.specs.UnsignedLaws.{Below, below-none, below-more, below-signed}
+use Rattle.text.specs.UnsignedLaws.{Below, below-none, below-more}
 use Rattle.channel.specs.Channel.{ChannelType}
 use Rattle.channel.specs.AnswersLaws.{shortTags}
 use Rattle.heading.specs.Heading.{printHeading}
@@ -34,51 +39,104 @@ use Rattle.record_form.specs.Record.{Record, printRecord}
 use Rattle.record_form.specs.Weights.{listed}
 use Rattle.record_print.specs.Printed.{recordOf, lineRoom, recordRoom, Printing}
 
--- ---- the lines
+-- ---- the lines, for numbers of so many digits
 
 -- the default of getD is never met
-abbrev pub Small : ℕ → List ℤ → Type 0
-Small n X = (k : ℕ) → k < n → natAbs (getD X k (pos 0)) < 2 ^ 63
+abbrev pub Small : ℕ → ℕ → List ℤ → Type 0
+Small limit n X = (k : ℕ) → k < n → natAbs (getD X k (pos 0)) < limit
 
-pub taken-small : (n : ℕ) (X : List ℤ) → n ≤ length X → Small n X → Small (length (take n X)) (take n X)
-taken-small n X h small k l =
+pub taken-small : (limit n : ℕ) (X : List ℤ) → n ≤ length X → Small limit n X → Small limit (length (take n X)) (take n X)
+taken-small limit n X h small k l =
     let places : length (take n X) ≡ n = length-take-le n X h in
     omega (arith, ap natAbs (getD-take n X k (pos 0) (omega arith)), small k (omega arith))
 
-pub centre-length : (X : List ℤ) → Small (length X) X → length (printCentre X) ≤ 1 + 21 * length X
+pub heading-short : (f : Figures) (types : List ChannelType) → shortTags types ≡ true → f .n < 10 → f .n ≤ length (f .types)
+    → length (printHeading recordWord types (channelCodes f)) ≤ 5 + 4 * f .n
+heading-short f types short few typed =
+    let codes : length (channelCodes f) ≡ f .n = length-take-le (f .n) (f .types) typed in
+    omega (arith, heading-length types short 1 recordWord (channelCodes f) (omega arith) (omega arith))
+
+-- a hyphen, digits and a comma for each place
+pub centre-short : (digits n : ℕ) (X : List ℤ) → 1 ≤ digits → n ≤ length X → Small (10 ^ digits) n X
+    → length (printCentre (take n X)) ≤ 1 + (digits + 2) * n
 unfolding printCentre
-centre-length X small = numbers-short 19 centreWord X (omega arith) (λ k h. omega (arith, small k h))
+centre-short digits n X some places small =
+    omega (
+      arith,
+      ap (λ (k : ℕ). (digits + 2) * k) (length-take-le n X places),
+      numbers-short digits centreWord (take n X) some (taken-small (10 ^ digits) n X places small),
+    )
 
 pub letter-length : (settled : Bool) → length (letterOf settled) ≡ 1
 letter-length true = refl
 letter-length false = refl
 
-pub result-below : (M L moves : ℕ) → M < 2 ^ 63 → L < 2 ^ 63 → moves < 2 ^ 63 → Below (2 ^ 63) (M ∷ L ∷ moves ∷ [])
-result-below M L moves radius floor made =
-    let most = 2 ^ 63 in
-    below-more most M (L ∷ moves ∷ []) radius (below-more most L (moves ∷ []) floor (below-more most moves [] made (below-none most)))
+result-ended : (M L moves : ℕ) (settled : Bool)
+    → length (printResult (record { radius = pos M; floor = pos L; moves = moves; settled = settled }))
+    ≡ length (numbersAfter resultWord (pos M ∷ pos L ∷ pos moves ∷ [])) + 2
+unfolding printResult
+result-ended M L moves settled =
+    omega (arith, length-append (numbersAfter resultWord (pos M ∷ pos L ∷ pos moves ∷ [])) (comma ∷ letterOf settled), letter-length settled)
 
-module _ (M L moves : ℕ) (below : Below (2 ^ 63) (M ∷ L ∷ moves ∷ [])) where
-  pub result-numbers : length (numbersAfter resultWord (pos M ∷ pos L ∷ pos moves ∷ [])) ≤ 64
-  result-numbers =
-      numbers-short 19 resultWord (pos M ∷ pos L ∷ pos moves ∷ []) (omega arith)
-      (λ k h. omega (arith, below-signed (2 ^ 63) (M ∷ L ∷ moves ∷ []) below k h))
+-- M and L of so many digits, and moves of so many
+module _ (distance made M L moves : ℕ) (some-distance : 1 ≤ distance) (some-made : 1 ≤ made) (radius : M < 10 ^ distance) (floor : L < 10 ^ distance)
+    (few : moves < 10 ^ made) where
+  pub result-numbers-short : length (numbersAfter resultWord (pos M ∷ pos L ∷ pos moves ∷ [])) ≤ 4 + 2 * distance + made
+  unfolding numbersAfter join print
+  result-numbers-short =
+      omega (
+        arith,
+        length-append (print (pos M)) (comma ∷ (print (pos L) ++ (comma ∷ print (pos moves)))),
+        length-append (print (pos L)) (comma ∷ print (pos moves)),
+        magnitude-short distance M some-distance radius,
+        magnitude-short distance L some-distance floor,
+        magnitude-short made moves some-made few,
+      )
 
-  pub result-length : (settled : Bool) → length (printResult (record { radius = pos M; floor = pos L; moves = moves; settled = settled })) ≤ 66
-  unfolding printResult
-  result-length settled =
-      let numbers = numbersAfter resultWord (pos M ∷ pos L ∷ pos moves ∷ []) in
-      omega (arith, result-numbers, length-append numbers (comma ∷ letterOf settled), letter-length settled)
-
-pub weight-length : (row weight : ℕ) → row < 10 ^ 4 → weight < 10 ^ 10 → length (printWeight (record { row = row; weight = weight })) < lineRoom
-unfolding printWeight numbersAfter join print
-weight-length row weight r w =
-    omega (arith, length-append (print (pos row)) (comma ∷ print (pos weight)), magnitude-short 4 row (omega arith) r, magnitude-short 10 weight (omega arith) w)
-
--- ---- the `W` lines
+  pub result-short : (settled : Bool)
+      → length (printResult (record { radius = pos M; floor = pos L; moves = moves; settled = settled })) ≤ 6 + 2 * distance + made
+  result-short settled = omega (arith, result-ended M L moves settled, result-numbers-short)
 
 abbrev pub linesFrom : ℕ → List ℕ → List ℕ
 linesFrom row weights = printLines (map printWeight (listed row weights))
+
+-- rows and weights of so many digits
+module _ (row-digits weight-digits : ℕ) (some-row : 1 ≤ row-digits) (some-weight : 1 ≤ weight-digits) where
+  pub weight-short : (row weight : ℕ) → row < 10 ^ row-digits → weight < 10 ^ weight-digits
+      → length (printWeight (record { row = row; weight = weight })) ≤ 3 + row-digits + weight-digits
+  unfolding printWeight numbersAfter join print
+  weight-short row weight r w =
+      omega (
+        arith,
+        length-append (print (pos row)) (comma ∷ print (pos weight)),
+        magnitude-short row-digits row some-row r,
+        magnitude-short weight-digits weight some-weight w,
+      )
+
+  -- so many rows, and no weight past them
+  pub lines-short : (row count : ℕ) (weights : List ℕ) → ((i : ℕ) → i < count → row + i < 10 ^ row-digits) → Below (10 ^ weight-digits) weights
+      → ((i : ℕ) → count ≤ i → getD weights i 0 ≡ 0) → length (linesFrom row weights) ≤ count * (4 + row-digits + weight-digits)
+  unfolding listed printLines
+  lines-short row count [] few below rest = omega arith
+  lines-short row zero (zero ∷ weights) few below rest =
+      lines-short (suc row) zero weights (λ i h. absurd (omega arith)) (λ i h. below (suc i) (omega arith)) (λ i h. rest (suc i) (omega arith))
+  lines-short row zero (suc w ∷ weights) few below rest = absurd (omega (arith, rest 0 (omega arith)))
+  lines-short row (suc count) (zero ∷ weights) few below rest =
+      omega (
+        arith,
+        suc-mul count (4 + row-digits + weight-digits),
+        lines-short (suc row) count weights (λ i h. omega (arith, few (suc i) (omega arith))) (λ i h. below (suc i) (omega arith))
+            (λ i h. rest (suc i) (omega arith)),
+      )
+  lines-short row (suc count) (suc w ∷ weights) few below rest =
+      omega (
+        arith,
+        suc-mul count (4 + row-digits + weight-digits),
+        length-append (printWeight (record { row = row; weight = suc w })) (lineEnd ∷ linesFrom (suc row) weights),
+        weight-short row (suc w) (omega (arith, few 0 (omega arith))) (below 0 (omega arith)),
+        lines-short (suc row) count weights (λ i h. omega (arith, few (suc i) (omega arith))) (λ i h. below (suc i) (omega arith))
+            (λ i h. rest (suc i) (omega arith)),
+      )
 
 -- ---- the whole record
 
@@ -91,41 +149,65 @@ pub record-lines : (types : List ChannelType) (r : Record)
 unfolding printRecord printLines
 record-lines types r = sym (simp append-assoc)
 
--- ---- the room
-
-abbrev pub weightLimit : ℕ
-weightLimit = 10 ^ 10
-
-lines-length : (row : ℕ) (weights : List ℕ) → row + length weights ≤ 10 ^ 4 → Below weightLimit weights
-    → length (linesFrom row weights) ≤ length weights * lineRoom
-unfolding listed printLines
-lines-length row [] most below = omega arith
-lines-length row (zero ∷ weights) most below =
-    omega (arith, lines-length (suc row) weights (omega arith) (λ k h. below (suc k) (omega arith)))
-lines-length row (suc w ∷ weights) most below =
-    let line = printWeight (record { row = row; weight = suc w }) in
-    omega (
-      arith,
-      length-append line (lineEnd ∷ linesFrom (suc row) weights),
-      weight-length row (suc w) (omega arith) (below 0 (omega arith)),
-      lines-length (suc row) weights (omega arith) (λ k h. below (suc k) (omega arith)),
-    )
-
 -- a line with its byte 10, before others
 line-length : (line rest : List ℕ) → length ((line ++ (lineEnd ∷ [])) ++ rest) ≡ length line + 1 + length rest
 line-length line rest = length-append (line ++ (lineEnd ∷ [])) rest ∙ ap (λ n. n + length rest) (length-append line (lineEnd ∷ []))
 
+pub record-length : (types : List ChannelType) (r : Record)
+    → length (printRecord types r)
+    ≡ (length (printHeading recordWord types (r .codes)) + 1)
+    + (length (printCentre (r .centre)) + 1)
+    + (length (printResult (r .result)) + 1)
+    + length (printLines (map printWeight (r .weights)))
+record-length types r =
+    let heading = printHeading recordWord types (r .codes) in
+    let centre = printCentre (r .centre) in
+    let result = printResult (r .result) in
+    let lines = printLines (map printWeight (r .weights)) in
+    omega (
+      arith,
+      ap length (record-lines types r),
+      line-length heading ((centre ++ (lineEnd ∷ [])) ++ ((result ++ (lineEnd ∷ [])) ++ lines)),
+      line-length centre ((result ++ (lineEnd ∷ [])) ++ lines),
+      line-length result lines,
+    )
+
+-- ---- the room: 19 digits for X, M, L and moves, 4 for a row and 10 for a weight
+
+abbrev pub weightLimit : ℕ
+weightLimit = 10 ^ 10
+
+pub result-below : (M L moves : ℕ) → M < 2 ^ 63 → L < 2 ^ 63 → moves < 2 ^ 63 → Below (2 ^ 63) (M ∷ L ∷ moves ∷ [])
+result-below M L moves radius floor made =
+    let most = 2 ^ 63 in
+    below-more most M (L ∷ moves ∷ []) radius (below-more most L (moves ∷ []) floor (below-more most moves [] made (below-none most)))
+
+module _ (M L moves : ℕ) (below : Below (2 ^ 63) (M ∷ L ∷ moves ∷ [])) where
+  pub result-numbers : length (numbersAfter resultWord (pos M ∷ pos L ∷ pos moves ∷ [])) ≤ 64
+  result-numbers =
+      omega (
+        arith,
+        result-numbers-short 19 19 M L moves (omega arith) (omega arith) (omega (arith, below 0 (omega arith))) (omega (arith, below 1 (omega arith)))
+            (omega (arith, below 2 (omega arith))),
+      )
+
+  pub result-length : (settled : Bool) → length (printResult (record { radius = pos M; floor = pos L; moves = moves; settled = settled })) ≤ 66
+  result-length settled = omega (arith, result-ended M L moves settled, result-numbers)
+
+pub weight-length : (row weight : ℕ) → row < 10 ^ 4 → weight < 10 ^ 10 → length (printWeight (record { row = row; weight = weight })) < lineRoom
+weight-length row weight r w = omega (arith, weight-short 4 10 (omega arith) (omega arith) row weight r w)
+
 module _ (f : Figures) (weights : List ℕ) (p : Printing f weights) where
   pub heading-most : (types : List ChannelType) → shortTags types ≡ true → length (printHeading recordWord types (channelCodes f)) ≤ 37
-  heading-most types short =
-      let codes : length (channelCodes f) ≡ f .n = length-take-le (f .n) (f .types) (p .typed) in
-      omega (arith, p .channels, heading-length types short 1 recordWord (channelCodes f) (omega arith) (omega (arith, p .channels)))
+  heading-most types short = omega (arith, p .channels, heading-short f types short (omega (arith, p .channels)) (p .typed))
 
   pub centre-most : length (printCentre (recordOf f weights .centre)) ≤ 169
   centre-most =
-      let n = f .n in
-      let X = f .ball .«scaled_centre» in
-      omega (arith, p .channels, length-take-le n X (p .places), centre-length (take n X) (taken-small n X (p .places) (p .centre-small)))
+      omega (
+        arith,
+        p .channels,
+        centre-short 19 (f .n) (f .ball .«scaled_centre») (omega arith) (p .places) (λ k h. omega (arith, p .centre-small k h)),
+      )
 
   pub result-most : f .moves < 2 ^ 63 → length (printResult (recordOf f weights .result)) ≤ 66
   result-most made =
@@ -136,18 +218,12 @@ module _ (f : Figures) (weights : List ℕ) (p : Printing f weights) where
   pub record-room : (types : List ChannelType) → shortTags types ≡ true → f .moves < 2 ^ 63 → Below weightLimit weights
       → length (printRecord types (recordOf f weights)) ≤ recordRoom (length weights)
   record-room types short made below =
-      let heading = printHeading recordWord types (channelCodes f) in
-      let centre = printCentre (recordOf f weights .centre) in
-      let result = printResult (recordOf f weights .result) in
-      let lines = linesFrom 1 weights in
       omega (
         arith,
-        ap length (record-lines types (recordOf f weights)),
-        line-length heading ((centre ++ (lineEnd ∷ [])) ++ ((result ++ (lineEnd ∷ [])) ++ lines)),
-        line-length centre ((result ++ (lineEnd ∷ [])) ++ lines),
-        line-length result lines,
+        record-length types (recordOf f weights),
         heading-most types short,
         centre-most,
         result-most made,
-        lines-length 1 weights (omega (arith, p .rows)) below,
+        lines-short 4 10 (omega arith) (omega arith) 1 (length weights) weights (λ i h. omega (arith, p .rows)) below
+            (λ i h. List·getD-eq-default weights 0 h),
       )

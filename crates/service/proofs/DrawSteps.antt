@@ -28,7 +28,7 @@ use Rattle.envelope.specs.Agreement.{drawnEnvelope}
 use Rattle.envelope.specs.declared.Envelope.{Envelope}
 use Rattle.record_print.specs.Printed.{recordText}
 use Rattle.record.specs.Answers.{written, recordWritten}
-use Rattle.record.specs.HouseLaws.{house-drawn-room, house-drawn-written}
+use Rattle.record.specs.HouseLaws.{house-drawn-most, house-drawn-written}
 use Rattle.record.specs.declared.TextWritten.{TextWritten}
 use Rattle.service.specs.Programs.{drawBudget, drawOutput}
 use Rattle.service.specs.ProgramLaws.{draw-accepted, draw-record}
@@ -75,7 +75,7 @@ module _ {text : List ℕ} {r : Reference} {table : List ℤ} (read : RowsRead t
     own-room =
         omega (
           arith,
-          house-drawn-room rows m n (read .codes) refl known drawBudget
+          house-drawn-most rows m n (read .codes) refl known drawBudget
               (draw-accepted total rowLimit channelTypes text (read .codes) (read .rows) (read .is) house-sound),
           room,
         )

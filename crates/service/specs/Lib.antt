@@ -1,9 +1,9 @@
--- The programs, in reading order: the texts of an input, the lines that are printed, what each program prints; then what the functions
+-- The programs, in reading order: the readings of a text, the lines that are printed, what each program prints; then what the functions
 -- ask and promise, and the laws.
-pub mod Texts
+pub mod Readings
 pub mod Lines
 pub mod Programs
 pub mod Contracts
-pub mod TextsLaws
+pub mod ReadingsLaws
 pub mod ProgramLaws
 pub mod SizeLaws

@@ -2,15 +2,13 @@
 ghost use mathlib.Core.Path.{_≡_};
 ghost use Rattle.geometry.specs.Limits.{total, rowLimit};
 ghost use Rattle.channel.specs.Channel.{channelTypes};
-ghost use Rattle.service.specs.Programs.{recordAgainst, recordOfTwo, recordOfThree};
-use crate::split::first_text;
-use crate::split::further_texts;
+ghost use Rattle.service.specs.Programs.{recordAgainst};
 use figures::limits::PLACES;
 use record::EnvelopeRead;
 use refusal::Outcome;
 
 // Reads a record against the rows and tags of a reference text. Refused: as the reference text is, then as the record is.
-fn record_against(reference: &[u8], record_text: &[u8]) -> EnvelopeRead
+pub fn record_against(reference: &[u8], record_text: &[u8]) -> EnvelopeRead
     ensures { λ r.
         ⌜ r ≡ recordAgainst total rowLimit channelTypes (now (reference .entry)) (now («record_text» .entry)) ⌝ }
 {
@@ -24,18 +22,4 @@ fn record_against(reference: &[u8], record_text: &[u8]) -> EnvelopeRead
         Outcome::Accepted => { record::read(&table[..places], read.m, n, &types[..n], record_text) }
         Outcome::Refused(refusal) => record::not_read(refusal.number, refusal.line),
     }
-}
-
-// The record that is the second and last text of an input, against the first.
-pub fn record_of_two(input: &[u8]) -> EnvelopeRead
-    ensures { λ r. ⌜ r ≡ recordOfTwo total rowLimit channelTypes (now (input .entry)) ⌝ }
-{
-    record_against(first_text(input), further_texts(input))
-}
-
-// The record that is the second of three texts, against the first.
-pub fn record_of_three(input: &[u8]) -> EnvelopeRead
-    ensures { λ r. ⌜ r ≡ recordOfThree total rowLimit channelTypes (now (input .entry)) ⌝ }
-{
-    record_against(first_text(input), first_text(further_texts(input)))
 }

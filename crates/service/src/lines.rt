@@ -20,7 +20,8 @@ const ALARM_WORD: [u8; 5] = *b"ALARM";
 // Prints a refusal from index `at` on, and answers the index after it.
 pub fn put_refusal(out: &mut [u8], at: usize, number: u32, line: u32) -> usize
     requires { ⌜ at + verdictRoom ≤ length (now out) ⌝ }
-    ensures { λ r. ⌜ Put (printRefusal number line) (now (out .entry)) at (now (out .exit)) r ⌝ }
+    ensures room { λ r. ⌜ r ≤ at + verdictRoom ⌝ }
+    ensures line { λ r. ⌜ Put (printRefusal number line) (now (out .entry)) at (now (out .exit)) r ⌝ }
 {
     let numbers = [number as i64, line as i64];
     put_line(out, at, &REFUSAL_WORD, &numbers, 2)

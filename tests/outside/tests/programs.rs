@@ -38,22 +38,14 @@ fn the_record_of_document_01() {
     assert_eq!(verdicts, b"QUIET\nALARM,47244640256\n");
 }
 
-/// The numbers of the refusals that an output has.
-fn refusals(output: &[u8]) -> BTreeSet<u32> {
-    let text = std::str::from_utf8(output).expect("a text");
-    let numbers = text.lines().filter_map(|line| line.strip_prefix("NO,"));
-    let number = |fields: &str| fields.split(',').next().expect("a number").parse();
-    numbers
-        .map(|fields| number(fields).expect("a number"))
-        .collect()
-}
-
 #[test]
 fn known_inputs_reach_every_refusal() {
     for program in PROGRAMS {
         let own = known_programs::all().into_iter();
         let own = own.filter(|known| known.runs.iter().any(|&(runs, _)| runs == program));
-        let reached: BTreeSet<u32> = own.flat_map(|known| refusals(&known.output)).collect();
+        let reached: BTreeSet<u32> = own
+            .flat_map(|known| programs::refusals_in(&known.output))
+            .collect();
         assert!(reached.iter().eq(program.refusals()), "{reached:?}");
     }
 }
@@ -95,7 +87,7 @@ fn changed_texts_reach_every_refusal() {
         for _ in 0..10_000 {
             let source = Source::new(random);
             let (texts, kinds) = source.changed(random, program);
-            reached.extend(refusals(&program.run(&texts)));
+            reached.extend(programs::refusals_in(&program.run(&texts)));
             changes.extend(kinds.into_iter().map(|change| format!("{change:?}")));
         }
         assert!(reached.iter().eq(program.refusals()), "{reached:?}");

@@ -3,6 +3,7 @@ use mathlib.Core.List.{[], _∷_}
 use native.Mathlib.Omega.{arith}
 use borrow.Author.Needs.{needs}
 use Rattle.text.specs.UnsignedLaws.{held-below}
+use Rattle.service.specs.SizeLaws.{refusal-room}
 use Rattle.service.proofs.LineSteps.{two-below, refusal-put}
 use Rattle.service.proofs.lines.put_refusal.Statement.{statement}
 use Rattle.service.proofs.lines.put_refusal.Tie as tie
@@ -32,7 +33,10 @@ same-length c = search needs
 returns : tie.Need-returns
 returns c =
     let start = c .before .before .before .before .before .before .before in
-    refusal-put (start .args .number) (start .args .line) (omega arith) (omega arith) (c .before .before .put-line .ensures)
+    let number = start .args .number in
+    let line = start .args .line in
+    let put = refusal-put number line (omega arith) (omega arith) (c .before .before .put-line .ensures) in
+    (omega (arith, put .next, refusal-room number line (omega arith) (omega arith)), put)
 
 pub put-refusal-spec : {M : Type 1} → statement M
 put-refusal-spec =

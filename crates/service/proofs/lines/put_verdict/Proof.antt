@@ -72,7 +72,7 @@ same-length-3 : tie.Need-same-length-3
 same-length-3 c = search needs
 
 returns-3 : tie.Need-returns-3
-returns-3 c = put-as (c .before .before .put-refusal .ensures) (ap printVerdict (sym (c .before .before .before .before .before .verdict2 .given .1))) refl
+returns-3 c = put-as (c .before .before .put-refusal .ensures .1) (ap printVerdict (sym (c .before .before .before .before .before .verdict2 .given .1))) refl
 
 pub put-verdict-spec : {M : Type 1} → statement M
 put-verdict-spec =
