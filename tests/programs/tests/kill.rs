@@ -34,7 +34,7 @@ impl Versions {
 
     fn write_texts(&self, folder: &Folder, version: usize) {
         for (file, text) in self.texts[version].iter().enumerate() {
-            folder.write(&format!("{file}.ref"), text);
+            folder.write(format!("{file}.ref"), text);
         }
     }
 }
@@ -49,7 +49,7 @@ fn text(random: &mut Random) -> Vec<u8> {
 }
 
 fn records(folder: &Folder) -> Vec<Vec<u8>> {
-    let record = |file: usize| folder.read(&format!("{file}.env"));
+    let record = |file: usize| folder.read(format!("{file}.env"));
     (0..FILES).map(record).collect()
 }
 

@@ -127,13 +127,13 @@ fn any_name_works() {
     ];
     let folder = Folder::new();
     for name in names {
-        folder.write(&format!("{name}.ref"), REFERENCE);
+        folder.write(format!("{name}.ref"), REFERENCE);
     }
     let count = names.len();
     assert_redrawn(&folder, count, 0);
     for name in names {
         assert_eq!(
-            folder.read(&format!("{name}.env")),
+            folder.read(format!("{name}.env")),
             RECORD.as_bytes(),
             "{name:?}"
         );
@@ -169,7 +169,7 @@ fn a_refused_name_takes_one_line() {
 fn folders_of_any_name_and_from_anywhere() {
     let folder = Folder::new();
     for name in ["-", "--", "-P", "two words", "~", "line\nend"] {
-        folder.write(&format!("{name}/a.ref"), REFERENCE);
+        folder.write(format!("{name}/a.ref"), REFERENCE);
         let mut command = command(path());
         command.args(["redraw", name]).current_dir(folder.path());
         command.env("CDPATH", "/").env("OLDPWD", "/");
@@ -178,7 +178,7 @@ fn folders_of_any_name_and_from_anywhere() {
             "1 drawn, 0 unchanged, 0 refused\n",
             0,
         );
-        assert_eq!(folder.read(&format!("{name}/a.env")), RECORD.as_bytes());
+        assert_eq!(folder.read(format!("{name}/a.env")), RECORD.as_bytes());
     }
 }
 
@@ -261,7 +261,7 @@ fn the_examples_are_unchanged() {
     let folder = Folder::new();
     for point in EXAMPLES {
         for kind in ["ref", "env"] {
-            folder.write(&format!("{point}.{kind}"), example(point, kind));
+            folder.write(format!("{point}.{kind}"), example(point, kind));
         }
     }
     assert_redrawn(&folder, 0, 3);
@@ -274,11 +274,11 @@ fn many_texts_get_their_own_records() {
     let count = 600;
     let text = |value: usize| format!("REF,2,TOC,CND\nA,0,{value}\nB,{value},7\n");
     for value in 0..count {
-        folder.write(&format!("{value}.ref"), text(value));
+        folder.write(format!("{value}.ref"), text(value));
     }
     assert_redrawn(&folder, count, 0);
     for value in 0..count {
         let record = run("draw", &[text(value)]);
-        assert_eq!(folder.read(&format!("{value}.env")), record, "{value}");
+        assert_eq!(folder.read(format!("{value}.env")), record, "{value}");
     }
 }
