@@ -3,7 +3,7 @@
 
 use programs::call::{WAYS, Way};
 use programs::folder::Folder;
-use programs::process::{end, end_on};
+use programs::process::{command, end, end_on};
 use programs::repository::Repository;
 use programs::script::{envelope, redraw};
 use programs::system::{run_without_privileges, set_non_blocking};
@@ -161,14 +161,19 @@ fn an_unreadable_file_is_named() {
         files.iter().for_each(|file| set_mode(file, 0o644));
         for (place, file) in files.iter().enumerate() {
             set_mode(file, 0o000);
-            let mut command = repository.command(name);
-            run_without_privileges(command.args(&files));
+            let mut script = repository.command(name);
+            run_without_privileges(script.args(&files));
             let shown = file.display();
-            let line = match place + 1 == texts(name) {
-                true => format!("envelope: {shown}: Permission denied"),
-                false => format!("{name}: '{shown}': Permission denied"),
-            };
-            end(&mut command, b"").assert_told(&line, 2);
+            if place + 1 == texts(name) {
+                let line = format!("envelope: {shown}: Permission denied");
+                end(&mut script, b"").assert_told(&line, 2);
+                continue;
+            }
+            let line = format!("{name}: '{shown}': Permission denied");
+            end(&mut script, b"").assert_told(&line, 2);
+            let mut alone = command(repository.path().join("target/bin").join(name));
+            run_without_privileges(alone.args(&files[..texts(name) - 1]));
+            end(&mut alone, b"").assert_told(&line, 0);
             set_mode(file, 0o644);
         }
     }
