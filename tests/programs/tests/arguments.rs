@@ -6,7 +6,9 @@ use programs::process::{command, end, end_on};
 use programs::{PROGRAMS, accepted, answer, program, quoted, texts};
 use std::ffi::{OsStr, OsString};
 use std::fs::File;
+use std::net::{TcpListener, TcpStream};
 use std::os::unix::ffi::{OsStrExt, OsStringExt};
+use std::thread;
 
 /// The longest argument that is handed to the system.
 const LONGEST: usize = 4_096;
@@ -238,29 +240,26 @@ fn a_missing_last_file_is_told_by_the_script_in_one_line() {
     }
 }
 
-/// In a redirection the shell takes such names for a socket or a descriptor.
+/// In a redirection the shell takes such names for a socket or a descriptor. The first to call the port
+/// that listens here is this test.
 #[test]
 fn no_name_is_taken_for_a_socket_or_a_descriptor() {
-    let listener = std::net::TcpListener::bind("127.0.0.1:0").expect("a port");
-    listener.set_nonblocking(true).expect("a socket of ours");
-    let port = listener.local_addr().expect("a port").port();
-    let socket = format!("/dev/tcp/127.0.0.1/{port}");
+    let listener = TcpListener::bind("127.0.0.1:0").expect("a port");
+    let address = listener.local_addr().expect("a port");
+    let caller = thread::spawn(move || listener.accept().expect("a caller").1);
+    let socket = format!("/dev/tcp/127.0.0.1/{}", address.port());
     for name in PROGRAMS {
-        for file in [&socket, "/dev/tcp/127.0.0.1/9", "/dev/udp/127.0.0.1/9"] {
+        for file in [&socket, &socket[1..], "/dev/udp/127.0.0.1/9"] {
             let mut files = vec!["/dev/null"; texts(name) - 1];
             files.push(file);
             let line = format!("envelope: {file}: No such file or directory");
             Way::Script.run(name, &files).assert_told(&line, 2);
-            let file = &file[1..];
-            *files.last_mut().expect("a text") = file;
-            let line = format!("envelope: {file}: No such file or directory");
-            Way::Script.run(name, &files).assert_told(&line, 2);
         }
         let files = vec![socket.as_str(); texts(name)];
-        Way::Script
-            .run(name, &files)
-            .assert_failed("No such file or directory");
+        let ended = Way::Script.run(name, &files);
+        ended.assert_failed("No such file or directory");
     }
-    let refused = listener.accept().expect_err("nobody called");
-    assert_eq!(refused.kind(), std::io::ErrorKind::WouldBlock);
+    let own = TcpStream::connect(address).expect("a port that listens");
+    let caller = caller.join().expect("a caller");
+    assert_eq!(caller, own.local_addr().expect("a port"));
 }

@@ -230,7 +230,6 @@ fn an_answer_without_a_byte_ends_in_2() {
     end(&mut repository.command("draw"), b"").assert_told(&line, 2);
 }
 
-/// The script says nothing of its own where standard input cannot be read.
 #[test]
 fn an_empty_text_is_no_failed_read() {
     for name in PROGRAMS {
