@@ -1,16 +1,25 @@
-// Reads a reference text from standard input, and writes the record of the drawing of its rows to standard output, or the refusal.
-use libc::STDIN_FILENO;
-use libc::STDOUT_FILENO;
+// `draw < REFERENCE`: reads a reference text from standard input, and writes to standard output the record of the drawing of its rows,
+// or the refusal.
+use program_io::arguments::arguments;
+use program_io::streams::read_standard_input;
+use program_io::streams::write_output;
 use service::TEXT_READ;
 use service::draw::OUTPUT_MOST;
 
-const INPUT_MOST: usize = TEXT_READ;
+const NAME: [u8; 4] = *b"draw";
 
 fn main() {
-    let mut input = [0u8; INPUT_MOST];
-    let count = io::read_full(STDIN_FILENO, &mut input);
+    if !arguments(&NAME, 0) {
+        return;
+    }
+    let mut reference = [0u8; TEXT_READ];
+    let reference_read = read_standard_input(&NAME, &mut reference);
+    if !reference_read.whole {
+        return;
+    }
+    let reference_length = reference_read.length;
     let mut output = [0u8; OUTPUT_MOST];
-    let answer = service::draw::draw(&input[..count], &mut output);
+    let answer = service::draw::draw(&reference[..reference_length], &mut output);
     let length = answer.length;
-    io::write_all(STDOUT_FILENO, &output[..length]);
+    write_output(&NAME, &output[..length]);
 }

@@ -1,17 +1,43 @@
-// Reads from standard input a reference text, a record and readings, parted by empty lines, and writes to standard output the verdict
-// on each reading, or the refusal of a text.
-use libc::STDIN_FILENO;
-use libc::STDOUT_FILENO;
+// `judge REFERENCE RECORD < READINGS`: reads a reference text and a record from files and readings from standard input, and writes to
+// standard output the verdict on each reading, or the refusal of a text.
+use program_io::arguments::arguments;
+use program_io::streams::read_file;
+use program_io::streams::read_standard_input;
+use program_io::streams::write_output;
 use service::TEXT_READ;
 use service::judge::OUTPUT_MOST;
 
-const INPUT_MOST: usize = 3 * TEXT_READ;
+const NAME: [u8; 5] = *b"judge";
 
 fn main() {
-    let mut input = [0u8; INPUT_MOST];
-    let count = io::read_full(STDIN_FILENO, &mut input);
+    if !arguments(&NAME, 2) {
+        return;
+    }
+    let mut reference = [0u8; TEXT_READ];
+    let reference_read = read_file(&NAME, 1, &mut reference);
+    if !reference_read.whole {
+        return;
+    }
+    let mut record = [0u8; TEXT_READ];
+    let record_read = read_file(&NAME, 2, &mut record);
+    if !record_read.whole {
+        return;
+    }
+    let mut readings = [0u8; TEXT_READ];
+    let readings_read = read_standard_input(&NAME, &mut readings);
+    if !readings_read.whole {
+        return;
+    }
+    let reference_length = reference_read.length;
+    let record_length = record_read.length;
+    let readings_length = readings_read.length;
     let mut output = [0u8; OUTPUT_MOST];
-    let answer = service::judge::judge(&input[..count], &mut output);
+    let answer = service::judge::judge(
+        &reference[..reference_length],
+        &record[..record_length],
+        &readings[..readings_length],
+        &mut output,
+    );
     let length = answer.length;
-    io::write_all(STDOUT_FILENO, &output[..length]);
+    write_output(&NAME, &output[..length]);
 }

@@ -1,17 +1,36 @@
-// Reads from standard input a reference text and a record, parted by an empty line, and writes to standard output tag and shown centre
-// of each channel, or the refusal.
-use libc::STDIN_FILENO;
-use libc::STDOUT_FILENO;
+// `panel REFERENCE < RECORD`: reads a reference text from a file and a record from standard input, and writes to standard output tag and
+// shown centre of each channel, or the refusal.
+use program_io::arguments::arguments;
+use program_io::streams::read_file;
+use program_io::streams::read_standard_input;
+use program_io::streams::write_output;
 use service::TEXT_READ;
 use service::panel::OUTPUT_MOST;
 
-const INPUT_MOST: usize = 2 * TEXT_READ;
+const NAME: [u8; 5] = *b"panel";
 
 fn main() {
-    let mut input = [0u8; INPUT_MOST];
-    let count = io::read_full(STDIN_FILENO, &mut input);
+    if !arguments(&NAME, 1) {
+        return;
+    }
+    let mut reference = [0u8; TEXT_READ];
+    let reference_read = read_file(&NAME, 1, &mut reference);
+    if !reference_read.whole {
+        return;
+    }
+    let mut record = [0u8; TEXT_READ];
+    let record_read = read_standard_input(&NAME, &mut record);
+    if !record_read.whole {
+        return;
+    }
+    let reference_length = reference_read.length;
+    let record_length = record_read.length;
     let mut output = [0u8; OUTPUT_MOST];
-    let answer = service::panel::panel(&input[..count], &mut output);
+    let answer = service::panel::panel(
+        &reference[..reference_length],
+        &record[..record_length],
+        &mut output,
+    );
     let length = answer.length;
-    io::write_all(STDOUT_FILENO, &output[..length]);
+    write_output(&NAME, &output[..length]);
 }

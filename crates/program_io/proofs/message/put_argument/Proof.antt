@@ -1,0 +1,55 @@
+-- The number is printed as the number that it is, in at most 20 bytes.
+use mathlib.Core.Path.{refl, ap}
+use native.Mathlib.Omega.{arith}
+use lib.IntN.{pos, natAbs}
+use Rattle.integers.specs.Absolute.{back64}
+use Rattle.text.specs.Number.{print}
+use Rattle.text.specs.NumberLaws.{print-short}
+use Rattle.text.specs.Put.{Put}
+use Rattle.text.specs.PutLaws.{put-then, put-as}
+use Rattle.program_io.specs.PutLaws.{put-within}
+use borrow.Author.Needs.{needs}
+use Rattle.program_io.proofs.message.put_argument.Statement.{statement}
+use Rattle.program_io.proofs.message.put_argument.Tie as tie
+
+put-program-requires : tie.Need-put-program-requires
+put-program-requires c κs = search needs
+
+slice-aggregate-put-bytes : tie.Need-slice-aggregate-put-bytes
+slice-aggregate-put-bytes c = search needs
+
+put-bytes-requires : tie.Need-put-bytes-requires
+put-bytes-requires c κs = search needs
+
+cast-put-number : tie.Need-cast-put-number
+cast-put-number c = search needs
+
+put-number-requires : tie.Need-put-number-requires
+put-number-requires c κs =
+    let index = c .before .before .before .before .before .before .before .before .before .before .before .before .args .index in
+    (omega (arith, ap natAbs (back64 (pos index) (omega arith))), omega arith)
+
+same-length : tie.Need-same-length
+same-length c = search needs
+
+returns : tie.Need-returns
+returns c =
+    let at-number = c .before .before in
+    let at-word = at-number .before .before .before .before in
+    let at-program = at-word .before .before .before .before .before in
+    let index = at-program .before .before .before .before .args .index in
+    let number : Put (print (pos index)) _ _ _ _ = put-as (at-number .put-number .ensures) (ap print (back64 (pos index) (omega arith))) refl in
+    let short = print-short 19 (pos index) (omega arith) (omega arith) in
+    put-within (put-then (put-then (at-program .put-program .ensures .put) (at-word .put-bytes .ensures)) number) (omega (arith, number .next)) (omega (arith, number .next))
+
+pub put-argument-spec : {M : Type 1} → statement M
+put-argument-spec =
+    tie.close
+    (tie.spec
+    put-program-requires
+    slice-aggregate-put-bytes
+    put-bytes-requires
+    cast-put-number
+    put-number-requires
+    same-length
+    returns)

@@ -1,0 +1,25 @@
+-- The program's part, then the name.
+use native.Mathlib.Omega.{arith}
+use Rattle.text.specs.PutLaws.{put-then}
+use Rattle.program_io.specs.PutLaws.{put-within}
+use borrow.Author.Needs.{needs}
+use Rattle.program_io.proofs.message.put_file.Statement.{statement}
+use Rattle.program_io.proofs.message.put_file.Tie as tie
+
+put-program-requires : tie.Need-put-program-requires
+put-program-requires c κs = search needs
+
+put-name-requires : tie.Need-put-name-requires
+put-name-requires c κs = search needs
+
+same-length : tie.Need-same-length
+same-length c = search needs
+
+returns : tie.Need-returns
+returns c =
+    let at-second = c .before .before in
+    let at-first = at-second .before .before .before .before in
+    put-within (put-then (at-first .put-program .ensures .put) (at-second .put-name .ensures .put)) (omega arith) (omega arith)
+
+pub put-file-spec : {M : Type 1} → statement M
+put-file-spec = tie.close (tie.spec put-program-requires put-name-requires same-length returns)

@@ -1,0 +1,35 @@
+-- The argument's part, then the words.
+use native.Mathlib.Omega.{arith}
+use Rattle.text.specs.PutLaws.{put-then}
+use Rattle.program_io.specs.PutLaws.{put-within}
+use borrow.Author.Needs.{needs}
+use Rattle.program_io.proofs.message.put_missing.Statement.{statement}
+use Rattle.program_io.proofs.message.put_missing.Tie as tie
+
+put-argument-requires : tie.Need-put-argument-requires
+put-argument-requires c κs = search needs
+
+slice-aggregate-put-bytes : tie.Need-slice-aggregate-put-bytes
+slice-aggregate-put-bytes c = search needs
+
+put-bytes-requires : tie.Need-put-bytes-requires
+put-bytes-requires c κs = search needs
+
+same-length : tie.Need-same-length
+same-length c = search needs
+
+returns : tie.Need-returns
+returns c =
+    let at-second = c .before .before in
+    let at-first = at-second .before .before .before .before .before in
+    put-within (put-then (at-first .put-argument .ensures .put) (at-second .put-bytes .ensures)) (omega arith) (omega arith)
+
+pub put-missing-spec : {M : Type 1} → statement M
+put-missing-spec =
+    tie.close
+    (tie.spec
+    put-argument-requires
+    slice-aggregate-put-bytes
+    put-bytes-requires
+    same-length
+    returns)

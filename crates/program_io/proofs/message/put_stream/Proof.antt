@@ -1,0 +1,25 @@
+-- The program's part, then the stream.
+use native.Mathlib.Omega.{arith}
+use Rattle.text.specs.PutLaws.{put-then}
+use Rattle.program_io.specs.PutLaws.{put-within}
+use borrow.Author.Needs.{needs}
+use Rattle.program_io.proofs.message.put_stream.Statement.{statement}
+use Rattle.program_io.proofs.message.put_stream.Tie as tie
+
+put-program-requires : tie.Need-put-program-requires
+put-program-requires c κs = search needs
+
+put-bytes-requires : tie.Need-put-bytes-requires
+put-bytes-requires c κs = search needs
+
+same-length : tie.Need-same-length
+same-length c = search needs
+
+returns : tie.Need-returns
+returns c =
+    let at-second = c .before .before in
+    let at-first = at-second .before .before .before .before in
+    put-within (put-then (at-first .put-program .ensures .put) (at-second .put-bytes .ensures)) (omega arith) (omega arith)
+
+pub put-stream-spec : {M : Type 1} → statement M
+put-stream-spec = tie.close (tie.spec put-program-requires put-bytes-requires same-length returns)

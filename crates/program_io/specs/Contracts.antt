@@ -1,0 +1,28 @@
+-- What the functions of this crate promise besides equations.
+--     ShownLength name r              r is how many bytes of the name are told
+--     PutWithin room w out₀ at out r  the bytes w are printed, within this room
+--     Read r text                     what was read stands in the first places of the slice; nothing where a read failed
+use Prim.Native.Nat.{ℕ, _+_, _≤_}
+use mathlib.Core.Path.{_≡_}
+use mathlib.Core.Bool.{cond}
+use mathlib.Core.List.{List}
+use lib.ListN.{length, take}
+use Rattle.io.specs.Counts.{Counts}
+use Rattle.text.specs.Put.{Put}
+use Rattle.program_io.specs.Name.{nameLimit}
+use Rattle.program_io.specs.declared.descriptor.TextRead.{TextRead}
+
+pub record ShownLength (name : List ℕ) (r : ℕ) : Type 0 where
+  pub is : r ≡ length (take nameLimit name)
+  pub within : r ≤ length name
+  pub most : r ≤ nameLimit
+
+-- the last fact is what a part up to index r asks
+pub record PutWithin (room : ℕ) (w out₀ : List ℕ) (at : ℕ) (out : List ℕ) (r : ℕ) : Type 0 where
+  pub put : Put w out₀ at out r
+  pub most : r ≤ at + room
+  pub part : Counts r out
+
+pub record Read (r : TextRead) (text : List ℕ) : Type 0 where
+  pub part : Counts (r .length) text
+  pub none : cond (r .whole) 0 (r .length) ≡ 0

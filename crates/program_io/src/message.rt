@@ -1,0 +1,144 @@
+// What is told on standard error. Each message starts with the program's name, and goes out in one write up to the reason.
+ghost use Prim.Native.Nat.{_^_, _≤_, _<_};
+ghost use mathlib.Core.Path.{_≡_};
+ghost use lib.ListN.{length};
+ghost use Rattle.program_io.specs.Message.{
+  programPart,
+  argumentPart,
+  missingMessage,
+  namedArgument,
+  excessMessage,
+  fileMessage,
+  streamMessage,
+  streamRoom,
+  programRoom,
+  argumentRoom,
+  namedRoom,
+  messageRoom,
+};
+ghost use Rattle.program_io.specs.Contracts.{PutWithin};
+use crate::name::NAME_ROOM;
+use crate::name::START_ROOM;
+use crate::name::put_name;
+use crate::name::put_start;
+use libc::STDERR_FILENO;
+use text::printing::put_bytes;
+use text::printing::put_number;
+
+const SEPARATOR: [u8; 2] = *b": ";
+
+const ARGUMENT: [u8; 9] = *b"argument ";
+
+const BLANK: [u8; 1] = *b" ";
+
+const MISSING: [u8; 10] = *b": missing\n";
+
+const EXCESS: [u8; 15] = *b": one too many\n";
+
+// room for a number
+const NUMBER_ROOM: usize = 20;
+
+// room for every message; the longest is that of an argument which is one too many, with these parts
+const MESSAGE_ROOM: usize = START_ROOM + 2 + 9 + NUMBER_ROOM + 1 + NAME_ROOM + 15;
+
+// Each of these prints a message at the start of a slice with room for it, and answers its length.
+fn put_program(out: &mut [u8], program: &[u8]) -> usize
+    requires { ⌜ programRoom ≤ length (now out) ⌝ }
+    ensures { λ r. ⌜ PutWithin programRoom (programPart (now (program .entry))) (now (out .entry)) 0 (now (out .exit)) r ⌝ }
+{
+    let end = put_start(out, 0, program);
+    put_bytes(out, end, &SEPARATOR)
+}
+
+fn put_argument(out: &mut [u8], program: &[u8], index: usize) -> usize
+    requires { ⌜ (index < 2 ^ 63) × (argumentRoom ≤ length (now out)) ⌝ }
+    ensures { λ r. ⌜ PutWithin argumentRoom (argumentPart (now (program .entry)) index) (now (out .entry)) 0 (now (out .exit)) r ⌝ }
+{
+    let start = put_program(out, program);
+    let end = put_bytes(out, start, &ARGUMENT);
+    put_number(out, end, index as i64)
+}
+
+fn put_missing(out: &mut [u8], program: &[u8], index: usize) -> usize
+    requires { ⌜ (index < 2 ^ 63) × (messageRoom ≤ length (now out)) ⌝ }
+    ensures { λ r. ⌜ PutWithin messageRoom (missingMessage (now (program .entry)) index) (now (out .entry)) 0 (now (out .exit)) r ⌝ }
+{
+    let end = put_argument(out, program, index);
+    put_bytes(out, end, &MISSING)
+}
+
+fn put_named_argument(out: &mut [u8], program: &[u8], index: usize, name: &[u8]) -> usize
+    requires { ⌜ (index < 2 ^ 63) × (namedRoom ≤ length (now out)) ⌝ }
+    ensures { λ r.
+        ⌜ PutWithin namedRoom (namedArgument (now (program .entry)) index (now (name .entry))) (now (out .entry)) 0 (now (out .exit)) r ⌝ }
+{
+    let end = put_argument(out, program, index);
+    let start = put_bytes(out, end, &BLANK);
+    put_name(out, start, name)
+}
+
+fn put_excess(out: &mut [u8], program: &[u8], index: usize, name: &[u8]) -> usize
+    requires { ⌜ (index < 2 ^ 63) × (messageRoom ≤ length (now out)) ⌝ }
+    ensures { λ r.
+        ⌜ PutWithin messageRoom (excessMessage (now (program .entry)) index (now (name .entry))) (now (out .entry)) 0 (now (out .exit)) r ⌝ }
+{
+    let end = put_named_argument(out, program, index, name);
+    put_bytes(out, end, &EXCESS)
+}
+
+fn put_file(out: &mut [u8], program: &[u8], name: &[u8]) -> usize
+    requires { ⌜ messageRoom ≤ length (now out) ⌝ }
+    ensures { λ r.
+        ⌜ PutWithin messageRoom (fileMessage (now (program .entry)) (now (name .entry))) (now (out .entry)) 0 (now (out .exit)) r ⌝ }
+{
+    let start = put_program(out, program);
+    put_name(out, start, name)
+}
+
+fn put_stream(out: &mut [u8], program: &[u8], stream: &[u8]) -> usize
+    requires { ⌜ (length (now stream) ≤ streamRoom) × (messageRoom ≤ length (now out)) ⌝ }
+    ensures { λ r.
+        ⌜ PutWithin messageRoom (streamMessage (now (program .entry)) (now (stream .entry))) (now (out .entry)) 0 (now (out .exit)) r ⌝ }
+{
+    let start = put_program(out, program);
+    put_bytes(out, start, stream)
+}
+
+pub fn tell_missing(program: &[u8], index: usize)
+    requires { ⌜ index < 2 ^ 63 ⌝ }
+{
+    let mut message = [0u8; MESSAGE_ROOM];
+    let length = put_missing(&mut message, program, index);
+    io::write_all(STDERR_FILENO, &message[..length]);
+}
+
+pub fn tell_excess(program: &[u8], index: usize, name: &[u8])
+    requires { ⌜ index < 2 ^ 63 ⌝ }
+{
+    let mut message = [0u8; MESSAGE_ROOM];
+    let length = put_excess(&mut message, program, index, name);
+    io::write_all(STDERR_FILENO, &message[..length]);
+}
+
+// The reason that follows in these is that of the call which failed last.
+pub fn fail_argument(program: &[u8], index: usize, name: &[u8])
+    requires { ⌜ index < 2 ^ 63 ⌝ }
+{
+    let mut message = [0u8; MESSAGE_ROOM];
+    let length = put_named_argument(&mut message, program, index, name);
+    os::fail(&message[..length]);
+}
+
+pub fn fail_file(program: &[u8], name: &[u8]) {
+    let mut message = [0u8; MESSAGE_ROOM];
+    let length = put_file(&mut message, program, name);
+    os::fail(&message[..length]);
+}
+
+pub fn fail_stream(program: &[u8], stream: &[u8])
+    requires { ⌜ length (now stream) ≤ streamRoom ⌝ }
+{
+    let mut message = [0u8; MESSAGE_ROOM];
+    let length = put_stream(&mut message, program, stream);
+    os::fail(&message[..length]);
+}

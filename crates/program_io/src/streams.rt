@@ -1,0 +1,70 @@
+// The texts that a program reads, and what it writes.
+ghost use Rattle.program_io.specs.Contracts.{Read};
+use crate::descriptor::TextRead;
+use crate::descriptor::not_read;
+use crate::descriptor::read_descriptor;
+use crate::message::fail_argument;
+use crate::message::fail_file;
+use crate::message::fail_stream;
+use crate::message::tell_missing;
+use libc::ENAMETOOLONG;
+use libc::STDIN_FILENO;
+use libc::STDOUT_FILENO;
+
+const STANDARD_INPUT: [u8; 14] = *b"standard input";
+
+const STANDARD_OUTPUT: [u8; 15] = *b"standard output";
+
+// Reads the file of this name. What fails is told before the file is closed, while its reason stands.
+fn read_named(program: &[u8], name: &[u8], text: &mut [u8]) -> TextRead
+    ensures { λ r. ⌜ Read r (now (text .exit)) ⌝ }
+{
+    let descriptor = os::open_read(name);
+    if descriptor < 0 {
+        fail_file(program, name);
+        return not_read();
+    }
+    let read = read_descriptor(descriptor, text);
+    if !read.whole {
+        fail_file(program, name);
+    }
+    libc::close(descriptor);
+    read
+}
+
+// Reads the file that the argument with this index, counted from 1, names, as far as the slice goes. What fails is told.
+pub fn read_file(program: &[u8], index: u32, text: &mut [u8]) -> TextRead
+    ensures { λ r. ⌜ Read r (now (text .exit)) ⌝ }
+{
+    let place = index as usize;
+    let mut name = io::buffer();
+    let length = os::arg(place, &mut name);
+    let error = os::errno();
+    if error == ENAMETOOLONG {
+        fail_argument(program, place, &name);
+        return not_read();
+    }
+    if error != 0 {
+        tell_missing(program, place);
+        return not_read();
+    }
+    read_named(program, &name[..length], text)
+}
+
+// Reads standard input in the same way.
+pub fn read_standard_input(program: &[u8], text: &mut [u8]) -> TextRead
+    ensures { λ r. ⌜ Read r (now (text .exit)) ⌝ }
+{
+    let read = read_descriptor(STDIN_FILENO, text);
+    if !read.whole {
+        fail_stream(program, &STANDARD_INPUT);
+    }
+    read
+}
+
+// Writes to standard output. A write that fails is told.
+pub fn write_output(program: &[u8], output: &[u8]) {
+    if !io::write_all(STDOUT_FILENO, output) {
+        fail_stream(program, &STANDARD_OUTPUT);
+    }
+}
