@@ -145,7 +145,7 @@ fn a_refusal_of_an_earlier_text_stands() {
     assert_eq!(run("judge", &[REFERENCE, "ENV,0\n", &long]), b"NO,11,1\n");
 }
 
-/// Runs a program each way on texts of which one is at another path.
+/// Runs a program on texts of which one is at another path.
 fn with_path(name: &str, place: usize, path: PathBuf, way: Way) -> Ended {
     let folder = Folder::new();
     let mut files = folder.write_texts(&accepted(name));

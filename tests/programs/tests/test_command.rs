@@ -50,7 +50,9 @@ fn no_variable_of_the_caller_reaches_a_test() {
     for name in OTHERS {
         command.env(name, "() { exit 0; }");
     }
-    let ended = end(&mut command, b"");
+    // A file that a shell runs first.
+    let first = repository.folder.write("first", "exit 0\n");
+    let ended = end(command.env("BASH_ENV", first), b"");
     assert!(
         ended.text().ends_with("FAILED: rt fmt --check\n"),
         "{}",
