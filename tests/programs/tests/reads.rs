@@ -13,6 +13,7 @@ use std::io::{PipeReader, PipeWriter, Write, pipe};
 use std::os::unix::ffi::OsStrExt;
 use std::os::unix::fs::{PermissionsExt, symlink};
 use std::path::{Path, PathBuf};
+use std::process::Command;
 
 const NOT_READY: &str = "Resource temporarily unavailable";
 
@@ -153,29 +154,34 @@ fn set_mode(file: &Path, mode: u32) {
     fs::set_permissions(file, fs::Permissions::from_mode(mode)).expect("a file of ours");
 }
 
+/// By itself a program is given only files before its last text, and the script opens that one.
 #[test]
 fn an_unreadable_file_is_named() {
     let repository = built();
     for name in PROGRAMS {
         let files = repository.folder.write_texts(&accepted(name));
+        let (last, before) = files.split_last().expect("a text");
         files.iter().for_each(|file| set_mode(file, 0o644));
-        for (place, file) in files.iter().enumerate() {
+        let told = |file: &PathBuf, mut command: Command, line: String, status: i32| {
             set_mode(file, 0o000);
-            let mut script = repository.command(name);
-            run_without_privileges(script.args(&files));
-            let shown = file.display();
-            if place + 1 == texts(name) {
-                let line = format!("envelope: {shown}: Permission denied");
-                end(&mut script, b"").assert_told(&line, 2);
-                continue;
-            }
-            let line = format!("{name}: '{shown}': Permission denied");
-            end(&mut script, b"").assert_told(&line, 2);
-            let mut alone = command(repository.path().join("target/bin").join(name));
-            run_without_privileges(alone.args(&files[..texts(name) - 1]));
-            end(&mut alone, b"").assert_told(&line, 0);
+            run_without_privileges(&mut command);
+            end(&mut command, b"").assert_told(&line, status);
             set_mode(file, 0o644);
+        };
+        let script = || {
+            let mut script = repository.command(name);
+            script.args(&files);
+            script
+        };
+        for file in before {
+            let line = format!("{name}: '{}': Permission denied", file.display());
+            let mut alone = command(repository.path().join("target/bin").join(name));
+            alone.args(before);
+            told(file, alone, line.clone(), 0);
+            told(file, script(), line, 2);
         }
+        let line = format!("envelope: {}: Permission denied", last.display());
+        told(last, script(), line, 2);
     }
 }
 
