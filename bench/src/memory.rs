@@ -1,12 +1,11 @@
 //! The peak of each program's resident memory, read at its first write: the pipe that it writes to is
 //! full, so that the program waits there.
 
-use std::fs;
 use std::io::{PipeReader, Read, Write, pipe};
-use std::path::Path;
+use std::path::{Path, PathBuf};
 use std::process::{Child, Command, Stdio};
-use std::thread;
 use std::time::Duration;
+use std::{env, fs, process, thread};
 
 const TEXT_LIMIT: usize = 65_536;
 /// What a pipe holds.
@@ -23,22 +22,37 @@ pub fn measure_memory() {
     let rows: String = (0..256).map(row).collect();
     let largest = format!("REF,8{heading}\n{rows}");
     let line_ends = "\n".repeat(TEXT_LIMIT);
-    let judged = format!("{REFERENCE}\n{RECORD}\n{line_ends}");
     let record = String::from_utf8(cundarivo::programs::draw(largest.as_bytes()));
-    let verified = format!("{largest}\n{}", record.expect("a record in ASCII"));
-    for (name, input) in [
-        ("draw", &largest),
+    let verified = [largest.as_str(), &record.expect("a record in ASCII")];
+    for (name, texts) in [
+        ("draw", &verified[..1]),
         ("verify", &verified),
         ("panel", &verified),
-        ("judge", &judged),
+        ("judge", &[REFERENCE, RECORD, &line_ends]),
     ] {
-        let (peak, bytes) = (peak_kibibytes(name, input.as_bytes()), input.len());
+        let (peak, bytes) = (peak_kibibytes(name, texts), texts.concat().len());
         println!("{name:<24}{peak:>12}{bytes:>12}");
     }
 }
 
-fn peak_kibibytes(name: &str, input: &[u8]) -> usize {
-    let (mut child, output) = start(name);
+/// Each text but the last is a file, and the last one comes on standard input.
+fn peak_kibibytes(name: &str, texts: &[&str]) -> usize {
+    let (last, before) = texts.split_last().expect("a text");
+    let folder = env::temp_dir().join(format!("cundarivo-memory-{}", process::id()));
+    fs::create_dir(&folder).expect("a new folder");
+    let write = |(place, text): (usize, &&str)| {
+        let file = folder.join(place.to_string());
+        fs::write(&file, text).expect("a new file");
+        file
+    };
+    let files: Vec<PathBuf> = before.iter().enumerate().map(write).collect();
+    let (child, output) = start(name, &files);
+    let peak = peak_at_first_write(child, output, last.as_bytes());
+    fs::remove_dir_all(&folder).expect("a folder of ours");
+    peak
+}
+
+fn peak_at_first_write(mut child: Child, output: PipeReader, input: &[u8]) -> usize {
     let mut stdin = child.stdin.take().expect("a pipe");
     stdin.write_all(input).expect("a program that reads");
     drop(stdin);
@@ -50,18 +64,18 @@ fn peak_kibibytes(name: &str, input: &[u8]) -> usize {
     let peak = status(&child, "VmHWM:").parse().expect("a number");
     let mut rest = Vec::new();
     (&output).read_to_end(&mut rest).expect("output");
-    assert!(rest.len() > PIPE, "{name} prints something");
+    assert!(rest.len() > PIPE, "the program prints something");
     assert!(child.wait().expect("a program that ends").success());
     peak
 }
 
 /// A program that writes to a full pipe.
-fn start(name: &str) -> (Child, PipeReader) {
+fn start(name: &str, files: &[PathBuf]) -> (Child, PipeReader) {
     let (reader, mut writer) = pipe().expect("a pipe");
     writer.write_all(&[0; PIPE]).expect("a pipe with room");
     let folder = Path::new(env!("CARGO_MANIFEST_DIR")).join("../target/bin");
     let mut command = Command::new(folder.join(name));
-    command.stdin(Stdio::piped()).stdout(writer);
+    command.args(files).stdin(Stdio::piped()).stdout(writer);
     let child = command.spawn().expect("a program that runs");
     (child, reader)
 }

@@ -1,8 +1,12 @@
 //! Temporary folders, removed at the end of a test that passes.
 
+use std::io::Write;
 use std::path::{Path, PathBuf};
 use std::sync::atomic::{AtomicUsize, Ordering};
-use std::{env, fs, process, thread};
+use std::thread::{self, JoinHandle};
+use std::{env, fs, process};
+
+use crate::system;
 
 pub struct Folder {
     path: PathBuf,
@@ -22,14 +26,41 @@ impl Folder {
         &self.path
     }
 
-    pub fn write(&self, name: &str, content: impl AsRef<[u8]>) {
+    /// Writes a file, and gives its path.
+    pub fn write(&self, name: impl AsRef<Path>, content: impl AsRef<[u8]>) -> PathBuf {
         let path = self.path.join(name);
         fs::create_dir_all(path.parent().expect("a folder")).expect("a folder");
-        fs::write(path, content).expect("a file that can be written");
+        fs::write(&path, content).expect("a file that can be written");
+        path
     }
 
-    pub fn read(&self, name: &str) -> Vec<u8> {
-        fs::read(self.path.join(name)).unwrap_or_else(|error| panic!("{name:?}: {error}"))
+    /// Writes each text as a file of its own, and gives their paths.
+    pub fn write_texts<Text: AsRef<[u8]>>(&self, texts: &[Text]) -> Vec<PathBuf> {
+        let named = crate::KINDS.iter().zip(texts);
+        named
+            .map(|(kind, text)| self.write(format!("x.{kind}"), text))
+            .collect()
+    }
+
+    /// Makes a fifo, into which `write` writes once somebody reads it.
+    pub fn write_fifo<Written: Send + 'static>(
+        &self,
+        name: &str,
+        write: impl FnOnce(&mut dyn Write) -> Written + Send + 'static,
+    ) -> (PathBuf, JoinHandle<Written>) {
+        let path = self.path.join(name);
+        system::make_fifo(&path);
+        let fifo = path.clone();
+        let writer = thread::spawn(move || {
+            let mut file = fs::File::options().write(true).open(fifo);
+            write(file.as_mut().expect("a fifo"))
+        });
+        (path, writer)
+    }
+
+    pub fn read(&self, name: impl AsRef<Path>) -> Vec<u8> {
+        let path = self.path.join(name);
+        fs::read(&path).unwrap_or_else(|error| panic!("{}: {error}", path.display()))
     }
 
     pub fn has(&self, name: &str) -> bool {

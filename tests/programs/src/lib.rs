@@ -1,13 +1,20 @@
 //! What the tests of the built programs share. `rt check` builds the programs to `target/bin` of the
 //! repository.
 //!
-//! - `process`: running a program on input, whole or in pieces; peak memory and kills.
+//! - `process`: running a command to its end on input, whole, in pieces or endless.
+//! - `call`: running a program on its texts, by itself and through the script.
+//! - `system`: calls of the system that the standard library has not: fifos, pipes that are not ready,
+//!   peak memory, kills, another user.
 //! - `folder`: temporary folders.
 //! - `script`: running `./envelope`.
+//! - `repository`: the script in a folder of its own, with other tools or programs.
 
+pub mod call;
 pub mod folder;
 pub mod process;
+pub mod repository;
 pub mod script;
+pub mod system;
 
 use std::path::{Path, PathBuf};
 
@@ -23,6 +30,9 @@ pub const RECORD: &str = "ENV,2,TOC,CND\nC,196608,262144\nR,107374182400,1073741
                           W,2,32768\nW,3,32768\n";
 /// A reading of its centre.
 pub const READING: &str = "LOOP-1,TOC,3,CND,4\n";
+
+/// The kinds of a program's texts in their order, which are the ends of their files' names too.
+pub const KINDS: [&str; 3] = ["ref", "env", "readings"];
 
 /// The repository's folder.
 pub fn root() -> PathBuf {
@@ -52,8 +62,30 @@ pub fn texts(name: &str) -> usize {
     }
 }
 
-/// Texts with an empty line between two of them.
-pub fn joined<Text: AsRef<[u8]>>(texts: &[Text]) -> Vec<u8> {
-    let texts: Vec<&[u8]> = texts.iter().map(AsRef::as_ref).collect();
-    texts.join(&b'\n')
+/// Texts that a program accepts.
+pub fn accepted(name: &str) -> Vec<Vec<u8>> {
+    let all = [REFERENCE, RECORD, READING];
+    all[..texts(name)].iter().map(|&text| text.into()).collect()
+}
+
+/// What a program prints of them.
+pub fn answer(name: &str) -> &'static str {
+    match name {
+        "draw" => RECORD,
+        "verify" => "OK\n",
+        "panel" => "TOC,3\nCND,4\n",
+        _ => "QUIET\n",
+    }
+}
+
+/// A name as the programs print it in their messages.
+pub fn quoted(name: &[u8]) -> String {
+    let byte = |&byte: &u8| match byte {
+        b'\\' => "\\x5c".to_string(),
+        33..=126 => char::from(byte).to_string(),
+        _ => format!("\\x{byte:02x}"),
+    };
+    let shown: String = name.iter().take(60).map(byte).collect();
+    let more = if name.len() > 60 { "..." } else { "" };
+    format!("'{shown}'{more}")
 }

@@ -1,80 +1,112 @@
-//! Programs run on input, whole or in pieces; their peak memory; kills of whole process groups.
+//! Commands run to their end on input, whole, in pieces or endless.
 
+use std::ffi::OsStr;
 use std::io::{ErrorKind, Read, Write};
-use std::path::Path;
 use std::process::{Child, Command, Stdio};
-use std::thread;
-use std::time::Duration;
+use std::thread::{self, JoinHandle};
 
-/// What a program printed.
-pub fn run(program: &Path, input: &[u8]) -> Vec<u8> {
-    run_in_pieces(program, input, Duration::ZERO, || input.len().max(1))
+/// What a command left.
+pub struct Ended {
+    pub status: i32,
+    pub output: Vec<u8>,
+    pub messages: String,
 }
 
-/// What a program printed that got its input in pieces, with a pause after each.
-pub fn run_in_pieces(
-    program: &Path,
-    input: &[u8],
-    pause: Duration,
-    mut size: impl FnMut() -> usize,
-) -> Vec<u8> {
-    feed(program, |stdin| {
-        let mut rest = input;
-        while !rest.is_empty() {
-            let (piece, behind) = rest.split_at(size().min(rest.len()));
-            if !written(stdin, piece) {
-                return;
-            }
-            rest = behind;
-            if !pause.is_zero() {
-                thread::sleep(pause);
-            }
-        }
+impl Ended {
+    pub fn text(&self) -> &str {
+        std::str::from_utf8(&self.output).expect("output in UTF-8")
+    }
+
+    /// Asserts the output, the status, and that there is no message.
+    pub fn assert_printed(&self, output: &str, status: i32) {
+        assert_eq!(self.messages, "");
+        assert_eq!((self.text(), self.status), (output, status));
+    }
+
+    /// Asserts that there is no output, and that this line is the only message.
+    pub fn assert_told(&self, line: &str, status: i32) {
+        assert_eq!(self.messages, format!("{line}\n"));
+        assert_eq!((self.text(), self.status), ("", status));
+    }
+
+    /// Asserts status 2, no output, and a message with these words.
+    pub fn assert_failed(&self, words: &str) {
+        assert_eq!((self.status, self.text()), (2, ""), "{}", self.messages);
+        assert!(self.messages.contains(words), "{}", self.messages);
+    }
+}
+
+/// Runs a command on input to its end.
+pub fn end(command: &mut Command, input: &[u8]) -> Ended {
+    end_fed(command, |stdin| {
+        written(stdin, input);
     })
 }
 
-/// What a program printed that was given a start and then the same bytes again and again until it
-/// read no more, and how many bytes the pipe took.
-pub fn run_endless(program: &Path, start: &[u8], repeated: &[u8]) -> (Vec<u8>, usize) {
-    let mut count = 0;
-    let output = feed(program, |stdin| {
-        let mut piece = start;
-        while written(stdin, piece) {
-            count += piece.len();
-            piece = repeated;
-        }
-    });
-    (output, count)
-}
-
-/// Runs a program while `write` writes its input and another thread reads what it prints.
-fn feed(program: &Path, write: impl FnOnce(&mut dyn Write)) -> Vec<u8> {
-    let mut child = start(program);
+/// Runs a command to its end while `write` writes its input.
+pub fn end_fed(command: &mut Command, write: impl FnOnce(&mut dyn Write)) -> Ended {
+    let mut child = start(command.stdin(Stdio::piped()));
     let mut stdin = child.stdin.take().expect("a pipe");
-    let output = collect(child.stdout.take().expect("a pipe"));
+    let collected = collect(&mut child);
     write(&mut stdin);
     drop(stdin);
-    let status = child.wait().expect("a program that ends");
-    assert!(status.success(), "{}: {status}", program.display());
-    output.join().expect("output")
+    wait(child, collected)
 }
 
-fn start(program: &Path) -> Child {
-    let mut command = Command::new(program);
-    let command = command.stdin(Stdio::piped()).stdout(Stdio::piped());
-    command.spawn().expect("a program that runs")
+/// Runs a command to its end that has this standard input.
+pub fn end_on(command: &mut Command, stdin: impl Into<Stdio>) -> Ended {
+    let mut child = start(command.stdin(stdin));
+    let collected = collect(&mut child);
+    wait(child, collected)
 }
 
-fn collect(mut pipe: impl Read + Send + 'static) -> thread::JoinHandle<Vec<u8>> {
+fn start(command: &mut Command) -> Child {
+    let command = command.stdout(Stdio::piped()).stderr(Stdio::piped());
+    command.spawn().expect("a command that runs")
+}
+
+/// Output and messages, read by threads of their own.
+type Collected = [JoinHandle<Vec<u8>>; 2];
+
+fn collect(child: &mut Child) -> Collected {
+    let output = read_all(child.stdout.take().expect("a pipe"));
+    [output, read_all(child.stderr.take().expect("a pipe"))]
+}
+
+fn read_all(mut pipe: impl Read + Send + 'static) -> JoinHandle<Vec<u8>> {
     thread::spawn(move || {
-        let mut output = Vec::new();
-        pipe.read_to_end(&mut output).expect("output");
-        output
+        let mut bytes = Vec::new();
+        pipe.read_to_end(&mut bytes).expect("a pipe");
+        bytes
     })
 }
 
-/// False where the program reads no more.
-fn written(stdin: &mut dyn Write, piece: &[u8]) -> bool {
+fn wait(mut child: Child, collected: Collected) -> Ended {
+    let status = child.wait().expect("a command that ends");
+    let [output, messages] = collected.map(|bytes| bytes.join().expect("a pipe"));
+    Ended {
+        status: status.code().expect("a command that is not killed"),
+        output,
+        messages: String::from_utf8(messages).expect("messages in UTF-8"),
+    }
+}
+
+/// Runs a command on input, and gives what `wait_for_end` made of the process.
+pub fn watch<Seen>(
+    command: &mut Command,
+    input: &[u8],
+    wait_for_end: impl FnOnce(Child) -> Seen,
+) -> (Seen, Vec<u8>) {
+    let mut child = start(command.stdin(Stdio::piped()));
+    let mut stdin = child.stdin.take().expect("a pipe");
+    let [output, _] = collect(&mut child);
+    written(&mut stdin, input);
+    drop(stdin);
+    (wait_for_end(child), output.join().expect("a pipe"))
+}
+
+/// Writes a piece; false where the reader reads no more.
+pub fn written(stdin: &mut dyn Write, piece: &[u8]) -> bool {
     match stdin.write_all(piece) {
         Ok(()) => true,
         Err(error) if error.kind() == ErrorKind::BrokenPipe => false,
@@ -82,45 +114,41 @@ fn written(stdin: &mut dyn Write, piece: &[u8]) -> bool {
     }
 }
 
-/// The first members of C's struct rusage on 64-bit Linux, and room for the others.
-#[repr(C)]
-#[derive(Default)]
-struct ResourceUsage {
-    user_time: [i64; 2],
-    system_time: [i64; 2],
-    peak_kibibytes: i64,
-    others: [i64; 13],
+/// Writes the same bytes again and again until the reader reads no more, and gives how many were taken.
+pub fn write_endless(stdin: &mut dyn Write, repeated: &[u8]) -> usize {
+    let mut count = 0;
+    while written(stdin, repeated) {
+        count += repeated.len();
+    }
+    count
 }
 
-unsafe extern "C" {
-    fn wait4(process: i32, status: *mut i32, options: i32, usage: *mut ResourceUsage) -> i32;
-    fn kill(process: i32, signal: i32) -> i32;
+/// Writes the first bytes one by one, and then the others.
+pub fn write_single_bytes(stdin: &mut dyn Write, bytes: &[u8], singly: usize) {
+    let (first, others) = bytes.split_at(singly.min(bytes.len()));
+    for byte in first {
+        if !written(stdin, &[*byte]) {
+            return;
+        }
+    }
+    written(stdin, others);
 }
 
-const SIGKILL: i32 = 9;
-
-/// Runs a program on input and gives the most kibibytes that it had resident. What the calling
-/// process has resident counts as well, so that this is at least the program's own peak.
-#[expect(clippy::zombie_processes, reason = "wait4 waits for the process")]
-pub fn peak_kibibytes(program: &Path, input: &[u8]) -> i64 {
-    let mut child = start(program);
-    let mut stdin = child.stdin.take().expect("a pipe");
-    let output = collect(child.stdout.take().expect("a pipe"));
-    written(&mut stdin, input);
-    drop(stdin);
-    let (mut status, mut usage) = (0, ResourceUsage::default());
-    let id = child.id() as i32;
-    // SAFETY: both pointers are to places of this function, as large as C's.
-    let ended = unsafe { wait4(id, &mut status, 0, &mut usage) };
-    assert_eq!((ended, status), (id, 0), "the program ends with status 0");
-    assert!(!output.join().expect("output").is_empty());
-    usage.peak_kibibytes
+/// A command that the shell starts with redirections, as `<&-`.
+pub fn redirected(redirections: &str, command: &Command) -> Command {
+    let mut shell = self::command("bash");
+    let script = format!("exec \"$@\" {redirections}");
+    shell.args(["-c", &script, "bash"]);
+    shell.arg(command.get_program()).args(command.get_args());
+    if let Some(folder) = command.get_current_dir() {
+        shell.current_dir(folder);
+    }
+    shell
 }
 
-/// Kills the process group that a child leads, and waits for the child. False where it had ended
-/// before.
-pub fn kill_group(child: &mut Child) -> bool {
-    // SAFETY: the child has not been waited for, so that the group is its own.
-    unsafe { kill(-(child.id() as i32), SIGKILL) };
-    child.wait().expect("an ended child").code().is_none()
+/// A command whose messages are in English.
+pub fn command(program: impl AsRef<OsStr>) -> Command {
+    let mut command = Command::new(program);
+    command.env("LC_ALL", "C");
+    command
 }

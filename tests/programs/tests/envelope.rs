@@ -1,47 +1,64 @@
-//! `./envelope` with the four programs: what it passes on, its exit statuses and its help.
+//! `./envelope` with the four programs: where it takes the texts from, what it passes on, its exit statuses
+//! and its help.
 
+use programs::call::Way;
 use programs::folder::Folder;
-use programs::script::{end, envelope, path};
-use programs::{EXAMPLES, PROGRAMS, READING, RECORD, REFERENCE, TEXT_LIMIT, example, joined};
+use programs::process::{Ended, command, end, end_on};
+use programs::script::{envelope, path};
+use programs::{
+    EXAMPLES, PROGRAMS, READING, RECORD, REFERENCE, TEXT_LIMIT, accepted, answer, example, texts,
+};
 use std::fs::File;
-use std::os::unix::fs::symlink;
-use std::process::Command;
+use std::io::{Seek, SeekFrom, Write};
+use std::os::fd::OwnedFd;
+use std::os::unix::fs::{OpenOptionsExt, symlink};
+use std::os::unix::net::UnixStream;
+use std::path::PathBuf;
+use std::process::Stdio;
 
-fn assert_ends(name: &str, input: impl AsRef<[u8]>, output: &str, status: i32) {
-    let ended = envelope(&[name], input.as_ref());
-    assert_eq!((ended.text(), ended.status), (output, status), "{name}");
-    assert_eq!(ended.messages, "", "{name}");
+fn assert_ends(name: &str, texts: &[&str], output: &str, status: i32) {
+    let folder = Folder::new();
+    let ended = Way::Script.run(name, &folder.write_texts(texts));
+    ended.assert_printed(output, status);
 }
 
 #[test]
 fn accepted_texts_end_in_0() {
-    let two = joined(&[REFERENCE, RECORD]);
-    assert_ends("draw", REFERENCE, RECORD, 0);
-    assert_ends("verify", &two, "OK\n", 0);
-    assert_ends("panel", &two, "TOC,3\nCND,4\n", 0);
-    let three = joined(&[REFERENCE, RECORD, READING]);
-    assert_ends("judge", three, "QUIET\n", 0);
+    for name in PROGRAMS {
+        let texts = &[REFERENCE, RECORD, READING][..texts(name)];
+        assert_ends(name, texts, answer(name), 0);
+    }
 }
 
 #[test]
 fn refused_texts_end_in_1() {
     for name in PROGRAMS {
-        assert_ends(name, "", "NO,1,0\n", 1);
-        assert_ends(name, "REF,0\n", "NO,2,1\n", 1);
-        assert_ends(name, "REF,1,TOC\nA,05\n", "NO,3,2\n", 1);
-        assert_ends(name, "REF,1,TOC\nA,2001\n", "NO,4,2\n", 1);
-        assert_ends(name, "REF,1,TOC\nA,1\nA,2\n", "NO,5,3\n", 1);
-        assert_ends(name, "REF,1,TOC\n", "NO,6,2\n", 1);
+        for (reference, output) in [
+            ("", "NO,1,0\n"),
+            ("REF,0\n", "NO,2,1\n"),
+            ("REF,1,TOC\nA,05\n", "NO,3,2\n"),
+            ("REF,1,TOC\nA,2001\n", "NO,4,2\n"),
+            ("REF,1,TOC\nA,1\nA,2\n", "NO,5,3\n"),
+            ("REF,1,TOC\n", "NO,6,2\n"),
+        ] {
+            let texts = &[reference, RECORD, READING][..texts(name)];
+            assert_ends(name, texts, output, 1);
+        }
     }
+    let other = RECORD.replace("2,S", "2,B");
     for name in ["verify", "panel", "judge"] {
-        assert_ends(name, joined(&[REFERENCE, "ENV,0\n"]), "NO,11,1\n", 1);
-        let other = RECORD.replace("2,S", "2,B");
-        assert_ends(name, joined(&[REFERENCE, &other]), "NO,12,0\n", 1);
+        for (record, output) in [
+            ("", "NO,1,0\n"),
+            ("ENV,0\n", "NO,11,1\n"),
+            (&other, "NO,12,0\n"),
+        ] {
+            let texts = &[REFERENCE, record, READING][..texts(name)];
+            assert_ends(name, texts, output, 1);
+        }
     }
     let long = READING.repeat(TEXT_LIMIT / READING.len() + 1);
     for readings in ["", &long] {
-        let input = joined(&[REFERENCE, RECORD, readings]);
-        assert_ends("judge", input, "NO,1,0\n", 1);
+        assert_ends("judge", &[REFERENCE, RECORD, readings], "NO,1,0\n", 1);
     }
 }
 
@@ -53,101 +70,226 @@ fn refused_readings_end_in_0() {
         ("A,TOC,2001,CND,4\n", "NO,4,1\n"),
         ("A,PH,480,CND,4\n", "NO,10,1\n"),
     ] {
-        assert_ends("judge", joined(&[REFERENCE, RECORD, reading]), verdict, 0);
+        assert_ends("judge", &[REFERENCE, RECORD, reading], verdict, 0);
         let readings = format!("{reading}{READING}");
         let verdicts = format!("{verdict}QUIET\n");
-        assert_ends(
-            "judge",
-            joined(&[REFERENCE, RECORD, &readings]),
-            &verdicts,
-            0,
-        );
+        assert_ends("judge", &[REFERENCE, RECORD, &readings], &verdicts, 0);
     }
 }
 
 #[test]
 fn the_longest_output_is_passed_on_whole() {
-    let input = joined(&[REFERENCE, RECORD, &"\n".repeat(TEXT_LIMIT)]);
-    let ended = envelope(&["judge"], &input);
-    assert!(ended.output == b"NO,3,1\n".repeat(TEXT_LIMIT));
-    assert_eq!(ended.status, 0);
+    let readings = "\n".repeat(TEXT_LIMIT);
+    let verdicts = "NO,3,1\n".repeat(TEXT_LIMIT);
+    assert_ends("judge", &[REFERENCE, RECORD, &readings], &verdicts, 0);
 }
 
 #[test]
 fn the_examples_give_what_stands_beside_them() {
     for point in EXAMPLES {
         let [reference, record, readings, panel, verdicts] =
-            ["ref", "env", "readings", "panel", "verdicts"].map(|kind| example(point, kind));
-        let two = joined(&[&reference, &record]);
-        let three = joined(&[&reference, &record, &readings]);
-        for (name, input, output) in [
-            ("draw", &reference, record.as_slice()),
-            ("verify", &two, b"OK\n"),
-            ("panel", &two, &panel),
-            ("judge", &three, &verdicts),
-        ] {
-            let ended = envelope(&[name], input);
-            assert_eq!(
-                (ended.status, ended.text().as_bytes()),
-                (0, output),
-                "{point}"
-            );
-        }
+            ["ref", "env", "readings", "panel", "verdicts"]
+                .map(|kind| String::from_utf8(example(point, kind)).expect("a text"));
+        assert_ends("draw", &[&reference], &record, 0);
+        assert_ends("verify", &[&reference, &record], "OK\n", 0);
+        assert_ends("panel", &[&reference, &record], &panel, 0);
+        assert_ends("judge", &[&reference, &record, &readings], &verdicts, 0);
         for word in ["QUIET", "ALARM,", "NO,3,1", "NO,4,1", "NO,10,1"] {
-            let text = String::from_utf8_lossy(&verdicts);
-            assert!(text.contains(word), "{point} has no {word}");
+            assert!(verdicts.contains(word), "{point} has no {word}");
         }
     }
 }
 
+/// Runs a program for each of its texts with that one on standard input: by `-`, by `-` behind `--`, and
+/// where it is the last also by leaving it out.
+fn from_standard_input(mut input: impl FnMut(&[u8]) -> Stdio, mut see: impl FnMut(&str, Ended)) {
+    for name in PROGRAMS {
+        let folder = Folder::new();
+        for place in 0..texts(name) {
+            let mut files = folder.write_texts(&accepted(name));
+            files[place] = PathBuf::from("-");
+            let behind = [PathBuf::from("--")].into_iter().chain(files.clone());
+            let mut ways = vec![files.clone(), behind.collect()];
+            if place + 1 == texts(name) {
+                ways.push(files[..place].to_vec());
+            }
+            for words in ways {
+                let input = input(&accepted(name)[place]);
+                see(name, end_on(&mut Way::Script.command(name, &words), input));
+            }
+        }
+    }
+}
+
+#[test]
+fn any_text_is_read_from_a_pipe() {
+    let pipe = |text: &[u8]| {
+        let (reader, mut writer) = std::io::pipe().expect("a pipe");
+        writer.write_all(text).expect("a pipe with room");
+        Stdio::from(reader)
+    };
+    from_standard_input(pipe, |name, ended| ended.assert_printed(answer(name), 0));
+}
+
+#[test]
+fn any_text_is_read_from_a_socket() {
+    let socket = |text: &[u8]| {
+        let (mut here, there) = UnixStream::pair().expect("two sockets");
+        here.write_all(text).expect("a socket with room");
+        Stdio::from(OwnedFd::from(there))
+    };
+    from_standard_input(socket, |name, ended| ended.assert_printed(answer(name), 0));
+}
+
+/// What stands before that place is no part of the text.
+#[test]
+fn any_text_is_read_from_a_place_within_a_file() {
+    let folder = Folder::new();
+    let file = |text: &[u8]| {
+        let before = b"another text\n";
+        let path = folder.write("file", [before, text].concat());
+        let mut file = File::open(path).expect("a file");
+        file.seek(SeekFrom::Start(before.len() as u64))
+            .expect("a place");
+        Stdio::from(file)
+    };
+    from_standard_input(file, |name, ended| ended.assert_printed(answer(name), 0));
+}
+
+#[test]
+fn a_fifo_whose_writer_has_gone_is_an_empty_text() {
+    const O_NONBLOCK: i32 = 0o4000;
+    let folder = Folder::new();
+    programs::system::make_fifo(&folder.path().join("fifo"));
+    let fifo = |_: &[u8]| {
+        let mut options = File::options();
+        let options = options.read(true).custom_flags(O_NONBLOCK);
+        Stdio::from(options.open(folder.path().join("fifo")).expect("a fifo"))
+    };
+    from_standard_input(fifo, |_, ended| ended.assert_printed("NO,1,0\n", 1));
+}
+
+/// The file of that name is `./-`.
+#[test]
+fn a_hyphen_is_standard_input_also_behind_two() {
+    let folder = Folder::new();
+    folder.write("-", REFERENCE);
+    let run = |words: &[&str]| {
+        let mut command = Way::Script.command("draw", words);
+        end(command.current_dir(folder.path()), b"REF,0\n")
+    };
+    for words in [&["-"][..], &["--", "-"], &["-", "--"], &["--"], &[]] {
+        run(words).assert_printed("NO,2,1\n", 1);
+    }
+    for words in [&["./-"][..], &["--", "./-"]] {
+        run(words).assert_printed(RECORD, 0);
+    }
+    run(&["--", "--"]).assert_told("envelope: --: No such file or directory", 2);
+}
+
+#[test]
+fn standard_input_for_two_texts_is_bad_usage() {
+    for words in [
+        &["verify", "-"][..],
+        &["verify", "-", "-"],
+        &["panel", "-"],
+        &["panel", "-", "-"],
+        &["judge", "-", "x.env"],
+        &["judge", "x.ref", "-"],
+        &["judge", "-", "x.env", "-"],
+        &["judge", "x.ref", "-", "-"],
+        &["judge", "-", "-", "x.readings"],
+        &["judge", "-", "-", "-"],
+        &["judge", "--", "-", "-"],
+    ] {
+        let line = format!(
+            "envelope: standard input can be only one of the texts of {}; see 'envelope help'",
+            words[0]
+        );
+        envelope(words, REFERENCE.as_bytes()).assert_told(&line, 2);
+    }
+}
+
+#[test]
+fn too_few_and_too_many_texts_are_bad_usage() {
+    for words in [
+        &["draw", "a", "b"][..],
+        &["draw", "-", "-"],
+        &["draw", "--", "a", "b"],
+        &["verify"],
+        &["verify", "--"],
+        &["verify", "a", "b", "c"],
+        &["panel"],
+        &["panel", "a", "b", ""],
+        &["judge"],
+        &["judge", "a"],
+        &["judge", "-"],
+        &["judge", "a", "b", "c", "d"],
+    ] {
+        let line = format!(
+            "envelope: too few or too many texts for {}; see 'envelope help'",
+            words[0]
+        );
+        envelope(words, REFERENCE.as_bytes()).assert_told(&line, 2);
+    }
+}
+
+/// Also where the number of texts is wrong, and where a file has that name.
+#[test]
+fn an_option_is_bad_usage() {
+    let folder = Folder::new();
+    for (option, shown) in [
+        ("-x", "-x"),
+        ("--help", "--help"),
+        ("---", "---"),
+        ("-two words", "-two\\ words"),
+        ("-\n", "$'-\\n'"),
+    ] {
+        folder.write(option, REFERENCE);
+        for name in PROGRAMS {
+            for words in [&[name, option][..], &[name, "a", "b", option, "d"]] {
+                let mut command = command(path());
+                command.args(words).current_dir(folder.path());
+                let line = format!(
+                    "envelope: there is no option {shown}; for a file of that name write ./{shown}, \
+                     or put -- before it"
+                );
+                end(&mut command, REFERENCE.as_bytes()).assert_told(&line, 2);
+            }
+        }
+    }
+}
+
+#[test]
+fn an_unknown_command_is_bad_usage() {
+    envelope(&["drow"], b"").assert_failed("no command 'drow'");
+    envelope(&[""], b"").assert_failed("no command ''");
+    envelope(&["--", "draw"], b"").assert_failed("no command '--'");
+}
+
+/// A newcomer's first command draws an envelope.
 #[test]
 fn help_names_every_command_and_status() {
     let [long, word, nothing] =
         [vec!["--help"], vec!["help"], vec![]].map(|words| envelope(&words, b""));
     assert_eq!((long.status, word.status, nothing.status), (0, 0, 0));
-    for name in PROGRAMS
-        .into_iter()
-        .chain(["redraw", "Exit status", "empty line"])
-    {
-        assert!(long.text().contains(name), "help does not say {name}");
+    for words in [
+        "envelope draw [REF]\n",
+        "envelope verify REF [ENV]\n",
+        "envelope panel REF [ENV]\n",
+        "envelope judge REF ENV [READINGS]\n",
+        "envelope redraw DIR\n",
+        "Exit status",
+        "standard input",
+        "'--'",
+    ] {
+        assert!(long.text().contains(words), "help does not say {words}");
     }
     assert_eq!(long.text(), word.text());
     assert_eq!(long.text(), nothing.text());
-}
-
-#[test]
-fn bad_usage_ends_in_2() {
-    envelope(&["drow"], b"").assert_failed("no command 'drow'");
-    envelope(&[""], b"").assert_failed("no command ''");
-    for name in PROGRAMS {
-        let ended = envelope(&[name, "loop.ref"], REFERENCE.as_bytes());
-        ended.assert_failed("takes no arguments");
-    }
-}
-
-#[test]
-fn unreadable_input_ends_in_2() {
-    let folder = Folder::new();
-    for name in PROGRAMS {
-        let input = File::open(folder.path()).expect("a folder");
-        let ended = Command::new(path()).arg(name).stdin(input).output();
-        let ended = ended.expect("a script that runs");
-        assert_eq!(ended.status.code(), Some(2));
-        assert!(String::from_utf8_lossy(&ended.stderr).contains("standard input"));
-    }
-}
-
-#[test]
-fn unwritable_output_ends_in_2() {
-    let full = File::options().write(true).open("/dev/full");
-    let mut command = Command::new("bash");
-    command
-        .args(["-c", "\"$1\" help | \"$1\" draw", "bash"])
-        .arg(path());
-    let status = command
-        .stdout(full.expect("a full device"))
-        .stderr(std::process::Stdio::null());
-    assert_eq!(status.status().expect("a script that runs").code(), Some(2));
+    let first = long.text().lines().find(|line| line.contains("./envelope"));
+    let words: Vec<&str> = first.expect("a command").split_whitespace().collect();
+    assert_eq!(words, ["./envelope", "draw", "examples/purified-water.ref"]);
 }
 
 #[test]
@@ -155,10 +297,26 @@ fn it_runs_from_anywhere_and_through_links() {
     let folder = Folder::new();
     symlink(path(), folder.path().join("one")).expect("a link");
     symlink("one", folder.path().join("an other")).expect("a link");
-    let mut command = Command::new("./an other");
-    let ended = end(
-        command.arg("draw").current_dir(folder.path()),
-        REFERENCE.as_bytes(),
-    );
-    assert_eq!((ended.text(), ended.status), (RECORD, 0));
+    folder.write("x.ref", REFERENCE);
+    let mut command = command("./an other");
+    command.args(["draw", "x.ref"]).current_dir(folder.path());
+    end(&mut command, b"").assert_printed(RECORD, 0);
+}
+
+/// The copy of standard input has no name.
+#[test]
+fn no_temporary_file_is_left_and_none_is_needed_without_a_copy() {
+    let folder = Folder::new();
+    let files = folder.write_texts(&[REFERENCE, RECORD]);
+    let temporary = Folder::new();
+    let copied = [PathBuf::from("-"), files[1].clone()];
+    let mut command = Way::Script.command("verify", &copied);
+    command.env("TMPDIR", temporary.path());
+    end(&mut command, REFERENCE.as_bytes()).assert_printed("OK\n", 0);
+    assert_eq!(temporary.names(), [""; 0]);
+    command.env("TMPDIR", "/none");
+    let line = "envelope: no temporary file: No such file or directory";
+    end(&mut command, REFERENCE.as_bytes()).assert_told(line, 2);
+    let mut command = Way::Script.command("verify", &files);
+    end(command.env("TMPDIR", "/none"), b"").assert_printed("OK\n", 0);
 }

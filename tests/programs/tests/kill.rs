@@ -1,11 +1,11 @@
 //! `./envelope redraw` killed with all its processes at random moments: every record that was there is
 //! the old or the new one, whole, and the next undisturbed run completes.
 
-use outside::random::{Random, number_from_environment};
+use outside::random::{Random, seed_from_environment};
+use programs::call::run;
 use programs::folder::Folder;
-use programs::process::{kill_group, run};
-use programs::program;
 use programs::script::{path, redraw};
+use programs::system::kill_group;
 use std::fs::File;
 use std::os::unix::process::CommandExt;
 use std::process::{Child, Command, Stdio};
@@ -24,9 +24,8 @@ struct Versions {
 
 impl Versions {
     fn new(random: &mut Random) -> Versions {
-        let draw = program("draw");
         let texts = [0, 1].map(|_| (0..FILES).map(|_| text(random)).collect::<Vec<_>>());
-        let record = |text: &Vec<u8>| run(&draw, text);
+        let record = |text: &Vec<u8>| run("draw", &[text]);
         let records = texts
             .each_ref()
             .map(|texts| texts.iter().map(record).collect());
@@ -35,7 +34,7 @@ impl Versions {
 
     fn write_texts(&self, folder: &Folder, version: usize) {
         for (file, text) in self.texts[version].iter().enumerate() {
-            folder.write(&format!("{file}.ref"), text);
+            folder.write(format!("{file}.ref"), text);
         }
     }
 }
@@ -50,7 +49,7 @@ fn text(random: &mut Random) -> Vec<u8> {
 }
 
 fn records(folder: &Folder) -> Vec<Vec<u8>> {
-    let record = |file: usize| folder.read(&format!("{file}.env"));
+    let record = |file: usize| folder.read(format!("{file}.env"));
     (0..FILES).map(record).collect()
 }
 
@@ -90,7 +89,7 @@ fn wait_for_end(folder: &Folder) {
 
 #[test]
 fn killed_runs_leave_whole_records() {
-    let seed = number_from_environment("SEED", SEED);
+    let seed = seed_from_environment(SEED);
     println!("seed {seed}");
     let mut random = Random::new(seed);
     let versions = Versions::new(&mut random);

@@ -1,46 +1,135 @@
-//! Input at and above the limit on a text, endless input, and the longest output.
+//! Texts at and above the limit in each place, from files and from pipes; endless texts; and the longest
+//! output.
 
-use programs::process::{run, run_endless};
-use programs::{PROGRAMS, READING, RECORD, REFERENCE, TEXT_LIMIT, joined, program, texts};
+use programs::call::{WAYS, Way, run};
+use programs::folder::Folder;
+use programs::process::{Ended, end_fed, end_on, write_endless, write_single_bytes};
+use programs::{PROGRAMS, READING, RECORD, REFERENCE, TEXT_LIMIT, accepted, texts};
+use std::fs::File;
+use std::io::{Seek, Write};
+use std::path::PathBuf;
+use std::process::{Command, Stdio};
 
-const TOO_LONG: &[u8] = b"NO,1,0\n";
+const TOO_LONG: &str = "NO,1,0\n";
 /// Several times what any program reads.
 const MEGABYTES: usize = 3 << 20;
 /// What a pipe holds that nobody has read.
 const PIPE: usize = 65_536;
+/// How many bytes come one by one.
+const SINGLY: usize = 3_000;
 
-/// The texts before the one at this place that a program accepts, with the line that parts.
-fn before(place: usize) -> Vec<u8> {
-    [REFERENCE, "\n", RECORD, "\n"][..2 * place]
-        .concat()
-        .into_bytes()
+/// A text of so many bytes for a place, and what is printed of it where that is within the limit: a
+/// reference text that a missing last byte would make one out of form (3), a record out of form, and
+/// readings whose number is that of the bytes.
+fn filled(place: usize, length: usize) -> (Vec<u8>, String) {
+    match place {
+        0 => {
+            let digits = "1".repeat(length - 13);
+            let text = format!("REF,1,TOC\nA,{digits}\n");
+            (text.into_bytes(), "NO,4,2\n".to_string())
+        }
+        1 => {
+            let rest = "W,1,65536\n".bytes().cycle();
+            let text: Vec<u8> = RECORD.bytes().chain(rest).take(length).collect();
+            (text, "NO,11,6\n".to_string())
+        }
+        _ => (vec![b'\n'; length], "NO,3,1\n".repeat(length)),
+    }
 }
 
-/// A text of so many bytes without an empty line.
-fn filled(length: usize) -> Vec<u8> {
-    READING.bytes().cycle().take(length).collect()
+/// The texts of a program with one of so many bytes, and what is printed of them.
+fn with_filled(name: &str, place: usize, length: usize) -> (Vec<Vec<u8>>, String) {
+    let (text, output) = filled(place, length);
+    let mut texts = accepted(name);
+    texts[place] = text;
+    match length <= TEXT_LIMIT {
+        true => (texts, output),
+        false => (texts, TOO_LONG.to_string()),
+    }
 }
 
-#[test]
-fn a_text_above_the_limit_is_refused_by_1() {
+fn assert_ends(ended: &Ended, way: Way, output: &str) {
+    assert_eq!(ended.messages, "");
+    assert!(
+        ended.output == output.as_bytes(),
+        "{} bytes",
+        ended.output.len()
+    );
+    // Readings that are refused are no refused text.
+    let status = if output.starts_with("NO,3,1") {
+        0
+    } else {
+        way.refused()
+    };
+    assert_eq!(ended.status, status);
+}
+
+/// Tries texts at the limit and above in each place.
+fn at_the_limit(mut try_texts: impl FnMut(Way, &str, usize, &[Vec<u8>]) -> Ended) {
     for name in PROGRAMS {
         for place in 0..texts(name) {
-            for length in [TEXT_LIMIT + 1, TEXT_LIMIT + 2, 2 * TEXT_LIMIT, MEGABYTES] {
-                let input = [before(place), filled(length)].concat();
-                let output = run(&program(name), &input);
-                assert_eq!(output, TOO_LONG, "{name}, text {place} of {length} bytes");
+            for length in [TEXT_LIMIT, TEXT_LIMIT + 1] {
+                let (texts, output) = with_filled(name, place, length);
+                for way in WAYS {
+                    assert_ends(&try_texts(way, name, place, &texts), way, &output);
+                }
             }
         }
     }
 }
 
 #[test]
-fn a_text_at_the_limit_is_read() {
+fn a_text_at_the_limit_is_read_and_one_above_refused_from_a_file() {
+    at_the_limit(|way, name, _, texts| {
+        let folder = Folder::new();
+        way.run(name, &folder.write_texts(texts))
+    });
+}
+
+/// A fifo stands for the text in its place.
+#[test]
+fn a_text_at_the_limit_is_read_and_one_above_refused_from_a_named_pipe_in_single_bytes() {
+    at_the_limit(|way, name, place, texts| {
+        let folder = Folder::new();
+        let mut files = folder.write_texts(texts);
+        let text = texts[place].clone();
+        let (fifo, writer) = folder.write_fifo("fifo", move |pipe| {
+            write_single_bytes(pipe, &text, SINGLY);
+        });
+        files[place] = fifo;
+        let ended = way.run(name, &files);
+        writer.join().expect("a writer that ends");
+        ended
+    });
+}
+
+#[test]
+fn a_text_at_the_limit_is_read_and_one_above_refused_from_standard_input_in_single_bytes() {
+    at_the_limit(|way, name, place, texts| {
+        let folder = Folder::new();
+        let files = folder.write_texts(texts);
+        match with_standard_input(way, name, place, &files) {
+            Some(mut command) => end_fed(&mut command, |pipe| {
+                write_single_bytes(pipe, &texts[place], SINGLY);
+            }),
+            None => way.run(name, &files),
+        }
+    });
+}
+
+#[test]
+fn a_text_far_above_the_limit_is_refused_by_1() {
     for name in PROGRAMS {
         for place in 0..texts(name) {
-            let input = [before(place), filled(TEXT_LIMIT)].concat();
-            let output = run(&program(name), &input);
-            assert_ne!(output, TOO_LONG, "{name}, text {place}");
+            for length in [TEXT_LIMIT + 2, 2 * TEXT_LIMIT, MEGABYTES] {
+                let (texts, _) = with_filled(name, place, length);
+                let output = run(name, &texts);
+                assert_eq!(
+                    output,
+                    TOO_LONG.as_bytes(),
+                    "{name}, text {place} of {length} bytes"
+                );
+            }
         }
     }
 }
@@ -48,56 +137,117 @@ fn a_text_at_the_limit_is_read() {
 /// What follows a refused text changes nothing, whatever its length.
 #[test]
 fn a_refusal_of_an_earlier_text_stands() {
+    let long = "A,0\n".repeat(MEGABYTES / 4);
     let refused = "REF,1,TOC\nA,2001\n";
-    for name in ["verify", "panel", "judge"] {
-        let input = joined(&[refused.as_bytes(), &filled(MEGABYTES)]);
-        assert_eq!(run(&program(name), &input), b"NO,4,2\n", "{name}");
-    }
-    let input = joined(&[REFERENCE.as_bytes(), b"ENV,0\n", &filled(MEGABYTES)]);
-    assert_eq!(run(&program("judge"), &input), b"NO,11,1\n");
+    assert_eq!(run("verify", &[refused, &long]), b"NO,4,2\n");
+    assert_eq!(run("panel", &[refused, &long]), b"NO,4,2\n");
+    assert_eq!(run("judge", &[refused, &long, &long]), b"NO,4,2\n");
+    assert_eq!(run("judge", &[REFERENCE, "ENV,0\n", &long]), b"NO,11,1\n");
+}
+
+/// Runs a program on texts of which one is at another path.
+fn with_path(name: &str, place: usize, path: PathBuf, way: Way) -> Ended {
+    let folder = Folder::new();
+    let mut files = folder.write_texts(&accepted(name));
+    files[place] = path;
+    way.run(name, &files)
+}
+
+/// Asserts what becomes of the same bytes again and again from a fifo, and that most stay unread.
+fn assert_endless_refused(way: Way, name: &str, place: usize, repeated: &str) {
+    let folder = Folder::new();
+    let repeated = repeated.to_string();
+    let endless = move |pipe: &mut dyn Write| write_endless(pipe, repeated.as_bytes());
+    let (fifo, writer) = folder.write_fifo("fifo", endless);
+    let ended = with_path(name, place, fifo, way);
+    assert_ends(&ended, way, TOO_LONG);
+    let taken = writer.join().expect("a writer that ends");
+    assert!(taken <= TEXT_LIMIT + 1 + PIPE, "{name} took {taken} bytes");
 }
 
 #[test]
-fn endless_input_ends_in_a_refusal_by_1() {
-    let lines = filled(READING.len() * 500);
-    let zeros = vec![0; 10_000];
+fn an_endless_named_pipe_is_refused_by_1() {
     for name in PROGRAMS {
-        let read = texts(name) * (TEXT_LIMIT + 1);
+        for (place, way) in (0..texts(name)).flat_map(|place| WAYS.map(|way| (place, way))) {
+            assert_endless_refused(way, name, place, &READING.repeat(500));
+            assert_endless_refused(way, name, place, &"\n".repeat(10_000));
+            assert_endless_refused(way, name, place, &"\0".repeat(10_000));
+        }
+    }
+}
+
+#[test]
+fn an_endless_device_is_refused_by_1() {
+    for name in PROGRAMS {
         for place in 0..texts(name) {
-            for repeated in [&lines, &zeros] {
-                let (output, taken) = run_endless(&program(name), &before(place), repeated);
-                assert_eq!(output, TOO_LONG, "{name}, text {place}");
-                assert!(taken <= read + PIPE, "{name} took {taken} bytes");
+            for way in WAYS {
+                let ended = with_path(name, place, PathBuf::from("/dev/zero"), way);
+                assert_ends(&ended, way, TOO_LONG);
             }
         }
     }
 }
 
-/// Empty lines without end: the readings of `judge` are those behind its two texts, the other texts
-/// are empty.
-#[test]
-fn endless_line_ends_are_refused_by_1() {
-    let lines = vec![b'\n'; 10_000];
-    for name in ["verify", "panel", "judge"] {
-        assert_eq!(
-            run_endless(&program(name), b"\n", &lines).0,
-            TOO_LONG,
-            "{name}"
-        );
+/// A program with one of its texts on standard input and the others in files; by itself it takes only the
+/// last one from there.
+fn with_standard_input(way: Way, name: &str, place: usize, files: &[PathBuf]) -> Option<Command> {
+    if place + 1 == files.len() {
+        return Some(way.command(name, &files[..place]));
     }
-    assert_eq!(
-        run_endless(&program("judge"), &before(2), &lines).0,
-        TOO_LONG
-    );
+    let mut words = files.to_vec();
+    words[place] = PathBuf::from("-");
+    match way {
+        Way::Program => None,
+        Way::Script => Some(way.command(name, &words)),
+    }
+}
+
+/// `yes` ends when nobody reads what it writes.
+#[test]
+fn an_endless_standard_input_is_refused_by_1() {
+    for name in PROGRAMS {
+        let folder = Folder::new();
+        let files = folder.write_texts(&accepted(name));
+        for (place, way) in (0..texts(name)).flat_map(|place| WAYS.map(|way| (place, way))) {
+            let Some(mut command) = with_standard_input(way, name, place, &files) else {
+                continue;
+            };
+            let yes = Command::new("yes").stdout(Stdio::piped()).spawn();
+            let mut yes = yes.expect("a command that runs");
+            let input = yes.stdout.take().expect("a pipe");
+            let ended = end_on(&mut command, input);
+            assert_ends(&ended, way, TOO_LONG);
+            drop(command);
+            yes.wait().expect("a command that ends");
+        }
+    }
 }
 
 #[test]
 fn the_longest_output_is_printed_whole() {
-    let input = [before(2), vec![b'\n'; TEXT_LIMIT]].concat();
-    let output = run(&program("judge"), &input);
+    let line_ends = "\n".repeat(TEXT_LIMIT);
+    let output = run("judge", &[REFERENCE, RECORD, &line_ends]);
     assert!(
         output == b"NO,3,1\n".repeat(TEXT_LIMIT),
         "{} bytes",
         output.len()
     );
+}
+
+/// What is behind the bytes that are read stays for the next reader of the same input.
+#[test]
+fn no_more_than_the_limit_and_one_byte_is_read() {
+    let folder = Folder::new();
+    let path = folder.write("long", vec![b'7'; MEGABYTES]);
+    for name in PROGRAMS {
+        let files = folder.write_texts(&accepted(name));
+        for way in WAYS {
+            let mut input = File::open(&path).expect("a file");
+            let shared = input.try_clone().expect("a descriptor");
+            let ended = way.run_on(name, &files[..texts(name) - 1], shared);
+            assert_ends(&ended, way, TOO_LONG);
+            let position = input.stream_position();
+            assert_eq!(position.expect("a position"), TEXT_LIMIT as u64 + 1);
+        }
+    }
 }

@@ -1,35 +1,47 @@
 //! The peak of each program's resident memory on its largest input. It is the only test of its
 //! process, since what this process has resident counts as well.
 
-use programs::process::{peak_kibibytes, run};
-use programs::{PROGRAMS, RECORD, REFERENCE, TEXT_LIMIT, joined, program};
+use programs::call::{Way, run};
+use programs::folder::Folder;
+use programs::process::watch;
+use programs::system::wait_for_peak;
+use programs::{PROGRAMS, RECORD, REFERENCE, TEXT_LIMIT, texts};
 
 const LIMIT_KIBIBYTES: i64 = 8 * 1_024;
 
-/// The largest accepted reference text, its record behind it where one is read; the longest output of
-/// `judge`; and as many bytes as any program reads.
-fn largest(name: &str) -> [Vec<u8>; 2] {
+/// The largest accepted reference text with its record, or the longest output of `judge`; and as many
+/// bytes as any program reads.
+fn largest(name: &str) -> [Vec<Vec<u8>>; 2] {
     let heading = format!("REF,8{}\n", ",ORP,CND".repeat(4));
     let row = |number: usize| format!("POINT-{number:06}{}\n", ",-1999,<3999".repeat(4));
     let reference = [heading].into_iter().chain((0..256).map(row));
     let reference = reference.collect::<String>().into_bytes();
-    let accepted = match name {
-        "draw" => reference,
-        "judge" => joined(&[REFERENCE, RECORD, &"\n".repeat(TEXT_LIMIT)]),
-        _ => joined(&[&reference, &run(&program("draw"), &reference)]),
+    let mut accepted = match name {
+        "judge" => [REFERENCE, RECORD, &"\n".repeat(TEXT_LIMIT)]
+            .map(Vec::from)
+            .to_vec(),
+        _ => vec![reference.clone(), run("draw", &[reference])],
     };
-    [accepted, vec![b'7'; 3 * (TEXT_LIMIT + 1)]]
+    accepted.truncate(texts(name));
+    [accepted, vec![vec![b'7'; TEXT_LIMIT + 1]; texts(name)]]
+}
+
+fn peak_kibibytes(name: &str, texts: &[Vec<u8>]) -> i64 {
+    let folder = Folder::new();
+    let (last, before) = texts.split_last().expect("a text");
+    let mut command = Way::Program.command(name, &folder.write_texts(before));
+    let (peak, output) = watch(&mut command, last, wait_for_peak);
+    assert!(!output.is_empty());
+    peak
 }
 
 #[test]
 fn peak_resident_memory_is_within_8_mebibytes() {
     for name in PROGRAMS {
-        for input in largest(name) {
-            let peak = peak_kibibytes(&program(name), &input);
-            println!(
-                "{name}: at most {peak} KiB resident on {} bytes",
-                input.len()
-            );
+        for texts in largest(name) {
+            let peak = peak_kibibytes(name, &texts);
+            let bytes = texts.concat().len();
+            println!("{name}: at most {peak} KiB resident on {bytes} bytes");
             assert!(peak <= LIMIT_KIBIBYTES, "{name}: {peak} KiB");
         }
     }

@@ -48,7 +48,7 @@ fn printed(steps: &[Step]) -> Vec<String> {
 fn the_worked_example_prints_what_it_says() {
     let readme = std::fs::read_to_string(root().join("README.md")).expect("README");
     let blocks = blocks(&readme);
-    assert_eq!(blocks.iter().map(Vec::len).sum::<usize>(), 7, "commands");
+    assert_eq!(blocks.iter().map(Vec::len).sum::<usize>(), 8, "commands");
     for block in blocks {
         let said: Vec<String> = block.iter().map(|(_, output)| output.clone()).collect();
         assert_eq!(printed(&block), said);

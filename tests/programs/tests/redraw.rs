@@ -1,12 +1,14 @@
 //! `./envelope redraw`: what it draws, leaves alone, turns back and reports.
 
+use programs::call::run;
 use programs::folder::Folder;
-use programs::process::run;
-use programs::script::{Ended, end, path, redraw};
-use programs::{EXAMPLES, RECORD, REFERENCE, example, program};
+use programs::process::{Ended, command, end};
+use programs::script::{path, redraw};
+use programs::{EXAMPLES, RECORD, REFERENCE, example};
+use std::ffi::OsStr;
 use std::fs::{self, File};
+use std::os::unix::ffi::OsStrExt;
 use std::os::unix::fs::{MetadataExt, symlink};
-use std::process::Command;
 
 const ONE_ROW: &str = "REF,1,TOC\nA,5\n";
 const ONE_ROW_RECORD: &[u8] = b"ENV,1,TOC\nC,327680\nR,0,0,0,S\nW,1,65536\n";
@@ -125,18 +127,34 @@ fn any_name_works() {
     ];
     let folder = Folder::new();
     for name in names {
-        folder.write(&format!("{name}.ref"), REFERENCE);
+        folder.write(format!("{name}.ref"), REFERENCE);
     }
     let count = names.len();
     assert_redrawn(&folder, count, 0);
     for name in names {
         assert_eq!(
-            folder.read(&format!("{name}.env")),
+            folder.read(format!("{name}.env")),
             RECORD.as_bytes(),
             "{name:?}"
         );
     }
     assert_eq!(folder.names().len(), 2 * count);
+}
+
+#[test]
+fn names_are_bytes() {
+    for locale in ["C", "C.UTF-8"] {
+        let folder = Folder::new();
+        folder.write(OsStr::from_bytes(b"\xff.ref"), REFERENCE);
+        folder.write(OsStr::from_bytes(b"a\xc3.ref"), "REF,0\n");
+        let mut command = command(path());
+        command.arg("redraw").arg(folder.path());
+        let ended = end(command.env("LC_ALL", locale), b"");
+        let summary = "1 drawn, 0 unchanged, 1 refused\n$'a\\303.ref': NO,2,1\n";
+        assert_ends(&ended, summary, 1);
+        let record = folder.read(OsStr::from_bytes(b"\xff.env"));
+        assert_eq!(record, RECORD.as_bytes());
+    }
 }
 
 #[test]
@@ -151,8 +169,8 @@ fn a_refused_name_takes_one_line() {
 fn folders_of_any_name_and_from_anywhere() {
     let folder = Folder::new();
     for name in ["-", "--", "-P", "two words", "~", "line\nend"] {
-        folder.write(&format!("{name}/a.ref"), REFERENCE);
-        let mut command = Command::new(path());
+        folder.write(format!("{name}/a.ref"), REFERENCE);
+        let mut command = command(path());
         command.args(["redraw", name]).current_dir(folder.path());
         command.env("CDPATH", "/").env("OLDPWD", "/");
         assert_ends(
@@ -160,7 +178,7 @@ fn folders_of_any_name_and_from_anywhere() {
             "1 drawn, 0 unchanged, 0 refused\n",
             0,
         );
-        assert_eq!(folder.read(&format!("{name}/a.env")), RECORD.as_bytes());
+        assert_eq!(folder.read(format!("{name}/a.env")), RECORD.as_bytes());
     }
 }
 
@@ -179,7 +197,7 @@ fn bad_usage_ends_in_2() {
     let folder = Folder::new();
     folder.write("a.ref", REFERENCE);
     let run = |words: &[&str]| {
-        let mut command = Command::new(path());
+        let mut command = command(path());
         end(
             command.arg("redraw").args(words).current_dir(folder.path()),
             b"",
@@ -243,7 +261,7 @@ fn the_examples_are_unchanged() {
     let folder = Folder::new();
     for point in EXAMPLES {
         for kind in ["ref", "env"] {
-            folder.write(&format!("{point}.{kind}"), example(point, kind));
+            folder.write(format!("{point}.{kind}"), example(point, kind));
         }
     }
     assert_redrawn(&folder, 0, 3);
@@ -256,12 +274,11 @@ fn many_texts_get_their_own_records() {
     let count = 600;
     let text = |value: usize| format!("REF,2,TOC,CND\nA,0,{value}\nB,{value},7\n");
     for value in 0..count {
-        folder.write(&format!("{value}.ref"), text(value));
+        folder.write(format!("{value}.ref"), text(value));
     }
     assert_redrawn(&folder, count, 0);
-    let draw = program("draw");
     for value in 0..count {
-        let record = run(&draw, text(value).as_bytes());
-        assert_eq!(folder.read(&format!("{value}.env")), record, "{value}");
+        let record = run("draw", &[text(value)]);
+        assert_eq!(folder.read(format!("{value}.env")), record, "{value}");
     }
 }

@@ -1,14 +1,15 @@
-//! The stored inputs: each program prints the stored output, byte for byte, whether the input comes
+//! The stored texts: each program prints the stored output, byte for byte, whether the last text comes
 //! whole or in pieces.
 
 use outside::random::Random;
-use programs::process::{run, run_in_pieces};
-use programs::{EXAMPLES, PROGRAMS, example, joined, program};
+use programs::call::{run, run_in_pieces};
+use programs::{EXAMPLES, KINDS, PROGRAMS, example, texts};
 use std::collections::BTreeSet;
-use std::path::Path;
+use std::path::{Path, PathBuf};
 use std::time::Duration;
 
-/// Inputs up to this length come in pieces of 1 to 7 bytes, longer ones in larger pieces.
+const LEAST_CASES: usize = 45;
+/// Texts up to this length come in pieces of 1 to 7 bytes, longer ones in larger pieces.
 const SMALL: usize = 1_000;
 const PIECES: usize = 150;
 const PAUSE: Duration = Duration::from_micros(100);
@@ -16,48 +17,61 @@ const SEED: u64 = 8;
 
 struct Case {
     name: String,
-    input: Vec<u8>,
+    texts: Vec<Vec<u8>>,
     output: Vec<u8>,
 }
 
 /// The stored cases of a program and those of the examples.
 fn cases(name: &str) -> Vec<Case> {
     let mut cases = stored(name);
-    assert!(cases.len() >= 25, "{name} has {} stored cases", cases.len());
     cases.extend(EXAMPLES.map(|point| of_example(name, point)));
     cases
 }
 
+/// Each output has as many texts beside it as the program takes, and there is no other file.
 fn stored(name: &str) -> Vec<Case> {
     let folder = Path::new(env!("CARGO_MANIFEST_DIR"))
         .join("stored")
         .join(name);
     let entries = std::fs::read_dir(folder).expect("stored cases");
-    let paths = entries.map(|entry| entry.expect("an entry").path());
-    let inputs = paths.filter(|path| path.extension().is_some_and(|kind| kind == "in"));
-    let case = |path: std::path::PathBuf| Case {
-        name: path.display().to_string(),
-        input: std::fs::read(&path).expect("an input"),
-        output: std::fs::read(path.with_extension("out")).expect("its output"),
+    let paths: Vec<PathBuf> = entries
+        .map(|entry| entry.expect("an entry").path())
+        .collect();
+    let outputs = paths
+        .iter()
+        .filter(|path| path.extension().is_some_and(|kind| kind == "out"));
+    let cases: Vec<Case> = outputs.map(|output| read_case(name, output)).collect();
+    assert_eq!(paths.len(), (texts(name) + 1) * cases.len(), "{name}");
+    assert!(cases.len() >= LEAST_CASES, "{name} has {}", cases.len());
+    cases
+}
+
+fn read_case(name: &str, output: &Path) -> Case {
+    let read = |path: &Path| {
+        std::fs::read(path).unwrap_or_else(|error| panic!("{}: {error}", path.display()))
     };
-    inputs.map(case).collect()
+    let kinds = &KINDS[..texts(name)];
+    Case {
+        name: output.display().to_string(),
+        texts: kinds
+            .iter()
+            .map(|kind| read(&output.with_extension(kind)))
+            .collect(),
+        output: read(output),
+    }
 }
 
 fn of_example(name: &str, point: &str) -> Case {
-    let [reference, record] = ["ref", "env"].map(|kind| example(point, kind));
-    let (input, output) = match name {
-        "draw" => (reference, record),
-        "verify" => (joined(&[reference, record]), b"OK\n".to_vec()),
-        "panel" => (joined(&[reference, record]), example(point, "panel")),
-        _ => (
-            joined(&[reference, record, example(point, "readings")]),
-            example(point, "verdicts"),
-        ),
-    };
+    let kinds = &KINDS[..texts(name)];
     Case {
         name: format!("{point} in examples"),
-        input,
-        output,
+        texts: kinds.iter().map(|kind| example(point, kind)).collect(),
+        output: match name {
+            "draw" => example(point, "env"),
+            "verify" => b"OK\n".to_vec(),
+            "panel" => example(point, "panel"),
+            _ => example(point, "verdicts"),
+        },
     }
 }
 
@@ -74,7 +88,7 @@ fn compare(case: &Case, name: &str, output: Vec<u8>) {
 fn whole() {
     for name in PROGRAMS {
         for case in cases(name) {
-            compare(&case, name, run(&program(name), &case.input));
+            compare(&case, name, run(name, &case.texts));
         }
     }
 }
@@ -84,13 +98,12 @@ fn in_pieces() {
     let mut random = Random::new(SEED);
     for name in PROGRAMS {
         for case in cases(name) {
-            let largest = match case.input.len() {
+            let largest = match case.texts.last().expect("a text").len() {
                 0..=SMALL => 7,
                 length => 2 * length / PIECES,
             };
             let size = || 1 + random.index(largest);
-            let output = run_in_pieces(&program(name), &case.input, PAUSE, size);
-            compare(&case, name, output);
+            compare(&case, name, run_in_pieces(name, &case.texts, PAUSE, size));
         }
     }
 }

@@ -1,0 +1,73 @@
+//! Calls of the system that the standard library has not.
+
+use std::ffi::{CString, c_char};
+use std::io::PipeReader;
+use std::os::fd::AsRawFd;
+use std::os::unix::ffi::OsStrExt;
+use std::os::unix::process::CommandExt;
+use std::path::Path;
+use std::process::{Child, Command};
+
+/// The first members of C's struct rusage on 64-bit Linux, and room for the others.
+#[repr(C)]
+#[derive(Default)]
+struct ResourceUsage {
+    user_time: [i64; 2],
+    system_time: [i64; 2],
+    peak_kibibytes: i64,
+    others: [i64; 13],
+}
+
+unsafe extern "C" {
+    fn wait4(process: i32, status: *mut i32, options: i32, usage: *mut ResourceUsage) -> i32;
+    fn kill(process: i32, signal: i32) -> i32;
+    fn fcntl(descriptor: i32, command: i32, ...) -> i32;
+    fn mkfifo(path: *const c_char, mode: u32) -> i32;
+    fn geteuid() -> u32;
+}
+
+const SIGKILL: i32 = 9;
+const F_SETFL: i32 = 4;
+const O_NONBLOCK: i32 = 0o4000;
+const NOBODY: u32 = 65_534;
+
+/// Waits for a child, which must end with status 0, and gives the most kibibytes that it had resident.
+/// What the calling process has resident counts as well, so that this is at least the child's own peak.
+pub fn wait_for_peak(child: Child) -> i64 {
+    let (mut status, mut usage) = (0, ResourceUsage::default());
+    let id = child.id() as i32;
+    // SAFETY: both pointers are to places of this function, as large as C's.
+    let ended = unsafe { wait4(id, &mut status, 0, &mut usage) };
+    assert_eq!((ended, status), (id, 0), "the program ends with status 0");
+    usage.peak_kibibytes
+}
+
+/// Kills the process group that a child leads, and waits for the child. False where it had ended
+/// before.
+pub fn kill_group(child: &mut Child) -> bool {
+    // SAFETY: the child has not been waited for, so that the group is its own.
+    unsafe { kill(-(child.id() as i32), SIGKILL) };
+    child.wait().expect("an ended child").code().is_none()
+}
+
+/// From here on a read of the pipe fails where nothing is there, and does not wait.
+pub fn set_non_blocking(pipe: &PipeReader) {
+    // SAFETY: the call changes only a flag of an open descriptor.
+    let set = unsafe { fcntl(pipe.as_raw_fd(), F_SETFL, O_NONBLOCK) };
+    assert_eq!(set, 0, "a flag that can be set");
+}
+
+pub fn make_fifo(path: &Path) {
+    let name = CString::new(path.as_os_str().as_bytes()).expect("a path without byte 0");
+    // SAFETY: the pointer is to text that ends in byte 0.
+    let made = unsafe { mkfifo(name.as_ptr(), 0o644) };
+    assert_eq!(made, 0, "a new fifo");
+}
+
+/// Root reads any file: then a command runs as nobody.
+pub fn run_without_privileges(command: &mut Command) {
+    // SAFETY: the call has no arguments and cannot fail.
+    if unsafe { geteuid() } == 0 {
+        command.uid(NOBODY).gid(NOBODY);
+    }
+}

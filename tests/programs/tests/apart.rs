@@ -1,0 +1,149 @@
+//! A text that holds other texts, or stands in the place of another, is refused as what it stands for: by
+//! the program itself and through the script.
+
+use programs::call::{WAYS, Way, run};
+use programs::folder::Folder;
+use programs::script::envelope;
+use programs::{READING, RECORD, REFERENCE};
+
+/// The rows 0 and 10, and those of a stranger whose ball is wide.
+const HONEST: &str = "REF,1,TOC\nA,0\nB,10\n";
+const WIDE: &str = "REF,1,TOC\nA,0\nB,2000\n";
+/// A reading inside the wide ball and far outside of the other.
+const HIGH: &str = "A,TOC,900\n";
+
+fn record(reference: &str) -> String {
+    String::from_utf8(run("draw", &[reference])).expect("a record in ASCII")
+}
+
+/// Asserts what a program prints of texts that are refused.
+fn assert_refused(name: &str, texts: &[&str], output: &str) {
+    let folder = Folder::new();
+    let files = folder.write_texts(texts);
+    for way in WAYS {
+        let ended = way.run(name, &files);
+        ended.assert_printed(output, way.refused());
+    }
+}
+
+/// The stranger's reference text brings a record of its own. Its fourth line is empty.
+#[test]
+fn an_embedded_record_is_refused_with_its_reference_text() {
+    let embedded = format!("{WIDE}\n{}", record(WIDE));
+    let honest = record(HONEST);
+    assert_refused("judge", &[&embedded, &honest, HIGH], "NO,3,4\n");
+    assert_refused("judge", &[&embedded, &record(WIDE), HIGH], "NO,3,4\n");
+    assert_refused("draw", &[&embedded], "NO,3,4\n");
+    for name in ["verify", "panel"] {
+        assert_refused(name, &[&embedded, &honest], "NO,3,4\n");
+    }
+}
+
+/// As three texts the honest record disagrees with the wide rows, and alone it judges the reading.
+#[test]
+fn the_stranger_gains_nothing_without_embedding() {
+    assert_refused("judge", &[WIDE, &record(HONEST), HIGH], "NO,12,0\n");
+    let alarm = run("judge", &[HONEST, &record(HONEST), HIGH]);
+    let excess = 65_536_u64.pow(2) * (895 * 895 - 25);
+    assert_eq!(alarm, format!("ALARM,{excess}\n").as_bytes());
+}
+
+/// Joined texts on standard input are one text: none of them is found by the script.
+#[test]
+fn joined_texts_are_not_taken_apart() {
+    let embedded = format!("{WIDE}\n{}", record(WIDE));
+    let joined = format!("{embedded}\n{}\n{HIGH}", record(HONEST));
+    let ended = envelope(&["judge"], joined.as_bytes());
+    ended.assert_failed("too few or too many texts");
+    envelope(&["draw"], joined.as_bytes()).assert_printed("NO,3,4\n", 1);
+}
+
+#[test]
+fn embedded_readings_are_refused_with_their_text() {
+    let reference = format!("{WIDE}\n{}\n{HIGH}", record(WIDE));
+    assert_refused("judge", &[&reference, &record(WIDE), HIGH], "NO,3,4\n");
+    // The record has five lines.
+    let record = format!("{}\n{HIGH}", record(WIDE));
+    assert_refused("judge", &[WIDE, &record, HIGH], "NO,11,6\n");
+    assert_refused("verify", &[WIDE, &record], "NO,11,6\n");
+    assert_refused("panel", &[WIDE, &record], "NO,11,6\n");
+}
+
+/// Of texts among the readings each line is a reading, and none is taken for another text.
+#[test]
+fn texts_embedded_in_the_readings_are_readings() {
+    let readings = format!("{HIGH}\n{WIDE}\n{}\n{HIGH}", record(WIDE));
+    let folder = Folder::new();
+    let files = folder.write_texts(&[WIDE, &record(WIDE), &readings]);
+    // Its two lines of a weight have as many fields as a reading, and another tag.
+    let (form, tag) = ("NO,3,1\n".repeat(8), "NO,10,1\n".repeat(2));
+    let verdicts = format!("QUIET\n{form}{tag}NO,3,1\nQUIET\n");
+    for way in WAYS {
+        way.run("judge", &files).assert_printed(&verdicts, 0);
+    }
+}
+
+/// 2 as the heading, 3 as a row, and 6 as a row too many or as the only one.
+#[test]
+fn an_empty_line_in_a_reference_text_is_refused() {
+    let rows: String = (0..256).map(|row| format!("R-{row},5\n")).collect();
+    for (reference, output) in [
+        ("\n".to_string(), "NO,2,1\n"),
+        (format!("\n{WIDE}"), "NO,2,1\n"),
+        ("REF,1,TOC\n\nA,0\n".to_string(), "NO,3,2\n"),
+        ("REF,1,TOC\nA,0\n\nB,1\n".to_string(), "NO,3,3\n"),
+        (format!("{WIDE}\n"), "NO,3,4\n"),
+        (format!("{WIDE}\n\n"), "NO,3,4\n"),
+        (format!("REF,1,TOC\n{rows}\n"), "NO,6,258\n"),
+    ] {
+        assert_refused("draw", &[&reference], output);
+        assert_refused("verify", &[&reference, RECORD], output);
+        assert_refused("panel", &[&reference, RECORD], output);
+        assert_refused("judge", &[&reference, RECORD, READING], output);
+    }
+}
+
+/// At its own line of the record: nothing is left out before or behind the record.
+#[test]
+fn an_empty_line_in_a_record_is_refused() {
+    for (record, output) in [
+        (format!("\n{RECORD}"), "NO,11,1\n"),
+        (RECORD.replacen('\n', "\n\n", 1), "NO,11,2\n"),
+        (format!("{RECORD}\n"), "NO,11,6\n"),
+    ] {
+        assert_refused("verify", &[REFERENCE, &record], output);
+        assert_refused("panel", &[REFERENCE, &record], output);
+        assert_refused("judge", &[REFERENCE, &record, READING], output);
+    }
+}
+
+#[test]
+fn record_and_reference_text_exchanged_are_refused() {
+    assert_refused("draw", &[RECORD], "NO,2,1\n");
+    assert_refused("verify", &[RECORD, REFERENCE], "NO,2,1\n");
+    assert_refused("panel", &[RECORD, REFERENCE], "NO,2,1\n");
+    assert_refused("judge", &[RECORD, REFERENCE, READING], "NO,2,1\n");
+    assert_refused("judge", &[REFERENCE, READING, RECORD], "NO,11,1\n");
+    assert_refused("judge", &[READING, RECORD, REFERENCE], "NO,2,1\n");
+}
+
+#[test]
+fn the_same_file_twice_is_refused_in_the_second_place() {
+    let folder = Folder::new();
+    let files = folder.write_texts(&[REFERENCE, RECORD, READING]);
+    let [reference, record, readings] = [&files[0], &files[1], &files[2]];
+    for way in WAYS {
+        let refused = |name, files: &[&std::path::PathBuf], output| {
+            way.run(name, files).assert_printed(output, way.refused());
+        };
+        refused("verify", &[reference, reference], "NO,11,1\n");
+        refused("panel", &[reference, reference], "NO,11,1\n");
+        refused("verify", &[record, record], "NO,2,1\n");
+        refused("judge", &[reference, reference, readings], "NO,11,1\n");
+        refused("judge", &[reference, reference, reference], "NO,11,1\n");
+        refused("judge", &[record, record, record], "NO,2,1\n");
+    }
+    // Each line of a record is a reading that is not in form.
+    let ended = Way::Script.run("judge", &[reference, record, record]);
+    ended.assert_printed(&"NO,3,1\n".repeat(5), 0);
+}
