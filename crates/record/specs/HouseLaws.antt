@@ -9,7 +9,7 @@
 --     house-drawn-written            and is written to every buffer of recordMost rowLimit places, 3,252
 --     house-drawn-read               and, read against the same rows and codes, gives that envelope
 --     house-unread, house-refused    writing refuses with 12 exactly the envelopes whose record reading turns back
-use Prim.Native.Nat.{ℕ, _+_, _*_, _^_, _≤_, min}
+use Prim.Native.Nat.{ℕ, _^_, _≤_, min}
 use mathlib.Core.Path.{_≡_}
 use mathlib.Core.Bool.{true}
 use mathlib.Core.List.{List}

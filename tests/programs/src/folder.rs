@@ -1,6 +1,5 @@
 //! Temporary folders, removed at the end of a test that passes.
 
-use std::io::Write;
 use std::path::{Path, PathBuf};
 use std::sync::atomic::{AtomicUsize, Ordering};
 use std::thread::{self, JoinHandle};
@@ -46,7 +45,7 @@ impl Folder {
     pub fn write_fifo<Written: Send + 'static>(
         &self,
         name: &str,
-        write: impl FnOnce(&mut dyn Write) -> Written + Send + 'static,
+        write: impl FnOnce(&mut fs::File) -> Written + Send + 'static,
     ) -> (PathBuf, JoinHandle<Written>) {
         let path = self.path.join(name);
         system::make_fifo(&path);

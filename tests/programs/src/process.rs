@@ -1,8 +1,10 @@
 //! Commands run to their end on input, whole, in pieces or endless.
 
+use crate::system::set_packets;
 use std::ffi::OsStr;
 use std::io::{ErrorKind, Read, Write};
-use std::process::{Child, Command, Stdio};
+use std::os::fd::AsRawFd;
+use std::process::{Child, ChildStdin, Command, Stdio};
 use std::thread::{self, JoinHandle};
 
 /// What a command left.
@@ -44,7 +46,7 @@ pub fn end(command: &mut Command, input: &[u8]) -> Ended {
 }
 
 /// Runs a command to its end while `write` writes its input.
-pub fn end_fed(command: &mut Command, write: impl FnOnce(&mut dyn Write)) -> Ended {
+pub fn end_fed(command: &mut Command, write: impl FnOnce(&mut ChildStdin)) -> Ended {
     let mut child = start(command.stdin(Stdio::piped()));
     let mut stdin = child.stdin.take().expect("a pipe");
     let collected = collect(&mut child);
@@ -123,15 +125,14 @@ pub fn write_endless(stdin: &mut dyn Write, repeated: &[u8]) -> usize {
     count
 }
 
-/// Writes the first bytes one by one, and then the others.
-pub fn write_single_bytes(stdin: &mut dyn Write, bytes: &[u8], singly: usize) {
-    let (first, others) = bytes.split_at(singly.min(bytes.len()));
-    for byte in first {
-        if !written(stdin, &[*byte]) {
+/// Writes bytes that reach the reader one by one.
+pub fn write_single_bytes<Pipe: Write + AsRawFd>(pipe: &mut Pipe, bytes: &[u8]) {
+    set_packets(pipe);
+    for byte in bytes {
+        if !written(pipe, &[*byte]) {
             return;
         }
     }
-    written(stdin, others);
 }
 
 /// A command that the shell starts with redirections, as `<&-`.

@@ -29,6 +29,7 @@ unsafe extern "C" {
 const SIGKILL: i32 = 9;
 const F_SETFL: i32 = 4;
 const O_NONBLOCK: i32 = 0o4000;
+const O_DIRECT: i32 = 0o40000;
 const NOBODY: u32 = 65_534;
 
 /// Waits for a child, which must end with status 0, and gives the most kibibytes that it had resident.
@@ -52,8 +53,17 @@ pub fn kill_group(child: &mut Child) -> bool {
 
 /// From here on a read of the pipe fails where nothing is there, and does not wait.
 pub fn set_non_blocking(pipe: &PipeReader) {
+    set_flag(pipe, O_NONBLOCK);
+}
+
+/// From here on a read of the pipe gives what one write wrote, and no more.
+pub fn set_packets(pipe: &impl AsRawFd) {
+    set_flag(pipe, O_DIRECT);
+}
+
+fn set_flag(pipe: &impl AsRawFd, flag: i32) {
     // SAFETY: the call changes only a flag of an open descriptor.
-    let set = unsafe { fcntl(pipe.as_raw_fd(), F_SETFL, O_NONBLOCK) };
+    let set = unsafe { fcntl(pipe.as_raw_fd(), F_SETFL, flag) };
     assert_eq!(set, 0, "a flag that can be set");
 }
 

@@ -83,13 +83,14 @@ fn texts_embedded_in_the_readings_are_readings() {
     }
 }
 
-/// 2 as the heading, 3 as a row, and 6 as a row too many or as the only one.
+/// 2 as the heading, 3 as a row, also as the only one, and 6 as a row too many.
 #[test]
 fn an_empty_line_in_a_reference_text_is_refused() {
     let rows: String = (0..256).map(|row| format!("R-{row},5\n")).collect();
     for (reference, output) in [
         ("\n".to_string(), "NO,2,1\n"),
         (format!("\n{WIDE}"), "NO,2,1\n"),
+        ("REF,1,TOC\n\n".to_string(), "NO,3,2\n"),
         ("REF,1,TOC\n\nA,0\n".to_string(), "NO,3,2\n"),
         ("REF,1,TOC\nA,0\n\nB,1\n".to_string(), "NO,3,3\n"),
         (format!("{WIDE}\n"), "NO,3,4\n"),

@@ -3,8 +3,8 @@
 
 use programs::call::Way;
 use programs::folder::Folder;
-use programs::process::{Ended, end, redirected};
-use programs::{PROGRAMS, RECORD, REFERENCE, TEXT_LIMIT, accepted, answer, texts};
+use programs::process::{Ended, command, end, redirected};
+use programs::{PROGRAMS, RECORD, REFERENCE, TEXT_LIMIT, accepted, answer, program};
 use std::path::PathBuf;
 
 /// The ways to close some of three descriptors.
@@ -180,16 +180,19 @@ fn a_write_that_fails_is_told() {
     }
 }
 
-/// The longest output takes several writes.
+/// A file that may have 4 KiB takes the start of the output.
 #[test]
-fn a_write_of_a_long_output_that_fails_is_told() {
+fn a_write_that_fails_after_some_bytes_is_told() {
     let folder = Folder::new();
     let files = folder.write_texts(&[REFERENCE, RECORD]);
-    let command = Way::Program.command("judge", &files);
-    let readings = vec![b'\n'; TEXT_LIMIT];
-    let ended = end(&mut redirected(">/dev/full", &command), &readings);
-    ended.assert_told("judge: standard output: No space left on device", 0);
-    assert_eq!(texts("judge"), files.len() + 1);
+    let output = folder.write("output", "");
+    let mut shell = command("bash");
+    shell.args(["-c", "trap '' XFSZ; ulimit -f 4; exec \"$@\" >\"$0\""]);
+    shell.arg(&output).arg(program("judge")).args(&files);
+    let ended = end(&mut shell, &vec![b'\n'; TEXT_LIMIT]);
+    ended.assert_told("judge: standard output: File too large", 0);
+    let whole = b"NO,3,1\n".repeat(TEXT_LIMIT);
+    assert!(folder.read(output) == whole[..4_096], "the first bytes");
 }
 
 #[test]

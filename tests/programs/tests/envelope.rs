@@ -100,16 +100,22 @@ fn the_examples_give_what_stands_beside_them() {
     }
 }
 
-/// Runs a program for each of its texts with that one on standard input: by `-`, by `-` behind `--`, and
-/// where it is the last also by leaving it out.
+/// What stands for standard input.
+const INPUTS: [&str; 4] = ["-", "/dev/stdin", "/dev/fd/0", "/proc/self/fd/0"];
+
+/// Runs a program for each of its texts with that one on standard input: by `-` or another name of it, by
+/// each of them behind `--`, and where it is the last also by leaving it out.
 fn from_standard_input(mut input: impl FnMut(&[u8]) -> Stdio, mut see: impl FnMut(&str, Ended)) {
     for name in PROGRAMS {
         let folder = Folder::new();
         for place in 0..texts(name) {
             let mut files = folder.write_texts(&accepted(name));
-            files[place] = PathBuf::from("-");
-            let behind = [PathBuf::from("--")].into_iter().chain(files.clone());
-            let mut ways = vec![files.clone(), behind.collect()];
+            let mut ways = Vec::new();
+            for input in INPUTS {
+                files[place] = PathBuf::from(input);
+                let behind = [PathBuf::from("--")].into_iter().chain(files.clone());
+                ways.extend([files.clone(), behind.collect()]);
+            }
             if place + 1 == texts(name) {
                 ways.push(files[..place].to_vec());
             }
@@ -201,6 +207,10 @@ fn standard_input_for_two_texts_is_bad_usage() {
         &["judge", "-", "-", "x.readings"],
         &["judge", "-", "-", "-"],
         &["judge", "--", "-", "-"],
+        &["verify", "/dev/stdin"],
+        &["panel", "-", "/proc/self/fd/0"],
+        &["judge", "/dev/fd/0", "-", "x.readings"],
+        &["judge", "x.ref", "/dev/stdin", "/dev/stdin"],
     ] {
         let line = format!(
             "envelope: standard input can be only one of the texts of {}; see 'envelope help'",
@@ -208,6 +218,39 @@ fn standard_input_for_two_texts_is_bad_usage() {
         );
         envelope(words, REFERENCE.as_bytes()).assert_told(&line, 2);
     }
+}
+
+/// Options and functions that a shell takes from its environment, and a file that it runs first.
+#[test]
+fn the_environment_of_a_shell_changes_nothing() {
+    let folder = Folder::new();
+    let reference = folder.write("x.ref", REFERENCE);
+    let first = folder.write("first", "echo first; exit 0\n");
+    for (name, value) in [
+        ("SHELLOPTS", "noexec"),
+        ("SHELLOPTS", "errexit"),
+        ("BASHOPTS", "nullglob"),
+        ("BASH_ENV", first.to_str().expect("a path in UTF-8")),
+        ("BASH_FUNC_head%%", "() { :; }"),
+        ("BASH_FUNC_cd%%", "() { echo cd; }"),
+        ("CDPATH", "/"),
+    ] {
+        let mut command = Way::Script.command("draw", &[&reference]);
+        end(command.env(name, value), b"").assert_printed(RECORD, 0);
+        let record = folder.write("x.env", RECORD);
+        let mut command = Way::Script.command("verify", &["-".as_ref(), record.as_path()]);
+        end(command.env(name, value), REFERENCE.as_bytes()).assert_printed("OK\n", 0);
+        let mut command = Way::Script.command("draw", &[folder.path().join("missing")]);
+        end(command.env(name, value), b"").assert_failed("missing: No such file or directory\n");
+    }
+}
+
+#[test]
+fn a_word_of_any_bytes_is_told_on_one_line() {
+    let line = "envelope: there is no command $'dr\\now'; see 'envelope help'";
+    envelope(&["dr\now"], b"").assert_told(line, 2);
+    let line = "envelope: cannot read the folder $'no\\nfolder'";
+    envelope(&["redraw", "no\nfolder"], b"").assert_told(line, 2);
 }
 
 #[test]

@@ -6,7 +6,7 @@ use programs::folder::Folder;
 use programs::process::{Ended, end_fed, end_on, write_endless, write_single_bytes};
 use programs::{PROGRAMS, READING, RECORD, REFERENCE, TEXT_LIMIT, accepted, texts};
 use std::fs::File;
-use std::io::{Seek, Write};
+use std::io::Seek;
 use std::path::PathBuf;
 use std::process::{Command, Stdio};
 
@@ -15,8 +15,6 @@ const TOO_LONG: &str = "NO,1,0\n";
 const MEGABYTES: usize = 3 << 20;
 /// What a pipe holds that nobody has read.
 const PIPE: usize = 65_536;
-/// How many bytes come one by one.
-const SINGLY: usize = 3_000;
 
 /// A text of so many bytes for a place, and what is printed of it where that is within the limit: a
 /// reference text that a missing last byte would make one out of form (3), a record out of form, and
@@ -93,9 +91,7 @@ fn a_text_at_the_limit_is_read_and_one_above_refused_from_a_named_pipe_in_single
         let folder = Folder::new();
         let mut files = folder.write_texts(texts);
         let text = texts[place].clone();
-        let (fifo, writer) = folder.write_fifo("fifo", move |pipe| {
-            write_single_bytes(pipe, &text, SINGLY);
-        });
+        let (fifo, writer) = folder.write_fifo("fifo", move |pipe| write_single_bytes(pipe, &text));
         files[place] = fifo;
         let ended = way.run(name, &files);
         writer.join().expect("a writer that ends");
@@ -110,7 +106,7 @@ fn a_text_at_the_limit_is_read_and_one_above_refused_from_standard_input_in_sing
         let files = folder.write_texts(texts);
         match with_standard_input(way, name, place, &files) {
             Some(mut command) => end_fed(&mut command, |pipe| {
-                write_single_bytes(pipe, &texts[place], SINGLY);
+                write_single_bytes(pipe, &texts[place]);
             }),
             None => way.run(name, &files),
         }
@@ -157,8 +153,8 @@ fn with_path(name: &str, place: usize, path: PathBuf, way: Way) -> Ended {
 fn assert_endless_refused(way: Way, name: &str, place: usize, repeated: &str) {
     let folder = Folder::new();
     let repeated = repeated.to_string();
-    let endless = move |pipe: &mut dyn Write| write_endless(pipe, repeated.as_bytes());
-    let (fifo, writer) = folder.write_fifo("fifo", endless);
+    let (fifo, writer) =
+        folder.write_fifo("fifo", move |pipe| write_endless(pipe, repeated.as_bytes()));
     let ended = with_path(name, place, fifo, way);
     assert_ends(&ended, way, TOO_LONG);
     let taken = writer.join().expect("a writer that ends");

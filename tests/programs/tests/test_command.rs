@@ -67,3 +67,20 @@ fn no_variable_of_the_caller_reaches_a_test() {
     assert!(names.contains("PATH") && names.contains("USER"));
     assert!(variables.contains("USER=somebody\n"));
 }
+
+/// The word by which it starts anew, from a caller with a variable more, and any other word.
+#[test]
+fn a_word_does_not_spare_it_the_start_anew() {
+    let repository = Repository::new(WRITES_VARIABLES);
+    for (word, line) in [
+        ("clean", "FAILED: the variable CUNDARIVO_SEED is set\n"),
+        ("quick", "FAILED: it takes no arguments\n"),
+    ] {
+        let mut command = command(root().join("test"));
+        command.env_clear().env("CUNDARIVO_SEED", "5").arg(word);
+        let path = std::env::var("PATH").expect("a path");
+        let ended = end(command.env("PATH", path), b"");
+        assert_eq!((ended.text(), ended.status), (line, 1));
+    }
+    assert!(!repository.folder.has("variables"));
+}
