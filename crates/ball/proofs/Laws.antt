@@ -18,22 +18,23 @@ use lib.ListN.{length}
 use Rattle.refusal.specs.declared.Outcome.the-variants.{Accepted}
 use Rattle.geometry.specs.Figures.{scaledCentre, scaledLowerBound}
 use Rattle.geometry.specs.Move.{difference, separation, cappedStep, transfer, settled, moved, weightOf}
-use Rattle.geometry.specs.Limits.{total, rowLimit, coordinate, rowsWithin}
+use Rattle.geometry.specs.Table.{coordinate, rowsWithin}
+use Rattle.limits.specs.Limits.{total, rowLimit}
 use Rattle.geometry.specs.Places.{centreList, centreOf, weightsTotal}
 use Rattle.integers.specs.Reading.{Bounded}
-use Rattle.geometry.specs.Asked.{CentreWithin, Table, WeightsOf}
+use Rattle.geometry.specs.Contracts.{CentreWithin, Table, WeightsOf}
 use Rattle.geometry.specs.PlacesLaws.{centreList-at, centreList-cong}
 use Rattle.geometry.specs.TableLaws.{weight-most}
 use Rattle.geometry.specs.FigureLaws.{centre-within}
 use Rattle.geometry.specs.MoveLaws.{radius-far, separation-positive, moved-total, moved-length, moved-centre}
-use Rattle.moves.specs.Given.{Paired, shiftCentre}
+use Rattle.moves.specs.Contracts.{Paired, shiftCentre}
 use Rattle.moves.specs.declared.Pair.{Pair}
 use Rattle.ball.specs.declared.Ball.{Ball}
 use Rattle.ball.specs.declared.Ended.{Ended}
 use Rattle.ball.specs.Ball.{ballOf}
 use Rattle.ball.specs.Draw.{start, runFrom, drawn}
 use Rattle.ball.specs.Check.{checking}
-use Rattle.ball.specs.Ran.{Ran}
+use Rattle.ball.specs.Contracts.{Ran}
 use Rattle.ball.specs.DrawLaws.{goes-on, stops, not-settled, runFrom-end, runFrom-move, start-length, start-total, checking-checked}
 
 pub record Carried (rows : List ℤ) (m n budget : ℕ) (weights : List ℕ) (centre : List ℤ) (pair : Pair) (moves : ℕ) : Type 0 where

@@ -7,7 +7,7 @@ use lib.IntN.{ℤ, pos}
 use lib.ListN.{replicate}
 use Rattle.geometry.specs.Figures.{scaledCentre, scaledSquaredRadius, scaledLowerBound}
 use Rattle.geometry.specs.Move.{settled}
-use Rattle.geometry.specs.Limits.{channelLimit}
+use Rattle.limits.specs.Limits.{channelLimit}
 use Rattle.geometry.specs.Places.{centreList}
 use Rattle.ball.specs.declared.Ball.{Ball}
 

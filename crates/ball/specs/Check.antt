@@ -12,7 +12,7 @@ use Rattle.refusal.specs.Outcome.{refused, choose}
 use Rattle.refusal.specs.declared.Outcome.{Outcome}
 use Rattle.refusal.specs.declared.Outcome.the-variants.{Accepted}
 use Rattle.geometry.specs.Move.{weightOf}
-use Rattle.geometry.specs.Limits.{rowsWithin, coordinate}
+use Rattle.geometry.specs.Table.{rowsWithin, coordinate}
 use Rattle.geometry.specs.Places.{weightsTotal}
 use Rattle.ball.specs.Ball.{ballOf, noBall}
 use Rattle.ball.specs.declared.Checked.{Checked}

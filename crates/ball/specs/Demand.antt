@@ -27,7 +27,8 @@ use Rattle.refusal.specs.Outcome.{refused, numberOf}
 use Rattle.refusal.specs.declared.Outcome.the-variants.{Accepted}
 use Rattle.geometry.specs.Figures.{scaledCentre, scaledSquaredDistance, scaledLowerBound}
 use Rattle.geometry.specs.Move.{settled, moved, weightOf}
-use Rattle.geometry.specs.Limits.{total, rowLimit, channelLimit, coordinateLimit, centreLimit, budgetLimit, coordinate, rowsWithin}
+use Rattle.geometry.specs.Table.{coordinate, rowsWithin}
+use Rattle.limits.specs.Limits.{total, rowLimit, channelLimit, coordinateLimit, centreLimit, budgetLimit}
 use Rattle.geometry.specs.Places.{centreList, centreOf, weightsTotal}
 use Rattle.geometry.specs.PlacesLaws.{centreList-at, centreList-most}
 use Rattle.integers.specs.Tests.{both}
@@ -38,7 +39,7 @@ use Rattle.geometry.specs.Demand.{rival, holds-every-row, reaches-some-row, flo
 use Rattle.ball.specs.Ball.{ballOf}
 use Rattle.ball.specs.Draw.{Run, run, start, runFrom, drawn, drawing}
 use Rattle.ball.specs.Check.{checking}
-use Rattle.ball.specs.Promise.{Tight, DrawPromise, CheckPromise}
+use Rattle.ball.specs.Contracts.{Tight, DrawPromise, CheckPromise}
 use Rattle.ball.specs.DrawLaws.{runFrom-spent, run-zero, run-stop, run-step, start-length, start-total, each-answer, drawing-drawn, checking-checked}
 use Rattle.ball.specs.declared.Drawing.{Drawing}
 use Rattle.ball.specs.declared.Checked.{Checked}

@@ -15,7 +15,8 @@ use Rattle.refusal.specs.Outcome.{refused, choose}
 use Rattle.refusal.specs.declared.Outcome.{Outcome}
 use Rattle.refusal.specs.declared.Outcome.the-variants.{Accepted}
 use Rattle.geometry.specs.Move.{settled, moved, weightOf}
-use Rattle.geometry.specs.Limits.{rowsWithin, coordinate, budgetLimit}
+use Rattle.geometry.specs.Table.{rowsWithin, coordinate}
+use Rattle.limits.specs.Limits.{budgetLimit}
 use Rattle.ball.specs.Ball.{ballOf, noBall}
 use Rattle.ball.specs.declared.Drawing.{Drawing}
 

@@ -28,7 +28,8 @@ use Rattle.refusal.specs.Number.{outside-limits, budget-too-large, disagreement
 use Rattle.refusal.specs.Outcome.{refused, choose}
 use Rattle.refusal.specs.declared.Outcome.the-variants.{Accepted}
 use Rattle.geometry.specs.Move.{difference, separation, settled, moved, weightOf}
-use Rattle.geometry.specs.Limits.{budgetLimit, coordinate, rowsWithin}
+use Rattle.geometry.specs.Table.{coordinate, rowsWithin}
+use Rattle.limits.specs.Limits.{budgetLimit}
 use Rattle.geometry.specs.Places.{weightsTotal}
 use Rattle.integers.specs.Tests.{both}
 use Rattle.ball.specs.Ball.{ballOf}

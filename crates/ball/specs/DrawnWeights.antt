@@ -15,7 +15,8 @@ use lib.Seq.{getD-take, length-take-le}
 use Rattle.integers.specs.Sum.{sumℕ}
 use Rattle.refusal.specs.declared.Outcome.the-variants.{Accepted}
 use Rattle.geometry.specs.Move.{settled, moved, weightOf}
-use Rattle.geometry.specs.Limits.{budgetLimit, coordinate, rowsWithin}
+use Rattle.geometry.specs.Table.{coordinate, rowsWithin}
+use Rattle.limits.specs.Limits.{budgetLimit}
 use Rattle.geometry.specs.Places.{weightsTotal}
 use Rattle.geometry.specs.MoveLaws.{near-within, far-within, moved-length, moved-other}
 use Rattle.ball.specs.Ball.{ballOf}

@@ -2,8 +2,7 @@
 pub mod Ball
 pub mod Draw
 pub mod Check
-pub mod Promise
-pub mod Ran
+pub mod Contracts
 pub mod DrawLaws
 pub mod Demand
 pub mod DrawnWeights

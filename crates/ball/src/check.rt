@@ -2,17 +2,18 @@
 ghost use mathlib.Core.Path.{_≡_};
 ghost use Prim.Native.Nat.{_≤_};
 ghost use mathlib.Core.Bool.{true};
-ghost use Rattle.geometry.specs.Limits.{total, rowLimit, rowsWithin};
+ghost use Rattle.geometry.specs.Table.{rowsWithin};
+ghost use Rattle.limits.specs.Limits.{total, rowLimit};
 ghost use lib.ListN.{length};
 ghost use Rattle.geometry.specs.Places.{weightsTotal};
 ghost use Rattle.ball.specs.Check.{notChecked, checking};
-ghost use Rattle.ball.specs.Promise.{CheckPromise};
+ghost use Rattle.ball.specs.Contracts.{CheckPromise};
 use crate::Checked;
 use crate::ball_of;
 use crate::no_ball;
 use figures::centre::scaled_centre;
-use figures::limits::TOTAL;
-use figures::limits::rows_within;
+use figures::table::rows_within;
+use limits::TOTAL;
 use moves::step::pair_of;
 use refusal::Outcome;
 

@@ -2,17 +2,18 @@
 // A table holds m rows of n channels, row by row. Rows and channels count from 0 in the code.
 ghost use mathlib.Core.Path.{_≡_};
 ghost use Rattle.geometry.specs.Move.{weightOf};
-ghost use Rattle.geometry.specs.Limits.{total, coordinate};
+ghost use Rattle.geometry.specs.Table.{coordinate};
+ghost use Rattle.limits.specs.Limits.{total};
 ghost use Rattle.ball.specs.Ball.{ballOf, noBall};
-ghost use Rattle.geometry.specs.Asked.{Table, WeightsOf, IsCentre};
-ghost use Rattle.moves.specs.Given.{Paired};
+ghost use Rattle.geometry.specs.Contracts.{Table, WeightsOf, IsCentre};
+ghost use Rattle.moves.specs.Contracts.{Paired};
 
 pub mod check;
 pub mod draw;
 
 use figures::bound::lower_bound;
-use figures::limits::CHANNELS;
-use figures::limits::ROWS;
+use limits::CHANNELS;
+use limits::ROWS;
 use moves::Pair;
 use refusal::Outcome;
 

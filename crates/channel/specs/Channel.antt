@@ -1,13 +1,19 @@
--- Document 01, "Channel types": code, tag, low and high of each type. What is found in a table of types is defined for any table.
---     ChannelType           a type
---     channelTypes          document 01's table
---     codeOf types tag      the code of the type with this tag, 0 where there is none
---     noType                what stands for the type of a code that no type has
---     typeOf types code     the type with this code
---     tagOf types code      the tag of the type with this code
---     known types code      there is a type with this code
+-- Document 01, "Channel types": code, tag, low and high of each type. A table of types is what is found in it: nothing outside this
+-- crate sees a list.
+--     ChannelType               a type
+--     noType                    what stands for the type of a code that no type has
+--     Types                     a table of types
+--     codeOf types tag          the code of the type with this tag, 0 where there is none
+--     typeOf types code         the type with this code
+--     tagOf types code          the tag of the type with this code
+--     known types code          there is a type with this code
+--     codesKnown types codes    each of these is the code of a type
+--     codeIn, typeIn, knownIn   the same of a list of types
+--     listed list               the table with the types of a list
+--     houseTypes, channelTypes  document 01's types, and the table of them
+--     houseCount                how many they are
 use Prim.Native.Nat.{ℕ}
-use mathlib.Core.Bool.{Bool, false, cond, _||_}
+use mathlib.Core.Bool.{Bool, true, false, cond, _&&_, _||_}
 use mathlib.Core.List.{List, [], _∷_}
 use lib.Dec.{eqb}
 use lib.IntN.{ℤ, pos, negℤ}
@@ -19,9 +25,55 @@ pub record ChannelType : Type 0 where
   pub low : ℤ
   pub high : ℤ
 
+abbrev pub noType : ChannelType
+noType = record { code = 0; tag = []; low = pos 0; high = pos 0 }
+
+-- ---- a table of types
+
+pub record Types : Type 0 where
+  pub code-of-tag : List ℕ → ℕ
+  pub type-of-code : ℕ → ChannelType
+  pub is-known : ℕ → Bool
+
+-- a code that is found counts where it is known
+unfoldable pub codeOf : Types → List ℕ → ℕ
+codeOf types tag = let code = types .code-of-tag tag in cond (types .is-known code) code 0
+
+unfoldable pub typeOf : Types → ℕ → ChannelType
+typeOf types code = types .type-of-code code
+
+abbrev pub tagOf : Types → ℕ → List ℕ
+tagOf types code = typeOf types code .tag
+
+unfoldable pub known : Types → ℕ → Bool
+known types code = types .is-known code
+
+unfoldable pub codesKnown : Types → List ℕ → Bool
+codesKnown types [] = true
+codesKnown types (code ∷ codes) = known types code && codesKnown types codes
+
+-- ---- the table of a list
+
+-- compared as bytes, exactly
+unfoldable pub codeIn : List ChannelType → List ℕ → ℕ
+unfolding same
+codeIn [] tag = 0
+codeIn (t ∷ list) tag = cond (same (t .tag) tag) (t .code) (codeIn list tag)
+
+unfoldable pub typeIn : List ChannelType → ℕ → ChannelType
+typeIn [] code = noType
+typeIn (t ∷ list) code = cond (eqb (t .code) code) t (typeIn list code)
+
+unfoldable pub knownIn : List ChannelType → ℕ → Bool
+knownIn [] code = false
+knownIn (t ∷ list) code = eqb (t .code) code || knownIn list code
+
+abbrev pub listed : List ChannelType → Types
+listed list = record { code-of-tag = codeIn list; type-of-code = typeIn list; is-known = knownIn list }
+
 -- the tags are TOC, TC, IC, CND, TMP, PH, FLW, ORP; the step is left out, since no rule uses it
-unfoldable pub channelTypes : List ChannelType
-channelTypes =
+unfoldable pub houseTypes : List ChannelType
+houseTypes =
     record { code = 1; tag = 84 ∷ 79 ∷ 67 ∷ []; low = pos 0; high = pos 2000 }
     ∷ record { code = 2; tag = 84 ∷ 67 ∷ []; low = pos 0; high = pos 4000 }
     ∷ record { code = 3; tag = 73 ∷ 67 ∷ []; low = pos 0; high = pos 4000 }
@@ -32,22 +84,8 @@ channelTypes =
     ∷ record { code = 8; tag = 79 ∷ 82 ∷ 80 ∷ []; low = negℤ (pos 2000); high = pos 2000 }
     ∷ []
 
--- compared as bytes, exactly
-unfoldable pub codeOf : List ChannelType → List ℕ → ℕ
-unfolding same
-codeOf [] tag = 0
-codeOf (t ∷ types) tag = cond (same (t .tag) tag) (t .code) (codeOf types tag)
+abbrev pub houseCount : ℕ
+houseCount = 8
 
-abbrev pub noType : ChannelType
-noType = record { code = 0; tag = []; low = pos 0; high = pos 0 }
-
-unfoldable pub typeOf : List ChannelType → ℕ → ChannelType
-typeOf [] code = noType
-typeOf (t ∷ types) code = cond (eqb (t .code) code) t (typeOf types code)
-
-abbrev pub tagOf : List ChannelType → ℕ → List ℕ
-tagOf types code = typeOf types code .tag
-
-unfoldable pub known : List ChannelType → ℕ → Bool
-known [] code = false
-known (t ∷ types) code = eqb (t .code) code || known types code
+abbrev pub channelTypes : Types
+channelTypes = listed houseTypes

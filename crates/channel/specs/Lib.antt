@@ -2,5 +2,6 @@
 -- laws.
 pub mod Channel
 pub mod ChannelLaws
-pub mod Answers
-pub mod AnswersLaws
+pub mod Contracts
+pub mod ContractLaws
+pub mod CodesLaws

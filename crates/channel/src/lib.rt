@@ -1,31 +1,35 @@
 // Document 01, "Channel types": constant tables of code, tag, low and high. A type is found by its tag, compared as bytes; its
-// range and its tag are found by its code. Code 0 stands for no type.
+// range and its tag are found by its code. Code 0 stands for no type. Whoever keeps, compares or copies codes does it by `Code` and
+// the functions here.
 ghost use mathlib.Core.Path.{_≡_};
 ghost use Prim.Native.Nat.{_≤_, _<_};
-ghost use lib.ListN.{getD, take};
+ghost use mathlib.Core.List.{_++_};
+ghost use lib.ListN.{length, getD, take, drop};
 ghost use Rattle.text.specs.Parts.{same};
-ghost use Rattle.channel.specs.Channel.{channelTypes, codeOf, typeOf, tagOf, known, noType};
-ghost use Rattle.channel.specs.Answers.{rangeOf, tagLimit, tagIn, tagAt};
+ghost use Rattle.channel.specs.Channel.{channelTypes, codeOf, tagOf, known, codesKnown, houseTypes, houseCount, typeIn, noType};
+ghost use Rattle.channel.specs.Contracts.{rangeOf, tagIn, tagAt};
+ghost use Rattle.limits.specs.Limits.{tagLimit};
+use limits::TAG_MOST;
+
+// the code of a type: one byte
+pub type Code = u8;
 
 const TYPES: usize = 8;
 
-// the most bytes of a tag
-pub const TAG_MOST: usize = 3;
+const CODES: [Code; TYPES] = [1, 2, 3, 4, 5, 6, 7, 8];
 
-const CODES: [u8; 8] = [1, 2, 3, 4, 5, 6, 7, 8];
-
-const TAG_LENGTHS: [u8; 8] = [3, 2, 2, 3, 3, 2, 3, 3];
+const TAG_LENGTHS: [u8; TYPES] = [3, 2, 2, 3, 3, 2, 3, 3];
 
 // the first, second and third bytes of the tags TOC, TC, IC, CND, TMP, PH, FLW, ORP
-const TAG_FIRST: [u8; 8] = *b"TTICTPFO";
+const TAG_FIRST: [u8; TYPES] = *b"TTICTPFO";
 
-const TAG_SECOND: [u8; 8] = *b"OCCNMHLR";
+const TAG_SECOND: [u8; TYPES] = *b"OCCNMHLR";
 
-const TAG_THIRD: [u8; 8] = *b"C\0\0DP\0WP";
+const TAG_THIRD: [u8; TYPES] = *b"C\0\0DP\0WP";
 
-const LOW: [i32; 8] = [0, 0, 0, 0, -200, 0, 0, -2000];
+const LOW: [i32; TYPES] = [0, 0, 0, 0, -200, 0, 0, -2000];
 
-const HIGH: [i32; 8] = [2000, 4000, 4000, 4000, 1500, 1400, 4000, 2000];
+const HIGH: [i32; TYPES] = [2000, 4000, 4000, 4000, 1500, 1400, 4000, 2000];
 
 // The values that a type takes.
 pub struct Range {
@@ -40,27 +44,27 @@ pub struct Tag {
 }
 
 // The place of a code in the tables, or their length for a code of no type.
-fn place(code: u8) -> usize
-    ensures { λ r. ⌜ typeOf channelTypes code ≡ getD channelTypes r noType ⌝ }
+fn place(code: Code) -> usize
+    ensures { λ r. ⌜ typeIn houseTypes code ≡ getD houseTypes r noType ⌝ }
 {
     if code == 0 {
         return TYPES;
     }
-    if 8 < code {
+    if (TYPES as Code) < code {
         return TYPES;
     }
     (code - 1) as usize
 }
 
 // Whether a code is that of a type.
-pub fn is_known(code: u8) -> bool
+pub fn is_known(code: Code) -> bool
     ensures { λ r. ⌜ r ≡ known channelTypes code ⌝ }
 {
     place(code) < TYPES
 }
 
 // The range of a type, 0 to 0 for a code of no type.
-pub fn range_of(code: u8) -> Range
+pub fn range_of(code: Code) -> Range
     ensures { λ r. ⌜ r ≡ rangeOf channelTypes code ⌝ }
 {
     let at = place(code);
@@ -74,8 +78,8 @@ pub fn range_of(code: u8) -> Range
 }
 
 fn tag_at(at: usize) -> Tag
-    requires { ⌜ at < 8 ⌝ }
-    ensures { λ r. ⌜ r ≡ tagAt channelTypes at ⌝ }
+    requires { ⌜ at < houseCount ⌝ }
+    ensures { λ r. ⌜ r ≡ tagAt houseTypes at ⌝ }
 {
     Tag {
         bytes: [TAG_FIRST[at], TAG_SECOND[at], TAG_THIRD[at]],
@@ -84,7 +88,7 @@ fn tag_at(at: usize) -> Tag
 }
 
 // The tag of a type, empty for a code of no type.
-pub fn tag_of(code: u8) -> Tag
+pub fn tag_of(code: Code) -> Tag
     ensures { λ r. ⌜ r ≡ tagIn channelTypes code ⌝ }
 {
     let at = place(code);
@@ -125,14 +129,14 @@ fn has_bytes(field: &[u8], tag: Tag) -> bool
 }
 
 // Whether a field is the tag of the type with this code.
-pub fn is_tag(field: &[u8], code: u8) -> bool
+pub fn is_tag(field: &[u8], code: Code) -> bool
     ensures { λ r. ⌜ r ≡ same (tagOf channelTypes code) (now (field .entry)) ⌝ }
 {
     has_bytes(field, tag_of(code))
 }
 
 // The code of the type with this tag, 0 where there is none.
-pub fn find_tag(field: &[u8]) -> u8
+pub fn find_tag(field: &[u8]) -> Code
     ensures { λ r. ⌜ r ≡ codeOf channelTypes (now (field .entry)) ⌝ }
 {
     let mut at = 0;
@@ -143,4 +147,34 @@ pub fn find_tag(field: &[u8]) -> u8
         at += 1;
     }
     0
+}
+
+// Whether each of the first n codes is that of a type.
+pub fn codes_known(codes: &[Code], n: usize) -> bool
+    requires { ⌜ n ≤ length (now codes) ⌝ }
+    ensures { λ r. ⌜ r ≡ codesKnown channelTypes (take n (now (codes .entry))) ⌝ }
+{
+    let mut i = 0;
+    while i < n {
+        if !is_known(codes[i]) {
+            return false;
+        }
+        i += 1;
+    }
+    true
+}
+
+// Whether two lists of codes are the same.
+pub fn same_codes(a: &[Code], b: &[Code]) -> bool
+    ensures { λ r. ⌜ r ≡ same (now (a .entry)) (now (b .entry)) ⌝ }
+{
+    text::parts::same_bytes(a, b)
+}
+
+// Copies the codes to the first places of the lent slice.
+pub fn copy_codes(codes: &[Code], lent: &mut [Code])
+    requires { ⌜ length (now codes) ≤ length (now lent) ⌝ }
+    ensures { λ _. ⌜ now (lent .exit) ≡ now (codes .entry) ++ drop (length (now (codes .entry))) (now (lent .entry)) ⌝ }
+{
+    bytes::copy(codes, lent);
 }

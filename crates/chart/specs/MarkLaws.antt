@@ -22,7 +22,7 @@ use lib.IntN.{ℤ, pos, natAbs}
 use Rattle.integers.specs.Tests.{both, nonzero}
 use Rattle.refusal.specs.Number.{outside-limits}
 use Rattle.refusal.specs.Outcome.{choose}
-use Rattle.channel.specs.Channel.{ChannelType}
+use Rattle.channel.specs.Channel.{Types}
 use Rattle.envelope.specs.Figures.{figuresWithin, lentFigures}
 use Rattle.envelope.specs.FigureLaws.{within-figures}
 use Rattle.envelope.specs.declared.Figures.{Figures}
@@ -48,7 +48,7 @@ pub disc-of : (D : ℕ) (point : Point) (M : ℕ) → M ≢ 0 → markOf D point
 disc-of D point zero some = absurd (some refl)
 disc-of D point (suc k) some = refl
 
-module _ (D : ℕ) (types : List ChannelType) (f : Figures) (h v : ℕ) where
+module _ (D : ℕ) (types : Types) (f : Figures) (h v : ℕ) where
   chosen : (b : Bool) → Mark
   chosen b =
       choose b (λ _. markOf D (projectedCentre D f h v) (f .ball .«scaled_squared_radius»)) (λ _. refusedMark outside-limits)
@@ -143,7 +143,7 @@ module _ (D e : ℕ) (power : D ≡ 2 ^ e) (most : e ≤ 16) where
           disc = λ some. refl;
         }
 
-  pub chart-shows : (types : List ChannelType) (f : Figures) (h v : ℕ) → markNumber (chartMark D types f h v) ≡ 0
+  pub chart-shows : (types : Types) (f : Figures) (h v : ℕ) → markNumber (chartMark D types f h v) ≡ 0
       → Shows D (f .ball .«scaled_squared_radius») (channelCentre f h) (channelCentre f v) (chartMark D types f h v)
   chart-shows types f h v a =
       let within = accepted D types f h v a in
@@ -158,9 +158,9 @@ module _ (D e : ℕ) (power : D ≡ 2 ^ e) (most : e ≤ 16) where
       (omega (arith, total-most, root-most D M (limits .radius-limit))))
 
 -- the mark does not ask for the ending
-pub chart-lent : (D : ℕ) (types : List ChannelType) (f : Figures) (h v : ℕ)
+pub chart-lent : (D : ℕ) (types : Types) (f : Figures) (h v : ℕ)
     → chartMark D types
-    (lentFigures (f .n) (f .types) (f .ball .«scaled_centre») (f .ball .«scaled_squared_radius») (f .ball .«scaled_lower_bound») (f .moves)) h v
+    (lentFigures (f .n) (f .codes) (f .ball .«scaled_centre») (f .ball .«scaled_squared_radius») (f .ball .«scaled_lower_bound») (f .moves)) h v
     ≡ chartMark D types f h v
 unfolding chartMark figuresWithin
 chart-lent D types f h v = refl

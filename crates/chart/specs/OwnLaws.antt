@@ -11,11 +11,11 @@ use lib.IntN.{ℤ}
 use lib.ListN.{length, take}
 use Rattle.integers.specs.Tests.{range-in}
 use Rattle.refusal.specs.declared.Outcome.the-variants.{Accepted}
-use Rattle.geometry.specs.Limits.{budgetLimit}
+use Rattle.limits.specs.Limits.{budgetLimit}
 use Rattle.ball.specs.Draw.{drawing}
 use Rattle.ball.specs.Check.{checking}
-use Rattle.channel.specs.Channel.{ChannelType}
-use Rattle.envelope.specs.Figures.{codesKnown, figuresWithin, figuresOf}
+use Rattle.channel.specs.Channel.{Types, codesKnown}
+use Rattle.envelope.specs.Figures.{figuresWithin, figuresOf}
 use Rattle.envelope.specs.FigureLaws.{drawnFigures, drawn-within, checked-within}
 use Rattle.envelope.specs.declared.Figures.{Figures}
 use Rattle.chart.specs.Mark.{markNumber, chartMark}
@@ -24,7 +24,7 @@ use Rattle.chart.specs.Panel.{panelShown}
 use Rattle.chart.specs.PanelLaws.{panel-shows}
 use Rattle.chart.specs.declared.panel.PanelShown.{PanelShown}
 
-module _ (D : ℕ) (types : List ChannelType) where
+module _ (D : ℕ) (types : Types) where
   module _ (f : Figures) (within : figuresWithin D types f ≡ true) where
     pub figures-charted : (h v : ℕ) → 1 ≤ h → h ≤ f .n → 1 ≤ v → v ≤ f .n → markNumber (chartMark D types f h v) ≡ 0
     figures-charted h v h-some h-most v-some v-most =

@@ -11,9 +11,9 @@ use lib.ListN.{replicate}
 use Rattle.refusal.specs.Number.{outside-limits}
 use Rattle.refusal.specs.Outcome.{choose, refused}
 use Rattle.refusal.specs.declared.Outcome.the-variants.{Accepted}
-use Rattle.geometry.specs.Limits.{channelLimit}
+use Rattle.limits.specs.Limits.{channelLimit}
 use Rattle.geometry.specs.Places.{centreOf, centreList}
-use Rattle.channel.specs.Channel.{ChannelType}
+use Rattle.channel.specs.Channel.{Types}
 use Rattle.envelope.specs.Figures.{figuresWithin}
 use Rattle.envelope.specs.declared.Figures.{Figures}
 use Rattle.chart.specs.declared.panel.PanelShown.{PanelShown}
@@ -34,5 +34,5 @@ panelOf D f =
     record { outcome = Accepted; steps = centreList (f .n) (λ k. nearestStep D (centreOf (f .ball .«scaled_centre») k)) }
 
 -- 8 for a figure outside its limits
-unfoldable pub panelShown : ℕ → List ChannelType → Figures → PanelShown
+unfoldable pub panelShown : ℕ → Types → Figures → PanelShown
 panelShown D types f = choose (figuresWithin D types f) (λ _. panelOf D f) (λ _. refusedPanel outside-limits)

@@ -23,10 +23,10 @@ use Rattle.integers.specs.Solver.{_⊕_, _⊖_, _⊗_, ⊝_, #_, _≈_, ring}
 use Rattle.integers.specs.Order.{_≍_, linear}
 use Rattle.integers.specs.Absolute.{abs-ℕ, abs-neg, abs-mul, abs-sub, abs-add, abs-same}
 use Rattle.refusal.specs.Number.{outside-limits}
-use Rattle.geometry.specs.Limits.{channelLimit, coordinateLimit, centreLimit}
+use Rattle.limits.specs.Limits.{channelLimit, coordinateLimit, centreLimit}
 use Rattle.geometry.specs.Places.{centreOf}
 use Rattle.geometry.specs.PlacesLaws.{centreList-at, centreList-past, zeros-at}
-use Rattle.channel.specs.Channel.{ChannelType}
+use Rattle.channel.specs.Channel.{Types}
 use Rattle.envelope.specs.Figures.{figuresWithin, lentFigures}
 use Rattle.envelope.specs.FigureLaws.{within-figures}
 use Rattle.envelope.specs.declared.Figures.{Figures}
@@ -130,7 +130,7 @@ module _ (D : ℕ) (positive : 0 < D) where
 
 -- ---- the call
 
-module _ (D : ℕ) (types : List ChannelType) (f : Figures) where
+module _ (D : ℕ) (types : Types) (f : Figures) where
   pub panel-refuses : figuresWithin D types f ≡ false → panelShown D types f ≡ refusedPanel outside-limits
   unfolding panelShown
   panel-refuses h = rw h
@@ -158,7 +158,7 @@ module _ (D : ℕ) (types : List ChannelType) (f : Figures) where
 
   -- the panel does not ask for the ending
   pub panel-lent : panelShown D types
-      (lentFigures (f .n) (f .types) (f .ball .«scaled_centre») (f .ball .«scaled_squared_radius») (f .ball .«scaled_lower_bound») (f .moves))
+      (lentFigures (f .n) (f .codes) (f .ball .«scaled_centre») (f .ball .«scaled_squared_radius») (f .ball .«scaled_lower_bound») (f .moves))
       ≡ panelShown D types f
   unfolding panelShown figuresWithin
   panel-lent = refl

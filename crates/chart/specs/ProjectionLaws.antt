@@ -21,12 +21,13 @@ use Rattle.integers.specs.SumLaws.{sumℕ-term, sumℕ-two}
 use Rattle.integers.specs.Absolute.{square-inv}
 use Rattle.refusal.specs.declared.Outcome.the-variants.{Accepted}
 use Rattle.geometry.specs.Figures.{squaredLength, scaledCentre, scaledSquaredDistance, largest, scaledSquaredRadius}
-use Rattle.geometry.specs.Limits.{total, rowLimit, coordinate, placesWithin, rowsWithin}
+use Rattle.geometry.specs.Table.{coordinate, placesWithin, rowsWithin}
+use Rattle.limits.specs.Limits.{total, rowLimit}
 use Rattle.geometry.specs.Places.{tabulate, centreList, centreOf, weightsTotal}
 use Rattle.ball.specs.Ball.{ballOf}
 use Rattle.ball.specs.Draw.{drawing}
 use Rattle.ball.specs.Check.{checking}
-use Rattle.ball.specs.Promise.{Tight}
+use Rattle.ball.specs.Contracts.{Tight}
 use Rattle.ball.specs.Demand.{drawing-tight, checking-tight}
 use Rattle.ball.specs.declared.Ball.{Ball}
 use Rattle.chart.specs.Root.{rootBelow, ceilingRoot}

@@ -14,7 +14,7 @@ use borrow.Author.Tests.{ltb-true, ltb-false}
 use lib.Dec.{ltb}
 use lib.Ieee.{size}
 use lib.Ieee.Digits.{size-lt}
-use Rattle.geometry.specs.Limits.{distanceLimit}
+use Rattle.limits.specs.Limits.{distanceLimit}
 use Rattle.chart.specs.Root.{rootBelow, rootLimit, ceilingRoot}
 
 -- r is the largest whole number whose square is below M

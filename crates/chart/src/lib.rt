@@ -5,9 +5,9 @@ ghost use mathlib.Core.Path.{_≡_};
 ghost use Prim.Native.Nat.{_≤_, _-_, _^_};
 ghost use lib.IntN.{natAbs};
 ghost use Rattle.refusal.specs.Number.{outside-limits};
-ghost use Rattle.geometry.specs.Limits.{total, distanceLimit};
+ghost use Rattle.limits.specs.Limits.{total, distanceLimit};
 ghost use Rattle.geometry.specs.Places.{centreOf};
-ghost use Rattle.geometry.specs.Asked.{CentreWithin};
+ghost use Rattle.geometry.specs.Contracts.{CentreWithin};
 ghost use Rattle.channel.specs.Channel.{channelTypes};
 ghost use Rattle.envelope.specs.Figures.{lentFigures};
 ghost use Rattle.chart.specs.Fraction.{fractionOf};
@@ -17,9 +17,10 @@ pub mod panel;
 mod root;
 
 use crate::root::ceiling_root;
+use channel::Code;
 use envelope::Figures;
 use envelope::figures_within;
-use figures::limits::TOTAL;
+use limits::TOTAL;
 use refusal::Refusal;
 
 // A point of a chart: each coordinate is counted in steps of its channel.
@@ -87,7 +88,7 @@ fn centre_fraction(n: usize, centre: &[i64], channel: usize) -> f64
 // The mark of an envelope whose types and X are lent, on the chart of two channels counted from 1. Refused: 8.
 pub fn chart_lent(
     n: usize,
-    types: &[u8],
+    codes: &[Code],
     centre: &[i64],
     scaled_squared_radius: u64,
     scaled_lower_bound: u64,
@@ -96,12 +97,12 @@ pub fn chart_lent(
     vertical: usize,
 ) -> Mark
     ensures { λ r.
-        ⌜ r ≡ chartMark total channelTypes (lentFigures n (now (types .entry)) (now (centre .entry)) «scaled_squared_radius»
+        ⌜ r ≡ chartMark total channelTypes (lentFigures n (now (codes .entry)) (now (centre .entry)) «scaled_squared_radius»
         «scaled_lower_bound» moves) horizontal vertical ⌝ }
 {
     if !figures_within(
         n,
-        types,
+        codes,
         centre,
         scaled_squared_radius,
         scaled_lower_bound,
@@ -126,12 +127,12 @@ pub fn chart_lent(
 pub fn chart(figures: Figures, horizontal: usize, vertical: usize) -> Mark
     ensures { λ r. ⌜ r ≡ chartMark total channelTypes figures horizontal vertical ⌝ }
 {
-    let types = figures.types;
+    let codes = figures.codes;
     let ball = figures.ball;
     let centre = ball.scaled_centre;
     chart_lent(
         figures.n,
-        &types,
+        &codes,
         &centre,
         ball.scaled_squared_radius,
         ball.scaled_lower_bound,

@@ -4,16 +4,17 @@ ghost use Prim.Native.Nat.{_≤_};
 ghost use lib.IntN.{natAbs};
 ghost use Rattle.integers.specs.Reading.{Bounded};
 ghost use Rattle.refusal.specs.Number.{outside-limits};
-ghost use Rattle.geometry.specs.Limits.{total, channelLimit, coordinateLimit, centreLimit};
+ghost use Rattle.limits.specs.Limits.{total, channelLimit, coordinateLimit, centreLimit};
 ghost use Rattle.geometry.specs.Places.{centreOf, centreList};
-ghost use Rattle.geometry.specs.Asked.{CentreWithin};
+ghost use Rattle.geometry.specs.Contracts.{CentreWithin};
 ghost use Rattle.channel.specs.Channel.{channelTypes};
 ghost use Rattle.envelope.specs.Figures.{lentFigures};
 ghost use Rattle.chart.specs.Panel.{nearestMagnitude, nearestStep, refusedPanel, panelShown};
+use channel::Code;
 use envelope::Figures;
 use envelope::figures_within;
-use figures::limits::CHANNELS;
-use figures::limits::TOTAL;
+use limits::CHANNELS;
+use limits::TOTAL;
 use refusal::Outcome;
 
 // The steps of the n channels; places past n, and every place in a refusal, are 0.
@@ -70,19 +71,19 @@ fn steps_of(centre: &[i64], n: usize) -> [i32; CHANNELS]
 // What the panel shows of an envelope whose types and X are lent. Refused: 8.
 pub fn panel_lent(
     n: usize,
-    types: &[u8],
+    codes: &[Code],
     centre: &[i64],
     scaled_squared_radius: u64,
     scaled_lower_bound: u64,
     moves: u32,
 ) -> PanelShown
     ensures { λ r.
-        ⌜ r ≡ panelShown total channelTypes (lentFigures n (now (types .entry)) (now (centre .entry)) «scaled_squared_radius»
+        ⌜ r ≡ panelShown total channelTypes (lentFigures n (now (codes .entry)) (now (centre .entry)) «scaled_squared_radius»
         «scaled_lower_bound» moves) ⌝ }
 {
     if !figures_within(
         n,
-        types,
+        codes,
         centre,
         scaled_squared_radius,
         scaled_lower_bound,
@@ -101,12 +102,12 @@ pub fn panel_lent(
 pub fn panel(figures: Figures) -> PanelShown
     ensures { λ r. ⌜ r ≡ panelShown total channelTypes figures ⌝ }
 {
-    let types = figures.types;
+    let codes = figures.codes;
     let ball = figures.ball;
     let centre = ball.scaled_centre;
     panel_lent(
         figures.n,
-        &types,
+        &codes,
         &centre,
         ball.scaled_squared_radius,
         ball.scaled_lower_bound,

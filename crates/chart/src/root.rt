@@ -1,9 +1,9 @@
 // The radius of a disc in units of 1/65,536: the smallest whole number whose square is at least M.
 ghost use Prim.Native.Nat.{_≤_, _<_};
 ghost use Rattle.integers.specs.Reading.{Bounded};
-ghost use Rattle.geometry.specs.Limits.{total, distanceLimit};
+ghost use Rattle.limits.specs.Limits.{total, distanceLimit};
 ghost use Rattle.chart.specs.Root.{ceilingRoot, rootLimit};
-use figures::limits::TOTAL;
+use limits::TOTAL;
 
 // a whole number whose square is at least the largest M
 const ROOT_MOST: u64 = 22_628 * TOTAL as u64;

@@ -16,7 +16,7 @@ use lib.ListN.{getD, take, drop}
 use Rattle.integers.specs.Tests.{sameInteger, sameFlag}
 use Rattle.lists.specs.Padded.{padded}
 use Rattle.refusal.specs.Outcome.{numberOf}
-use Rattle.geometry.specs.Limits.{channelLimit}
+use Rattle.limits.specs.Limits.{channelLimit}
 use Rattle.geometry.specs.Places.{centreList, centreOf}
 use Rattle.ball.specs.Check.{checking}
 use Rattle.ball.specs.declared.Ball.{Ball}

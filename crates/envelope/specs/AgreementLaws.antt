@@ -33,7 +33,8 @@ use Rattle.lists.specs.Padded.{padded, padded-first}
 use Rattle.refusal.specs.Outcome.{numberOf}
 use Rattle.refusal.specs.declared.Outcome.the-variants.{Accepted}
 use Rattle.geometry.specs.Figures.{scaledCentre}
-use Rattle.geometry.specs.Limits.{channelLimit, budgetLimit, coordinate, rowsWithin}
+use Rattle.geometry.specs.Table.{coordinate, rowsWithin}
+use Rattle.limits.specs.Limits.{channelLimit, budgetLimit}
 use Rattle.geometry.specs.Move.{weightOf}
 use Rattle.geometry.specs.Places.{centreList, centreOf, weightsTotal}
 use Rattle.geometry.specs.PlacesLaws.{centreList-at, centreList-cong}
@@ -42,14 +43,14 @@ use Rattle.ball.specs.Ball.{ballOf}
 use Rattle.ball.specs.Check.{checking}
 use Rattle.ball.specs.Draw.{drawing}
 use Rattle.ball.specs.DrawLaws.{checking-checked}
-use Rattle.ball.specs.Promise.{Tight}
+use Rattle.ball.specs.Contracts.{Tight}
 use Rattle.ball.specs.Demand.{checking-zero, checking-accepted, checking-tight}
 use Rattle.ball.specs.DrawnWeights.{drawing-rest, drawing-checks}
 use Rattle.ball.specs.declared.Ball.{Ball}
 use Rattle.ball.specs.declared.Checked.{Checked}
 use Rattle.ball.specs.declared.Drawing.{Drawing}
-use Rattle.channel.specs.Channel.{ChannelType}
-use Rattle.envelope.specs.Figures.{codesKnown, figuresWithin, figuresOf}
+use Rattle.channel.specs.Channel.{Types, codesKnown}
+use Rattle.envelope.specs.Figures.{figuresWithin, figuresOf}
 use Rattle.envelope.specs.FigureLaws.{within-figures, figures-within, checked-within}
 use Rattle.envelope.specs.Agreement.{allZero, samePlaces, ballAgrees, agrees, clearedBall, cleared, drawnEnvelope, withCentre}
 
@@ -233,7 +234,7 @@ module _ (D limit : ℕ) (rows : List ℤ) (m n : ℕ) where
       agreed-tight positive =
           subst (Tight D m n (coordinate rows n)) (sym agreed-ball) (checking-tight D limit rows m n (take m ws) (a .accepted) positive)
 
-      pub agreed-within : 0 < D → (types : List ChannelType) (codes : List ℕ) (moves : ℕ) → n ≤ length codes → n ≤ length (b .«scaled_centre»)
+      pub agreed-within : 0 < D → (types : Types) (codes : List ℕ) (moves : ℕ) → n ≤ length codes → n ≤ length (b .«scaled_centre»)
           → codesKnown types (take n codes) ≡ true → moves ≤ budgetLimit → figuresWithin D types (figuresOf n codes b moves) ≡ true
       agreed-within positive types codes moves typed places known most =
           let w = within-figures D types (figuresOf n codes (checked .ball) moves)

@@ -1,6 +1,4 @@
 -- Laws of an envelope's figures, for any total D and table of types.
---     codes-each, each-codes              known codes, code by code
---     codes-next, codes-fail              one code more, and a code of no type, as a loop over the codes meets them
 --     Within D types f                    each limit on the figures, as a fact
 --     within-figures, figures-within      the test of the limits, as the record
 --     figures-refused                     a limit that is not kept
@@ -24,8 +22,9 @@ use lib.Seq.{take-suc, getD-take, length-take-le}
 use Rattle.integers.specs.Tests.{both, clash, refuted, range-in}
 use Rattle.lists.specs.Each.{Each, each-cons, each-head, each-tail, each-append}
 use Rattle.refusal.specs.declared.Outcome.the-variants.{Accepted}
-use Rattle.geometry.specs.Limits.{total, channelLimit, centreLimit, distanceLimit, budgetLimit, coordinate, placesWithin}
-use Rattle.geometry.specs.Asked.{CentreWithin}
+use Rattle.geometry.specs.Table.{coordinate, placesWithin}
+use Rattle.limits.specs.Limits.{total, channelLimit, centreLimit, distanceLimit, budgetLimit}
+use Rattle.geometry.specs.Contracts.{CentreWithin}
 use Rattle.geometry.specs.Places.{centreOf}
 use Rattle.geometry.specs.PlacesLaws.{length-centreList}
 use Rattle.geometry.specs.TableLaws.{placesWithin-at, placesWithin-by, within-limits}
@@ -33,54 +32,22 @@ use Rattle.ball.specs.Ball.{ballOf}
 use Rattle.ball.specs.Draw.{drawing}
 use Rattle.ball.specs.Check.{checking}
 use Rattle.ball.specs.DrawLaws.{checking-checked}
-use Rattle.ball.specs.Promise.{Tight}
+use Rattle.ball.specs.Contracts.{Tight}
 use Rattle.ball.specs.Demand.{drawing-accepted, drawing-is, drawing-spent, drawing-tight, checking-accepted, checking-tight}
 use Rattle.ball.specs.declared.Ball.{Ball}
 use Rattle.ball.specs.declared.Checked.{Checked}
 use Rattle.ball.specs.declared.Drawing.{Drawing}
-use Rattle.channel.specs.Channel.{ChannelType, known}
+use Rattle.channel.specs.Channel.{Types, known, codesKnown}
 use Rattle.channel.specs.ChannelLaws.{Known}
-use Rattle.envelope.specs.Figures.{channelCodes, codesKnown, figuresWithin, figuresOf}
+use Rattle.envelope.specs.Figures.{channelCodes, figuresWithin, figuresOf}
 use Rattle.envelope.specs.declared.Figures.{Figures}
-
--- ---- codes
-
-module _ (types : List ChannelType) where
-  pub codes-each : (codes : List ℕ) → codesKnown types codes ≡ true → Each (Known types) 0 codes
-  unfolding codesKnown
-  codes-each [] h = λ k l. absurd (not-suc-le-zero l)
-  codes-each (code ∷ codes) h =
-      let parts = both (known types code) (codesKnown types codes) h in
-      each-cons (Known types) 0 code codes (parts .0) (codes-each codes (parts .1))
-
-  pub each-codes : (codes : List ℕ) → Each (Known types) 0 codes → codesKnown types codes ≡ true
-  unfolding codesKnown
-  each-codes [] e = refl
-  each-codes (code ∷ codes) e = ap₂ _&&_ (each-head (Known types) 0 code codes e) (each-codes codes (each-tail (Known types) 0 code codes e))
-
-  pub codes-next : (codes : List ℕ) (i : ℕ) → i < length codes → codesKnown types (take i codes) ≡ true → Known types (getD codes i 0)
-      → codesKnown types (take (i + 1) codes) ≡ true
-  codes-next codes i l h k =
-      let code = getD codes i 0 in
-      let last = each-cons (Known types) 0 code [] k (λ _ b. absurd (not-suc-le-zero b)) in
-      ap (codesKnown types) (ap (λ j. take j codes) (add-one i) ∙ take-suc codes i 0 l)
-      ∙ each-codes (take i codes ++ (code ∷ [])) (each-append (Known types) 0 (take i codes) (code ∷ []) (codes-each (take i codes) h) last)
-
-  -- the code at a place of the first n
-  taken-known : (codes : List ℕ) (n : ℕ) → n ≤ length codes → codesKnown types (take n codes) ≡ true → (k : ℕ) → k < n → Known types (getD codes k 0)
-  taken-known codes n l h k b =
-      ap (known types) (sym (getD-take n codes k 0 b)) ∙ codes-each (take n codes) h k (omega (arith, length-take-le n codes l))
-
-  pub codes-fail : (codes : List ℕ) (n i : ℕ) → n ≤ length codes → i < n → known types (getD codes i 0) ≡ false
-      → false ≡ codesKnown types (take n codes)
-  codes-fail codes n i l b e = refuted (codesKnown types (take n codes)) (λ h. clash (taken-known codes n l h i b) e)
 
 -- ---- the test of the limits, as a record
 
-pub record Within (D : ℕ) (types : List ChannelType) (f : Figures) : Type 0 where
+pub record Within (D : ℕ) (types : Types) (f : Figures) : Type 0 where
   pub some-channel : 1 ≤ f .n
   pub channels : f .n ≤ channelLimit
-  pub typed : f .n ≤ length (f .types)
+  pub typed : f .n ≤ length (f .codes)
   pub places : f .n ≤ length (f .ball .«scaled_centre»)
   pub codes : codesKnown types (channelCodes f) ≡ true
   pub centre-limit : (k : ℕ) → k < f .n → natAbs (centreOf (f .ball .«scaled_centre») k) ≤ centreLimit D
@@ -88,7 +55,7 @@ pub record Within (D : ℕ) (types : List ChannelType) (f : Figures) : Type 0 wh
   pub floor-limit : f .ball .«scaled_lower_bound» ≤ distanceLimit D
   pub moves-limit : f .moves ≤ budgetLimit
 
-module _ (D : ℕ) (types : List ChannelType) (f : Figures) where
+module _ (D : ℕ) (types : Types) (f : Figures) where
   pub within-figures : figuresWithin D types f ≡ true → Within D types f
   unfolding figuresWithin
   within-figures h =
@@ -96,7 +63,7 @@ module _ (D : ℕ) (types : List ChannelType) (f : Figures) where
       let M = f .ball .«scaled_squared_radius» in
       let L = f .ball .«scaled_lower_bound» in
       let count = leb 1 (f .n) && leb (f .n) channelLimit in
-      let lent = leb (f .n) (length (f .types)) && leb (f .n) (length x) in
+      let lent = leb (f .n) (length (f .codes)) && leb (f .n) (length x) in
       let codes = codesKnown types (channelCodes f) in
       let centre = placesWithin (centreLimit D) (f .n) x in
       let distances = leb M (distanceLimit D) && leb L (distanceLimit D) in
@@ -107,12 +74,12 @@ module _ (D : ℕ) (types : List ChannelType) (f : Figures) where
       let fourth = both centre (distances && moves) (third .1) in
       let fifth = both distances moves (fourth .1) in
       let counts = both (leb 1 (f .n)) (leb (f .n) channelLimit) (first .0) in
-      let lengths = both (leb (f .n) (length (f .types))) (leb (f .n) (length x)) (second .0) in
+      let lengths = both (leb (f .n) (length (f .codes))) (leb (f .n) (length x)) (second .0) in
       let limits = both (leb M (distanceLimit D)) (leb L (distanceLimit D)) (fifth .0) in
       record {
         some-channel = leb-true 1 (f .n) (counts .0);
         channels = leb-true (f .n) channelLimit (counts .1);
-        typed = leb-true (f .n) (length (f .types)) (lengths .0);
+        typed = leb-true (f .n) (length (f .codes)) (lengths .0);
         places = leb-true (f .n) (length x) (lengths .1);
         codes = third .0;
         centre-limit = placesWithin-at (centreLimit D) x (f .n) (fourth .0);
@@ -131,7 +98,7 @@ module _ (D : ℕ) (types : List ChannelType) (f : Figures) where
         let limit = distanceLimit D in
         let x = f .ball .«scaled_centre» in
         ap₂ _&&_ (range-in 1 channelLimit (f .n) (w .some-channel) (w .channels))
-        (ap₂ _&&_ (ap₂ _&&_ (le-leb (f .n) (length (f .types)) (w .typed)) (le-leb (f .n) (length x) (w .places)))
+        (ap₂ _&&_ (ap₂ _&&_ (le-leb (f .n) (length (f .codes)) (w .typed)) (le-leb (f .n) (length x) (w .places)))
         (ap₂ _&&_ (w .codes)
         (ap₂ _&&_ (placesWithin-by (centreLimit D) x (f .n) (w .centre-limit))
         (ap₂ _&&_
@@ -140,7 +107,7 @@ module _ (D : ℕ) (types : List ChannelType) (f : Figures) where
         (le-leb (f .moves) budgetLimit (w .moves-limit))))))
 
 -- what the numeric functions ask of X
-pub within-centre : {types : List ChannelType} {f : Figures} → Within total types f → CentreWithin (f .n) (f .ball .«scaled_centre»)
+pub within-centre : {types : Types} {f : Figures} → Within total types f → CentreWithin (f .n) (f .ball .«scaled_centre»)
 within-centre w = record { places = w .places; bound = w .centre-limit }
 
 -- ---- 2.14: the figures that are handed out are within their limits
@@ -148,7 +115,7 @@ within-centre w = record { places = w .places; bound = w .centre-limit }
 abbrev pub drawnFigures : ℕ → List ℕ → Drawing → Figures
 drawnFigures n codes r = figuresOf n codes (r .ball) (r .moves)
 
-module _ (D : ℕ) (types : List ChannelType) (n : ℕ) (codes : List ℕ) (typed : n ≤ length codes) (k : codesKnown types (take n codes) ≡ true) where
+module _ (D : ℕ) (types : Types) (n : ℕ) (codes : List ℕ) (typed : n ≤ length codes) (k : codesKnown types (take n codes) ≡ true) where
   pub tight-within : (m : ℕ) (a : ℕ → ℕ → ℤ) (ball : Ball) (moves : ℕ) → Tight D m n a ball → n ≤ length (ball .«scaled_centre»)
       → 1 ≤ n → n ≤ channelLimit → moves ≤ budgetLimit → figuresWithin D types (figuresOf n codes ball moves) ≡ true
   tight-within m a ball moves t places some most b =

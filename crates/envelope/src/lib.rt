@@ -5,24 +5,26 @@ ghost use Prim.Native.Nat.{_≤_};
 ghost use lib.Dec.{leb};
 ghost use lib.IntN.{natAbs};
 ghost use lib.ListN.{length, take};
-ghost use Rattle.geometry.specs.Limits.{total, centreLimit, placesWithin};
-ghost use Rattle.channel.specs.Channel.{channelTypes};
-ghost use Rattle.envelope.specs.Figures.{codesKnown, figuresWithin, lentFigures};
+ghost use Rattle.geometry.specs.Table.{placesWithin};
+ghost use Rattle.limits.specs.Limits.{total, centreLimit};
+ghost use Rattle.channel.specs.Channel.{channelTypes, codesKnown};
+ghost use Rattle.envelope.specs.Figures.{figuresWithin, lentFigures};
 
 pub mod agreement;
 
 use ball::Ball;
-use figures::limits::BUDGET_MOST;
-use figures::limits::CENTRE_MOST;
-use figures::limits::CHANNELS;
-use figures::limits::DISTANCE_MOST;
-use figures::limits::ROWS;
+use channel::Code;
+use limits::BUDGET_MOST;
+use limits::CENTRE_MOST;
+use limits::CHANNELS;
+use limits::DISTANCE_MOST;
+use limits::ROWS;
 
 // An envelope's figures: n channels of these types, X, M, L and the ending (in `ball`), and the moves made. Places past n are
 // not looked at when the figures are handed in, and are 0 when they are handed out.
 pub struct Figures {
     pub n: usize,
-    pub types: [u8; CHANNELS],
+    pub codes: [Code; CHANNELS],
     pub ball: Ball,
     pub moves: u32,
 }
@@ -31,21 +33,6 @@ pub struct Figures {
 pub struct Envelope {
     pub figures: Figures,
     pub weights: [u32; ROWS],
-}
-
-// Whether each of the first n codes is that of a type.
-pub fn types_known(types: &[u8], n: usize) -> bool
-    requires { ⌜ n ≤ length (now types) ⌝ }
-    ensures { λ r. ⌜ r ≡ codesKnown channelTypes (take n (now (types .entry))) ⌝ }
-{
-    let mut i = 0;
-    while i < n {
-        if !channel::is_known(types[i]) {
-            return false;
-        }
-        i += 1;
-    }
-    true
 }
 
 fn place_within(x: i64) -> bool
@@ -76,14 +63,14 @@ fn centre_within(centre: &[i64], n: usize) -> bool
 // Whether there are n types and n places of X, and every figure is within its limits: n, the types, X, M, L and the moves.
 pub fn figures_within(
     n: usize,
-    types: &[u8],
+    codes: &[Code],
     centre: &[i64],
     scaled_squared_radius: u64,
     scaled_lower_bound: u64,
     moves: u32,
 ) -> bool
     ensures { λ r.
-        ⌜ r ≡ figuresWithin total channelTypes (lentFigures n (now (types .entry)) (now (centre .entry)) «scaled_squared_radius»
+        ⌜ r ≡ figuresWithin total channelTypes (lentFigures n (now (codes .entry)) (now (centre .entry)) «scaled_squared_radius»
         «scaled_lower_bound» moves) ⌝ }
 {
     if n < 1 {
@@ -92,13 +79,13 @@ pub fn figures_within(
     if CHANNELS < n {
         return false;
     }
-    if types.len() < n {
+    if codes.len() < n {
         return false;
     }
     if centre.len() < n {
         return false;
     }
-    if !types_known(types, n) {
+    if !channel::codes_known(codes, n) {
         return false;
     }
     if !centre_within(centre, n) {

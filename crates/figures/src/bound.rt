@@ -5,12 +5,13 @@ ghost use lib.IntN.{natAbs};
 ghost use Rattle.integers.specs.Sum.{square};
 ghost use Rattle.geometry.specs.Figures.{squaredLength, weightedSquaredLength, scaledLowerBound};
 ghost use Rattle.geometry.specs.Move.{weightOf};
-ghost use Rattle.geometry.specs.Limits.{total, channelLimit, coordinate, coordinateLimit, centreLimit, lengthLimit};
+ghost use Rattle.geometry.specs.Table.{coordinate};
+ghost use Rattle.limits.specs.Limits.{total, channelLimit, coordinateLimit, centreLimit, lengthLimit};
 ghost use Rattle.geometry.specs.Places.{centreOf};
 ghost use Rattle.integers.specs.Reading.{Bounded};
-ghost use Rattle.geometry.specs.Asked.{CentreWithin, RowAt, Table, WeightsOf, IsCentre};
-use crate::limits::CHANNELS;
-use crate::limits::TOTAL;
+ghost use Rattle.geometry.specs.Contracts.{CentreWithin, RowAt, Table, WeightsOf, IsCentre};
+use limits::CHANNELS;
+use limits::TOTAL;
 
 // The square of a coordinate.
 fn square_of(a: i32) -> u64

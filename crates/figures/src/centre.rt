@@ -4,10 +4,11 @@ ghost use Prim.Native.Nat.{_≤_, _<_};
 ghost use lib.IntN.{natAbs};
 ghost use Rattle.geometry.specs.Figures.{scaledCentre};
 ghost use Rattle.geometry.specs.Move.{weightOf};
-ghost use Rattle.geometry.specs.Limits.{total, coordinate, coordinateLimit};
-ghost use Rattle.geometry.specs.Asked.{Table, WeightsOf, IsCentre};
-ghost use Rattle.figures.specs.Given.{Weighted};
-use crate::limits::CHANNELS;
+ghost use Rattle.geometry.specs.Table.{coordinate};
+ghost use Rattle.limits.specs.Limits.{total, coordinateLimit};
+ghost use Rattle.geometry.specs.Contracts.{Table, WeightsOf, IsCentre};
+ghost use Rattle.figures.specs.Contracts.{Weighted};
+use limits::CHANNELS;
 
 // A weight times a coordinate.
 fn weighted(weight: u32, a: i32) -> i64

@@ -3,12 +3,13 @@ ghost use Prim.Native.Nat.{_*_, _≤_};
 ghost use lib.IntN.{natAbs, pos, _-ℤ_, _*ℤ_};
 ghost use Rattle.integers.specs.Sum.{square};
 ghost use Rattle.geometry.specs.Figures.{squaredDistance, scaledSquaredDistance};
-ghost use Rattle.geometry.specs.Limits.{total, coordinate, coordinateLimit, centreLimit, distanceLimit, separationLimit};
+ghost use Rattle.geometry.specs.Table.{coordinate};
+ghost use Rattle.limits.specs.Limits.{total, coordinateLimit, centreLimit, distanceLimit, separationLimit};
 ghost use Rattle.geometry.specs.Places.{centreOf};
 ghost use Rattle.integers.specs.Reading.{Bounded};
-ghost use Rattle.geometry.specs.Asked.{CentreWithin, RowAt};
-use crate::limits::TOTAL;
-use crate::limits::channels;
+ghost use Rattle.geometry.specs.Contracts.{CentreWithin, RowAt};
+use crate::table::channels;
+use limits::TOTAL;
 
 // One channel's part of s: the square of (D times coordinate - X).
 fn scaled_square(a: i32, centre: i64) -> u64

@@ -3,4 +3,4 @@
 pub mod bound;
 pub mod centre;
 pub mod distance;
-pub mod limits;
+pub mod table;

@@ -24,9 +24,10 @@ use Rattle.integers.specs.SumLaws.{sumℤ-cong, sumℕ-cong, sumℕ-mono, sum�
 use Rattle.integers.specs.Absolute.{abs-mul, abs-sub, abs-sum, square-pos, square-le}
 use Rattle.geometry.specs.Figures.{squaredLength, scaledCentre, scaledSquaredDistance, weightedSquaredLength, scaledLowerBound}
 use Rattle.geometry.specs.Move.{weightOf}
-use Rattle.geometry.specs.Limits.{channelLimit, total, coordinateLimit, centreLimit, coordinate}
+use Rattle.geometry.specs.Table.{coordinate}
+use Rattle.limits.specs.Limits.{channelLimit, total, coordinateLimit, centreLimit}
 use Rattle.geometry.specs.Places.{centreList, centreOf, weightsTotal}
-use Rattle.geometry.specs.Asked.{CentreWithin, Table, WeightsOf}
+use Rattle.geometry.specs.Contracts.{CentreWithin, Table, WeightsOf}
 use Rattle.geometry.specs.PlacesLaws.{length-centreList, centreList-at, centreList-most}
 
 -- ---- squared lengths

@@ -3,9 +3,9 @@
 pub mod Figures
 pub mod Select
 pub mod Move
-pub mod Limits
+pub mod Table
 pub mod Places
-pub mod Asked
+pub mod Contracts
 pub mod PlacesLaws
 pub mod TableLaws
 pub mod FigureLaws

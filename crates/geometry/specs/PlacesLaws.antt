@@ -27,7 +27,7 @@ use mir.Val.{hbits}
 use Rattle.integers.specs.SumLaws.{last-or-below}
 use Rattle.integers.specs.Absolute.{backw}
 use Rattle.integers.specs.Reading.{back}
-use Rattle.geometry.specs.Limits.{channelLimit}
+use Rattle.limits.specs.Limits.{channelLimit}
 use Rattle.geometry.specs.Places.{tabulate, centreList, centreOf}
 
 module _ {A : Type 0} (f : ℕ → A) where

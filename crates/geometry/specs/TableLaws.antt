@@ -30,10 +30,11 @@ use Rattle.integers.specs.Sum.{sumℕ}
 use Rattle.integers.specs.SumLaws.{last-or-below, sumℕ-term, sumℕ-next, sumℕ-part}
 use Rattle.integers.specs.Absolute.{fits32, fits64}
 use Rattle.integers.specs.Reading.{back, Reads, held}
-use Rattle.geometry.specs.Limits.{total, rowLimit, channelLimit, coordinateLimit, centreLimit, coordinate, placesWithin, rowsWithin}
+use Rattle.geometry.specs.Table.{coordinate, placesWithin, rowsWithin}
+use Rattle.limits.specs.Limits.{total, rowLimit, channelLimit, coordinateLimit, centreLimit}
 use Rattle.geometry.specs.Move.{weightOf}
 use Rattle.geometry.specs.Places.{weightsTotal, centreOf}
-use Rattle.geometry.specs.Asked.{CentreWithin, RowAt, TableWithin, Table, WeightsOf}
+use Rattle.geometry.specs.Contracts.{CentreWithin, RowAt, TableWithin, Table, WeightsOf}
 
 module _ (bound : ℕ) (l : List ℤ) where
   -- the test of one place

@@ -15,18 +15,18 @@ use borrow.Author.Tests.{le-leb, lt-leb, eq-eqb, ne-eqb, leb-true, leb-false}
 use lib.Dec.{eqb, leb}
 use lib.IntN.{ℤ, pos, negsuc}
 use lib.ListN.{length, set, length-append}
-use Rattle.geometry.specs.Limits.{channelLimit}
+use Rattle.limits.specs.Limits.{channelLimit}
 use Rattle.text.specs.Parts.{comma, cut, same}
-use Rattle.text.specs.Number.{plain}
-use Rattle.text.specs.Saturated.{magnitudeLimit, saturated, plainRead}
-use Rattle.text.specs.declared.number.Plain.{Plain}
-use Rattle.text.specs.declared.number.Plain.the-variants as written
-use Rattle.channel.specs.Channel.{ChannelType, codeOf}
+use Rattle.number.specs.Number.{plain}
+use Rattle.number.specs.Contracts.{magnitudeLimit, saturated, plainRead}
+use Rattle.number.specs.declared.Plain.{Plain}
+use Rattle.number.specs.declared.Plain.the-variants as written
+use Rattle.channel.specs.Channel.{Types, codeOf}
 use Rattle.heading.specs.Heading.{countWithin, channelCount, andCode, codesOf, headingFields, headingOf}
 use Rattle.integers.specs.Tests.{cond-same}
 use Rattle.lists.specs.Gathered.{gathered-none, gathered-next}
 use Rattle.lists.specs.Padded.{padded, padded-next}
-use Rattle.heading.specs.Answers.{headingRead, tagsRead}
+use Rattle.heading.specs.Contracts.{headingRead, tagsRead}
 use Rattle.heading.specs.declared.Heading.{Heading}
 
 -- ---- the number of channels
@@ -69,11 +69,11 @@ count-most limit field = go (plain field)
 -- ---- the tags
 
 abbrev heading : ℕ → List ℕ → Heading
-heading n types = record { n = n; types = types }
+heading n types = record { n = n; codes = types }
 
 -- before turn i of the walk over n tags: the codes so far stand in the first places, and the codes of all tags are they with
 -- those of the rest
-pub record TagsSoFar (types : List ChannelType) (n : ℕ) (tags rest : List (List ℕ)) (places : List ℕ) (i : ℕ) : Type 0 where
+pub record TagsSoFar (types : Types) (n : ℕ) (tags rest : List (List ℕ)) (places : List ℕ) (i : ℕ) : Type 0 where
   pub codes : List ℕ
   pub passed : length codes ≡ i
   pub within : i ≤ n
@@ -81,7 +81,7 @@ pub record TagsSoFar (types : List ChannelType) (n : ℕ) (tags rest : List (Lis
   pub counts : length tags ≡ i + length rest
   pub continues : codesOf types tags ≡ Option·map (λ (l : List ℕ). codes ++ l) (codesOf types rest)
 
-module _ (types : List ChannelType) (n : ℕ) (tags : List (List ℕ)) where
+module _ (types : Types) (n : ℕ) (tags : List (List ℕ)) where
   pub tags-none : TagsSoFar types n tags tags (padded channelLimit []) 0
   tags-none =
       record {
@@ -93,7 +93,7 @@ module _ (types : List ChannelType) (n : ℕ) (tags : List (List ℕ)) where
         continues = gathered-none (codesOf types tags);
       }
 
-module _ {types : List ChannelType} {n : ℕ} {tags rest : List (List ℕ)} {places : List ℕ} {i : ℕ} (f : TagsSoFar types n tags rest places i) where
+module _ {types : Types} {n : ℕ} {tags rest : List (List ℕ)} {places : List ℕ} {i : ℕ} (f : TagsSoFar types n tags rest places i) where
   pub tags-next : {tag : List ℕ} {further : List (List ℕ)} {code : ℕ} → n ≤ channelLimit → i < n → rest ≡ tag ∷ further
       → code ≡ codeOf types tag → (code ≡ 0 → ⊥) → TagsSoFar types n tags further (set places i code) (i + 1)
   unfolding codesOf
@@ -133,7 +133,7 @@ module _ {types : List ChannelType} {n : ℕ} {tags rest : List (List ℕ)} {pla
   pub tags-many : {tag : List ℕ} {further : List (List ℕ)} → n ≤ i → rest ≡ tag ∷ further → headingRead none ≡ tagsRead types n tags
   tags-many h e = other-count (λ c. omega (arith, f .counts, ap (length {A = List ℕ}) e))
 
-  pub tags-done : n ≤ i → rest ≡ [] → record { n = n; types = places } ≡ tagsRead types n tags
+  pub tags-done : n ≤ i → rest ≡ [] → record { n = n; codes = places } ≡ tagsRead types n tags
   unfolding codesOf
   tags-done h e =
       let a : length (f .codes) ≡ n = omega (arith, f .passed) in
@@ -144,7 +144,7 @@ module _ {types : List ChannelType} {n : ℕ} {tags rest : List (List ℕ)} {pla
 
 -- ---- the line
 
-module _ (word : List ℕ) (limit : ℕ) (types : List ChannelType) (line : List ℕ) where
+module _ (word : List ℕ) (limit : ℕ) (types : Types) (line : List ℕ) where
   pub heading-other-word : {first : List ℕ} {rest : List (List ℕ)} → cut comma line ≡ first ∷ rest → same first word ≡ false
       → headingOf word limit types line ≡ none
   unfolding headingOf headingFields

@@ -9,15 +9,15 @@ use lib.IntN.{pos}
 use lib.ListN.{length}
 use Rattle.text.specs.Parts.{comma, join}
 use Rattle.text.specs.PartsLaws.{join-more}
-use Rattle.text.specs.Number.{print}
-use Rattle.text.specs.Put.{numbersAfter}
-use Rattle.channel.specs.Channel.{ChannelType, tagOf}
+use Rattle.number.specs.Number.{print}
+use Rattle.printing.specs.Contracts.{numbersAfter}
+use Rattle.channel.specs.Channel.{Types, tagOf}
 use Rattle.heading.specs.Heading.{printHeading}
 
-unfoldable pub tagsAfter : List ChannelType → List ℕ → List ℕ
+unfoldable pub tagsAfter : Types → List ℕ → List ℕ
 tagsAfter types codes = join comma ([] ∷ map (tagOf types) codes)
 
-module _ (types : List ChannelType) where
+module _ (types : Types) where
   pub tags-first : tagsAfter types [] ≡ []
   unfolding tagsAfter join
   tags-first = refl

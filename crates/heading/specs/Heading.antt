@@ -17,8 +17,8 @@ use lib.Dec.{eqb, leb}
 use lib.IntN.{ℤ, pos, negsuc}
 use lib.ListN.{length, getD}
 use Rattle.text.specs.Parts.{comma, cut, join, same}
-use Rattle.text.specs.Number.{plain, print}
-use Rattle.channel.specs.Channel.{ChannelType, codeOf, tagOf, known}
+use Rattle.number.specs.Number.{plain, print}
+use Rattle.channel.specs.Channel.{Types, codeOf, tagOf, known}
 
 abbrev pub countWithin : ℕ → Option ℤ → ℕ
 countWithin limit none = 0
@@ -33,25 +33,25 @@ abbrev pub andCode : ℕ → Option (List ℕ) → Option (List ℕ)
 andCode zero codes = none
 andCode (suc k) codes = Option·map (λ (l : List ℕ). suc k ∷ l) codes
 
-unfoldable pub codesOf : List ChannelType → List (List ℕ) → Option (List ℕ)
+unfoldable pub codesOf : Types → List (List ℕ) → Option (List ℕ)
 codesOf types [] = some []
 codesOf types (tag ∷ tags) = andCode (codeOf types tag) (codesOf types tags)
 
 -- the fields of a heading: the word, n, and as many tags, n being 1 or more
-unfoldable pub headingFields : List ℕ → ℕ → List ChannelType → List (List ℕ) → Option (List ℕ)
+unfoldable pub headingFields : List ℕ → ℕ → Types → List (List ℕ) → Option (List ℕ)
 headingFields word limit types [] = none
 headingFields word limit types (first ∷ []) = none
 headingFields word limit types (first ∷ count ∷ tags) =
     cond (same first word && (leb 1 (channelCount limit count) && eqb (channelCount limit count) (length tags)))
     (codesOf types tags) none
 
-unfoldable pub headingOf : List ℕ → ℕ → List ChannelType → List ℕ → Option (List ℕ)
+unfoldable pub headingOf : List ℕ → ℕ → Types → List ℕ → Option (List ℕ)
 headingOf word limit types line = headingFields word limit types (cut comma line)
 
-unfoldable pub printHeading : List ℕ → List ChannelType → List ℕ → List ℕ
+unfoldable pub printHeading : List ℕ → Types → List ℕ → List ℕ
 printHeading word types codes = join comma (word ∷ print (pos (length codes)) ∷ map (tagOf types) codes)
 
-pub record CodesWithin (limit : ℕ) (types : List ChannelType) (codes : List ℕ) : Type 0 where
+pub record CodesWithin (limit : ℕ) (types : Types) (codes : List ℕ) : Type 0 where
   pub some-channel : 1 ≤ length codes
   pub channels : length codes ≤ limit
   pub each-known : (k : ℕ) → k < length codes → known types (getD codes k 0) ≡ true

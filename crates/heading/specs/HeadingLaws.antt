@@ -18,14 +18,14 @@ use Rattle.text.specs.Parts.{comma, cut, join, same, free, allFree}
 use Rattle.integers.specs.Tests.{both, unlike, cond-some}
 use Rattle.lists.specs.Each.{Each, each-cons, each-head, each-tail}
 use Rattle.text.specs.PartsLaws.{same-eq, same-refl, join-cut, cut-join, join-free, join-length}
-use Rattle.text.specs.Number.{plain, print}
-use Rattle.text.specs.NumberLaws.{plain-print, print-plain, print-free, magnitude-short}
-use Rattle.text.specs.Label.{isLabel, isLabelByte}
-use Rattle.text.specs.LabelLaws.{label-free, no-digit, no-hyphen}
-use Rattle.channel.specs.Channel.{ChannelType, codeOf, tagOf}
-use Rattle.channel.specs.Answers.{tagLimit}
-use Rattle.channel.specs.AnswersLaws.{shortTags, type-short}
-use Rattle.channel.specs.ChannelLaws.{soundTypes, Known, code-tag, tag-code, known-code, known-some, tags-free}
+use Rattle.number.specs.Number.{plain, print}
+use Rattle.number.specs.NumberLaws.{plain-print, print-plain, print-free, magnitude-short}
+use Rattle.label.specs.Label.{isLabel, isLabelByte}
+use Rattle.label.specs.LabelLaws.{label-free, no-digit, no-hyphen}
+use Rattle.channel.specs.Channel.{Types, codeOf, tagOf}
+use Rattle.limits.specs.Limits.{tagLimit}
+use Rattle.channel.specs.ContractLaws.{ShortTags, type-short}
+use Rattle.channel.specs.ChannelLaws.{SoundTypes, Known, code-tag, tag-code, known-code, known-some, tags-free}
 use Rattle.heading.specs.Heading.{countWithin, channelCount, andCode, codesOf, headingFields, headingOf, printHeading, CodesWithin}
 
 module _ (limit : ℕ) where
@@ -56,7 +56,7 @@ andCode-some zero o codes e = unlike e
 andCode-some (suc k) none codes e = unlike e
 andCode-some (suc k) (some rest) codes e = (k, rest, refl, refl, cc)
 
-module _ (types : List ChannelType) where
+module _ (types : Types) where
   codes-known : (tags : List (List ℕ)) (codes : List ℕ) → codesOf types tags ≡ some codes → (length codes ≡ length tags) × Each (Known types) 0 codes
   unfolding codesOf
   codes-known [] codes e = let empty : [] ≡ codes = cc in rw (← empty) (refl, λ k h. absurd (omega arith))
@@ -95,7 +95,7 @@ module _ (types : List ChannelType) where
   unfolding headingOf
   heading-within word limit line codes e = fields-within word limit (cut comma line) codes e
 
-module _ (types : List ChannelType) (types-sound : soundTypes types ≡ true) where
+module _ (types : Types) (types-sound : SoundTypes types) where
   codes-printed : (tags : List (List ℕ)) (codes : List ℕ) → codesOf types tags ≡ some codes → map (tagOf types) codes ≡ tags
   unfolding codesOf
   codes-printed [] codes e = let empty : [] ≡ codes = cc in rw (← empty)
@@ -156,7 +156,7 @@ module _ (types : List ChannelType) (types-sound : soundTypes types ≡ true) wh
         )
         (printed-codes codes (within .each-known)))
 
-module _ (types : List ChannelType) (short : shortTags types ≡ true) where
+module _ (types : Types) (short : ShortTags types) where
   tags-length : (first codes : List ℕ) → length (join comma (first ∷ map (tagOf types) codes)) ≤ length first + suc tagLimit * length codes
   unfolding join
   tags-length first [] = omega arith

@@ -3,26 +3,26 @@ ghost use mathlib.Core.Path.{_≡_};
 ghost use mathlib.Core.Option.{none};
 ghost use Prim.Native.Nat.{_+_, _*_, _≤_};
 ghost use lib.ListN.{length, take};
-ghost use Rattle.geometry.specs.Limits.{channelLimit};
+ghost use Rattle.limits.specs.Limits.{channelLimit, tagLimit};
 ghost use Rattle.text.specs.Parts.{comma, partsFrom};
-ghost use Rattle.text.specs.Put.{Put};
+ghost use Rattle.printing.specs.Contracts.{Put};
 ghost use Rattle.channel.specs.Channel.{channelTypes, tagOf};
-ghost use Rattle.channel.specs.Answers.{tagLimit};
 ghost use Rattle.heading.specs.Heading.{headingOf, channelCount, printHeading};
-ghost use Rattle.heading.specs.Answers.{headingRead, tagsRead};
-use figures::limits::CHANNELS;
-use text::number::Plain;
-use text::number::plain_number;
+ghost use Rattle.heading.specs.Contracts.{headingRead, tagsRead};
+use channel::Code;
+use limits::CHANNELS;
+use number::Plain;
+use number::plain_number;
+use printing::put_bytes;
+use printing::put_numbers;
 use text::parts::COMMA;
 use text::parts::field_end;
 use text::parts::same_bytes;
-use text::printing::put_bytes;
-use text::printing::put_numbers;
 
 // The types of a heading's n channels; n is 0 where the line is no heading.
 pub struct Heading {
     pub n: usize,
-    pub types: [u8; CHANNELS],
+    pub codes: [Code; CHANNELS],
 }
 
 fn no_heading() -> Heading
@@ -30,7 +30,7 @@ fn no_heading() -> Heading
 {
     Heading {
         n: 0,
-        types: [0; CHANNELS],
+        codes: [0; CHANNELS],
     }
 }
 
@@ -61,7 +61,7 @@ fn read_tags(line: &[u8], at: usize, n: usize) -> Heading
     requires { ⌜ n ≤ channelLimit ⌝ }
     ensures { λ r. ⌜ r ≡ tagsRead channelTypes n (partsFrom comma (now (line .entry)) at) ⌝ }
 {
-    let mut types = [0u8; CHANNELS];
+    let mut codes = [0u8; CHANNELS];
     let mut from = at;
     let mut i = 0;
     while i < n {
@@ -73,14 +73,14 @@ fn read_tags(line: &[u8], at: usize, n: usize) -> Heading
         if code == 0 {
             return no_heading();
         }
-        types[i] = code;
+        codes[i] = code;
         from = end + 1;
         i += 1;
     }
     if from <= line.len() {
         return no_heading();
     }
-    Heading { n, types }
+    Heading { n, codes }
 }
 
 // What a line without its byte 10 gives as a heading with this word.
@@ -104,7 +104,7 @@ pub fn read_heading(line: &[u8], word: &[u8]) -> Heading
 }
 
 // The tag of a code. Answers the index after it.
-pub fn put_tag(out: &mut [u8], at: usize, code: u8) -> usize
+pub fn put_tag(out: &mut [u8], at: usize, code: Code) -> usize
     requires { ⌜ at + tagLimit ≤ length (now out) ⌝ }
     ensures { λ r. ⌜ Put (tagOf channelTypes code) (now (out .entry)) at (now (out .exit)) r ⌝ }
 {
@@ -115,17 +115,17 @@ pub fn put_tag(out: &mut [u8], at: usize, code: u8) -> usize
 }
 
 // The heading with this word and the first n codes, printed into a lent slice. Answers the index after it.
-pub fn put_heading(out: &mut [u8], at: usize, word: &[u8], types: &[u8], n: usize) -> usize
-    requires { ⌜ (n ≤ channelLimit) × ((n ≤ length (now types)) × (at + length (now word) + 21 + n * 4 ≤ length (now out))) ⌝ }
+pub fn put_heading(out: &mut [u8], at: usize, word: &[u8], codes: &[Code], n: usize) -> usize
+    requires { ⌜ (n ≤ channelLimit) × ((n ≤ length (now codes)) × (at + length (now word) + 21 + n * 4 ≤ length (now out))) ⌝ }
     ensures { λ r.
-        ⌜ Put (printHeading (now (word .entry)) channelTypes (take n (now (types .entry)))) (now (out .entry)) at (now (out .exit)) r ⌝ }
+        ⌜ Put (printHeading (now (word .entry)) channelTypes (take n (now (codes .entry)))) (now (out .entry)) at (now (out .exit)) r ⌝ }
 {
     let count = [n as i64];
     let mut from = put_numbers(out, at, word, &count, 1);
     let mut i = 0;
     while i < n {
         out[from] = COMMA;
-        from = put_tag(out, from + 1, types[i]);
+        from = put_tag(out, from + 1, codes[i]);
         i += 1;
     }
     from

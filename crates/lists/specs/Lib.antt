@@ -2,4 +2,3 @@
 pub mod Each
 pub mod Gathered
 pub mod Padded
-pub mod Filled

@@ -6,7 +6,7 @@ use mathlib.Core.Path.{_≡_}
 use mathlib.Core.List.{List}
 use lib.ListN.{length, take}
 use Rattle.io.specs.Counts.{Counts}
-use Rattle.text.specs.Put.{Put}
+use Rattle.printing.specs.Contracts.{Put}
 use Rattle.message.specs.Name.{nameLimit}
 
 pub record ShownLength (name : List ℕ) (r : ℕ) : Type 0 where

@@ -11,7 +11,7 @@
 use Prim.Native.Nat.{ℕ, _+_}
 use mathlib.Core.List.{List, _++_}
 use lib.IntN.{pos}
-use Rattle.text.specs.Number.{print}
+use Rattle.number.specs.Number.{print}
 use Rattle.message.specs.Ascii.{ascii}
 use Rattle.message.specs.Name.{escapedStart, escapedName, startRoom, nameRoom}
 

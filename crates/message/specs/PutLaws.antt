@@ -5,7 +5,7 @@ use mathlib.Core.Path.{sym}
 use mathlib.Core.List.{List}
 use lib.ListN.{length}
 use lib.Seq.{length-take-le}
-use Rattle.text.specs.Put.{Put}
+use Rattle.printing.specs.Contracts.{Put}
 use Rattle.message.specs.Contracts.{PutWithin}
 
 pub put-within : {room : ℕ} {w out₀ out : List ℕ} {at r : ℕ} → Put w out₀ at out r → r ≤ at + room → r ≤ length out

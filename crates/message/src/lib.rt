@@ -26,8 +26,8 @@ use crate::name::START_ROOM;
 use crate::name::put_name;
 use crate::name::put_start;
 use libc::STDERR_FILENO;
-use text::printing::put_bytes;
-use text::printing::put_number;
+use printing::put_bytes;
+use printing::put_number;
 
 const SEPARATOR: [u8; 2] = *b": ";
 

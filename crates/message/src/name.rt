@@ -16,7 +16,7 @@ ghost use Rattle.message.specs.Name.{
   nameRoom,
 };
 ghost use Rattle.message.specs.Contracts.{ShownLength, PutWithin};
-use text::printing::put_bytes;
+use printing::put_bytes;
 
 // the most bytes of a name that are told
 const NAME_MOST: usize = 60;

@@ -22,9 +22,9 @@ use Rattle.integers.specs.Sum.{sumℕ}
 use Rattle.integers.specs.SumLaws.{sumℕ-positive}
 use Rattle.geometry.specs.Select.{farthest, replaces, nearest}
 use Rattle.geometry.specs.SelectLaws.{farthest-taken, farthest-kept, nearest-one, nearest-taken, nearest-kept}
-use Rattle.geometry.specs.Limits.{total, distanceLimit}
+use Rattle.limits.specs.Limits.{total, distanceLimit}
 use Rattle.integers.specs.Reading.{Bounded}
-use Rattle.moves.specs.Given.{Found, score}
+use Rattle.moves.specs.Contracts.{Found, score}
 use Rattle.moves.specs.declared.Selected.{Selected}
 
 -- ---- a pass over the rows

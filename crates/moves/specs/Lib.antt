@@ -1,2 +1,2 @@
 -- The functions of one move: what each gives.
-pub mod Given
+pub mod Contracts

@@ -2,8 +2,8 @@
 ghost use lib.Dec.{ltb};
 ghost use Rattle.geometry.specs.Select.{farthest, nearest};
 ghost use Rattle.geometry.specs.Move.{weightOf};
-ghost use Rattle.geometry.specs.Asked.{CentreWithin, Table, WeightsOf};
-ghost use Rattle.moves.specs.Given.{Found, score};
+ghost use Rattle.geometry.specs.Contracts.{CentreWithin, Table, WeightsOf};
+ghost use Rattle.moves.specs.Contracts.{Found, score};
 use crate::Selected;
 use figures::distance::scaled_squared_distance;
 

@@ -3,18 +3,19 @@ ghost use mathlib.Core.Path.{_≡_};
 ghost use Prim.Native.Nat.{_≤_, _<_};
 ghost use lib.IntN.{natAbs, pos, _+ℤ_, _-ℤ_, _*ℤ_};
 ghost use Rattle.geometry.specs.Move.{cappedStep, weightOf, transfer, moved};
-ghost use Rattle.geometry.specs.Limits.{total, coordinateLimit, centreLimit, separationLimit, differenceLimit, coordinate};
+ghost use Rattle.geometry.specs.Table.{coordinate};
+ghost use Rattle.limits.specs.Limits.{total, coordinateLimit, centreLimit, separationLimit, differenceLimit};
 ghost use Rattle.integers.specs.Reading.{Bounded};
-ghost use Rattle.geometry.specs.Asked.{CentreWithin, RowAt, Table, WeightsOf, IsCentre};
-ghost use Rattle.moves.specs.Given.{Paired, shiftCentre};
+ghost use Rattle.geometry.specs.Contracts.{CentreWithin, RowAt, Table, WeightsOf, IsCentre};
+ghost use Rattle.moves.specs.Contracts.{Paired, shiftCentre};
 use crate::Pair;
 use crate::select::farthest_row;
 use crate::select::nearest_row;
 use figures::distance::squared_distance;
-use figures::limits::CHANNELS;
-use figures::limits::ROWS;
-use figures::limits::TOTAL;
-use figures::limits::channels;
+use figures::table::channels;
+use limits::CHANNELS;
+use limits::ROWS;
+use limits::TOTAL;
 
 // The far and the near row of the weights whose X is `centre`, with g and d².
 pub fn pair_of(rows: &[i32], m: usize, n: usize, weights: &[u32], centre: &[i64]) -> Pair

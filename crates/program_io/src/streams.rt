@@ -1,7 +1,7 @@
 // The texts that a program reads, and what it writes.
 ghost use Prim.Native.Nat.{_<_};
 ghost use lib.ListN.{length};
-ghost use Rattle.text.specs.Parts.{textLimit};
+ghost use Rattle.limits.specs.Limits.{textLimit};
 ghost use Rattle.program_io.specs.Contracts.{Read};
 use crate::descriptor::TextRead;
 use crate::descriptor::not_read;

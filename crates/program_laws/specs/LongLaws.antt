@@ -19,18 +19,18 @@ use lib.Seq.{take-all, length-take-le}
 use Rattle.integers.specs.Tests.{range-over}
 use Rattle.refusal.specs.Number.{text-length, outside-limits}
 use Rattle.refusal.specs.Outcome.{refused, choose}
-use Rattle.text.specs.Parts.{lineEnd, textLimit, textWithin, cut}
-use Rattle.channel.specs.Channel.{ChannelType}
-use Rattle.rows.specs.Rows.{Content, faulty, sound, tableOf}
+use Rattle.text.specs.Parts.{lineEnd, textWithin, cut}
+use Rattle.limits.specs.Limits.{textLimit}
+use Rattle.channel.specs.Channel.{Types}
+use Rattle.reference_rows.specs.Rows.{Content, faulty, sound, tableOf}
 use Rattle.reference.specs.Reference.{contentOf, content}
 use Rattle.envelope.specs.declared.Figures.{Figures}
 use Rattle.record_form.specs.Record.{form}
-use Rattle.record.specs.Answers.{notRead, givenWithin, formAnswer, recordRead}
+use Rattle.record.specs.Contracts.{notRead, givenWithin, formAnswer, recordRead}
 use Rattle.record.specs.declared.EnvelopeRead.{EnvelopeRead}
-use Rattle.service.specs.Readings.{linesWithEnds}
+use Rattle.text.specs.EndedLines.{linesWithEnds}
 use Rattle.service.specs.Lines.{printRefusal, printAccepted, printVerdicts}
-use Rattle.service.specs.Programs.{unlessRefused, contentOutput, drawOutput, contentAgainst, recordAgainst, ofFigures}
-use Rattle.service.specs.Programs.{verifyOutput, shownOutput, panelOutput, readingsOutput, judgeOutput}
+use Rattle.service.specs.Programs.{unlessRefused, contentOutput, drawOutput, contentAgainst, recordAgainst, ofFigures, verifyOutput, shownOutput, panelOutput, readingsOutput, judgeOutput}
 
 abbrev pub readLimit : ℕ
 readLimit = textLimit + 1
@@ -62,7 +62,7 @@ module _ {A : Type 0} (given : List ℕ → A) (refusal : A) where
           long-refused (take readLimit text) (omega (arith, length-take-le readLimit text (omega arith)))
           ∙ sym (long-refused text (omega arith))
 
-module _ (D limit : ℕ) (types : List ChannelType) where
+module _ (D limit : ℕ) (types : Types) where
   pub content-read : (reference : List ℕ) → content limit types (bytesRead reference) ≡ content limit types reference
   unfolding content
   content-read = within-read (λ text. contentOf limit types (cut lineEnd text)) (faulty text-length 0)

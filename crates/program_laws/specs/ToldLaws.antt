@@ -10,10 +10,10 @@
 --     refusal-injective           a printed refusal states one number and one line
 --     refusesTexts output         the test: the first line is a `NO`, and none that a single reading meets
 --     isFaulty, isRefused         a reference text is refused; a reference text or a record is
---     tagsApart, house-apart      no tag starts with `N`, which holds of document 01's types
+--     TagsApart, house-apart      no tag starts with `N`, which holds of document 01's types
 -- For a sound table of types and a total above 0, the output passes the test exactly where
 --     draw-told                   draw refuses the reference text
---     verify-told, panel-told     verify refuses one of its texts, or panel, whose types keep tagsApart
+--     verify-told, panel-told     verify refuses one of its texts, or panel, whose types keep TagsApart
 --     judge-told                  judge refuses the reference text, the record or the readings together
 use Prim.Native.Nat.{ℕ, suc, _≤_, _<_}
 use mathlib.Core.Path.{_≡_, refl, sym, ap, ap₂, subst, _∙_}
@@ -32,19 +32,20 @@ use Rattle.refusal.specs.Outcome.{numberOf, lineOf}
 use Rattle.refusal.specs.declared.Refusal.{Refusal}
 use Rattle.refusal.specs.declared.Outcome.{Outcome}
 use Rattle.refusal.specs.declared.Outcome.the-variants.{Accepted, Refused}
-use Rattle.geometry.specs.Limits.{channelLimit}
+use Rattle.limits.specs.Limits.{channelLimit, textLimit}
 use Rattle.text.specs.Lines.{printLines}
-use Rattle.text.specs.Number.{hyphen, isDigit, plain, print}
-use Rattle.text.specs.NumberLaws.{plain-print, print-free}
-use Rattle.text.specs.Parts.{comma, lineEnd, textLimit, textWithin, same, extend, cut, join, free, allFree}
+use Rattle.number.specs.Number.{hyphen, isDigit, plain, print}
+use Rattle.number.specs.NumberLaws.{plain-print, print-free}
+use Rattle.text.specs.Parts.{comma, lineEnd, textWithin, same, extend, cut, join, free, allFree}
 use Rattle.text.specs.PartsLaws.{text-within, same-refl, same-eq, join-cut, cut-join, join-length, join-free}
-use Rattle.text.specs.Put.{numbersAfter}
-use Rattle.channel.specs.Channel.{ChannelType, channelTypes, typeOf, tagOf}
-use Rattle.channel.specs.ChannelLaws.{soundTypes}
+use Rattle.printing.specs.Contracts.{numbersAfter}
+use Rattle.channel.specs.Channel.{Types, channelTypes, houseTypes, tagOf}
+use Rattle.channel.specs.ChannelLaws.{SoundTypes}
+use Rattle.channel.specs.ContractLaws.{everyTag, every-tag}
 use Rattle.value.specs.Values.{valuesInRange}
 use Rattle.heading.specs.Heading.{headingOf, printHeading}
-use Rattle.rows.specs.Row.{Row, rowOf, labelUsed}
-use Rattle.rows.specs.Rows.{Content, faulty, sound, rowLine, lastPart, andRow, rowsFrom, tableOf}
+use Rattle.reference_rows.specs.Row.{Row, rowOf, labelUsed}
+use Rattle.reference_rows.specs.Rows.{Content, faulty, sound, rowLine, lastPart, andRow, rowsFrom, tableOf}
 use Rattle.reference.specs.Reference.{referenceWord, afterHeading, contentOf, content}
 use Rattle.envelope.specs.Figures.{channelCodes, figuresWithin}
 use Rattle.envelope.specs.declared.Figures.{Figures}
@@ -58,11 +59,10 @@ use Rattle.record_print.specs.Printed.{recordText}
 use Rattle.record.specs.ReadLaws.{each-read}
 use Rattle.record.specs.declared.EnvelopeRead.{EnvelopeRead}
 use Rattle.chart.specs.Panel.{panelShown}
-use Rattle.service.specs.Readings.{withEnds, linesWithEnds}
+use Rattle.text.specs.EndedLines.{withEnds, linesWithEnds}
 use Rattle.service.specs.Lines.{refusalWord, printRefusal, printAccepted, printVerdict, printVerdicts, printSteps}
 use Rattle.service.specs.SizeLaws.{either, each-verdict}
-use Rattle.service.specs.Programs.{unlessRefused, drawOutput, contentAgainst, recordAgainst, ofFigures}
-use Rattle.service.specs.Programs.{verifyOutput, shownOutput, panelOutput, readingsOutput, judgeOutput}
+use Rattle.service.specs.Programs.{unlessRefused, drawOutput, contentAgainst, recordAgainst, ofFigures, verifyOutput, shownOutput, panelOutput, readingsOutput, judgeOutput}
 use Rattle.service.specs.ProgramLaws.{draw-faulty, draw-record, readings-refused, readings-judged, against-within, panel-accepted}
 use Rattle.program_laws.specs.TripLaws.{cut-line}
 
@@ -87,7 +87,7 @@ row-told number rows =
       and-false (eqb number value-range),
     )
 
-module _ (limit : ℕ) (types : List ChannelType) where
+module _ (limit : ℕ) (types : Types) where
   module _ (codes : List ℕ) where
     limit-told : (rows : List Row) (t : Bool) (further : Content) → contentTest further ≡ false
         → contentTest (cond t further (faulty row-count (rowLine (length rows)))) ≡ false
@@ -137,7 +137,7 @@ module _ (limit : ℕ) (types : List ChannelType) where
 abbrev OfTexts : EnvelopeRead → Type 0
 OfTexts read = ofReading (numberOf (read .outcome)) (lineOf (read .outcome)) ≡ false
 
-module _ (D limit : ℕ) (types : List ChannelType) (reference text : List ℕ) where
+module _ (D limit : ℕ) (types : Types) (reference text : List ℕ) where
   texts-told : OfTexts (recordAgainst D limit types reference text)
   unfolding recordAgainst
   texts-told = go (content limit types reference) refl
@@ -158,7 +158,7 @@ OfReading Quiet = Unit {0}
 OfReading (Alarm excess) = Unit {0}
 OfReading (RefusedReading r) = ofReading (r .number) (r .line) ≡ true
 
-module _ (D : ℕ) (types : List ChannelType) (f : Figures) (within : figuresWithin D types f ≡ true) where
+module _ (D : ℕ) (types : Types) (f : Figures) (within : figuresWithin D types f ≡ true) where
   module _ (text : List ℕ) (some-text : textWithin text ≡ true) where
     judged-told : OfReading (judged D types f text)
     unfolding judged
@@ -319,12 +319,12 @@ abbrev pub isFaulty : Content → Bool
 isFaulty (faulty number line) = true
 isFaulty (sound codes rows) = false
 
-module _ (types : List ChannelType) where
+module _ (types : Types) where
   record-told : (e : Envelope) → refusesTexts (recordText types e) ≡ false
   unfolding recordText printRecord printLines printHeading join
   record-told e = other-told 69 _ refl
 
-  pub draw-told : soundTypes types ≡ true → (D limit : ℕ) (reference : List ℕ)
+  pub draw-told : SoundTypes types → (D limit : ℕ) (reference : List ℕ)
       → refusesTexts (drawOutput D limit types reference) ≡ isFaulty (content limit types reference)
   draw-told types-sound D limit reference = go (content limit types reference) refl
     where
@@ -351,32 +351,25 @@ figures-told read output t texts further = go (read .outcome) refl
         only-told (r .number) (r .line) ∙ ap not (ap (λ (o : Outcome). ofReading (numberOf o) (lineOf o)) (sym is) ∙ texts)
 
 -- no tag starts as `NO` does
-unfoldable pub tagsApart : List ChannelType → Bool
-tagsApart [] = true
-tagsApart (t ∷ types) = not (eqb (getD (t .tag) 0 0) refusalByte) && tagsApart types
+abbrev isApart : List ℕ → Bool
+isApart tag = not (eqb (getD tag 0 0) refusalByte)
 
-pub house-apart : tagsApart channelTypes ≡ true
-unfolding tagsApart channelTypes
-house-apart = refl
+pub record TagsApart (types : Types) : Type 0 where
+  pub apart : (code : ℕ) → isApart (tagOf types code) ≡ true
 
-tag-apart : (types : List ChannelType) → tagsApart types ≡ true → (code : ℕ) → eqb (getD (tagOf types code) 0 0) refusalByte ≡ false
-unfolding tagsApart typeOf
-tag-apart [] h code = refl
-tag-apart (t ∷ types) h code =
-    let tests = both (not (eqb (getD (t .tag) 0 0) refusalByte)) (tagsApart types) h in
-    go (eqb (t .code) code) (not-true (eqb (getD (t .tag) 0 0) refusalByte) (tests .0)) (tag-apart types (tests .1) code)
-  where
-    go : (b : Bool) → eqb (getD (t .tag) 0 0) refusalByte ≡ false → eqb (getD (tagOf types code) 0 0) refusalByte ≡ false
-        → eqb (getD (cond b t (typeOf types code) .tag) 0 0) refusalByte ≡ false
-    go true first others = first
-    go false first others = others
+pub house-apart : TagsApart channelTypes
+unfolding everyTag houseTypes
+house-apart = record { apart = every-tag isApart refl houseTypes refl }
+
+tag-apart : (types : Types) → TagsApart types → (code : ℕ) → eqb (getD (tagOf types code) 0 0) refusalByte ≡ false
+tag-apart types h code = not-true (eqb (getD (tagOf types code) 0 0) refusalByte) (h .apart code)
 
 -- the first line of a panel starts with a tag
 tag-told : (tag number end more : List ℕ) → eqb (getD tag 0 0) refusalByte ≡ false → refusesTexts (((tag ++ (comma ∷ number)) ++ end) ++ more) ≡ false
 tag-told [] number end more h = other-told comma _ refl
 tag-told (b ∷ tag) number end more h = other-told b _ h
 
-steps-told : (types : List ChannelType) → tagsApart types ≡ true → (codes : List ℕ) (steps : List ℤ) → refusesTexts (printSteps types codes steps) ≡ false
+steps-told : (types : Types) → TagsApart types → (codes : List ℕ) (steps : List ℤ) → refusesTexts (printSteps types codes steps) ≡ false
 unfolding printSteps numbersAfter join
 steps-told types apart [] steps = nothing-told
 steps-told types apart (code ∷ codes) [] = nothing-told
@@ -394,7 +387,7 @@ line-told Quiet h more = other-told 81 _ refl
 line-told (Alarm excess) h more = other-told 65 _ refl
 line-told (RefusedReading r) h more = refusal-told (r .number) (r .line) more ∙ ap not h
 
-module _ (D : ℕ) (types : List ChannelType) (f : Figures) (within : figuresWithin D types f ≡ true) where
+module _ (D : ℕ) (types : Types) (f : Figures) (within : figuresWithin D types f ≡ true) where
   lines-told : (readings : List (List ℕ)) → 1 ≤ length readings → Each (λ reading. textWithin reading ≡ true) [] readings
       → refusesTexts (printVerdicts D types f readings) ≡ false
   unfolding printVerdicts
@@ -411,7 +404,7 @@ module _ (D : ℕ) (types : List ChannelType) (f : Figures) (within : figuresWit
           ∙ lines-told (linesWithEnds readings) (readings-some readings e) (readings-within readings e)
       go false e = ap refusesTexts (readings-refused D types f readings e) ∙ only-told text-length 0
 
-module _ (D limit : ℕ) (types : List ChannelType) (reference text : List ℕ) where
+module _ (D limit : ℕ) (types : Types) (reference text : List ℕ) where
   -- the record, read against the reference text
   abbrev read : EnvelopeRead
   read = recordAgainst D limit types reference text
@@ -421,8 +414,8 @@ module _ (D limit : ℕ) (types : List ChannelType) (reference text : List ℕ) 
   verify-told =
       figures-told read (λ f. printAccepted) false (texts-told D limit types reference text) (λ is. accepted-told) ∙ or-false (isRefused (read .outcome))
 
-  module _ (types-sound : soundTypes types ≡ true) (positive : 0 < D) where
-    pub panel-told : tagsApart types ≡ true → refusesTexts (panelOutput D limit types reference text) ≡ isRefused (read .outcome)
+  module _ (types-sound : SoundTypes types) (positive : 0 < D) where
+    pub panel-told : TagsApart types → refusesTexts (panelOutput D limit types reference text) ≡ isRefused (read .outcome)
     unfolding panelOutput
     panel-told apart =
         let f = read .envelope .figures in

@@ -23,20 +23,21 @@ use Rattle.lists.specs.Each.{Each, each-cons, each-tail}
 use Rattle.lists.specs.Padded.{padded, padded-first, padded-length}
 use Rattle.refusal.specs.Number.{text-length, outside-limits}
 use Rattle.refusal.specs.Outcome.{refused, choose}
-use Rattle.geometry.specs.Limits.{total, rowLimit, channelLimit, rowsWithin}
+use Rattle.geometry.specs.Table.{rowsWithin}
+use Rattle.limits.specs.Limits.{total, rowLimit, channelLimit}
 use Rattle.ball.specs.Draw.{drawing}
 use Rattle.text.specs.Parts.{lineEnd, textWithin, same, cut, join, free, allFree}
 use Rattle.text.specs.PartsLaws.{cut-some, join-cut, cut-join, cut-free}
-use Rattle.channel.specs.Channel.{ChannelType, channelTypes}
+use Rattle.channel.specs.Channel.{Types, channelTypes, codesKnown}
 use Rattle.channel.specs.ChannelLaws.{house-sound}
 use Rattle.value.specs.ValuesLaws.{range-in}
-use Rattle.rows.specs.Row.{Row, noRow}
-use Rattle.rows.specs.Rows.{sound, tableOf}
+use Rattle.reference_rows.specs.Row.{Row, noRow}
+use Rattle.reference_rows.specs.Rows.{sound, tableOf}
 use Rattle.reference.specs.Reference.{content}
 use Rattle.reference.specs.Printing.{RowWithin, Within}
 use Rattle.reference.specs.ReferenceLaws.{accepted-within}
-use Rattle.envelope.specs.Figures.{codesKnown}
-use Rattle.envelope.specs.FigureLaws.{each-codes, drawnFigures}
+use Rattle.envelope.specs.FigureLaws.{drawnFigures}
+use Rattle.channel.specs.CodesLaws.{each-codes}
 use Rattle.envelope.specs.Agreement.{drawnEnvelope}
 use Rattle.envelope.specs.declared.Envelope.{Envelope}
 use Rattle.reading.specs.Reading.{Reading, oneLine, readingLine, readingOf, printReading, ownReading}
@@ -47,16 +48,16 @@ use Rattle.reading.specs.declared.Verdict.{Verdict}
 use Rattle.reading.specs.declared.Verdict.the-variants.{Quiet}
 use Rattle.record_form.specs.Record.{form}
 use Rattle.record_print.specs.Printed.{recordText}
-use Rattle.record.specs.Answers.{notRead, formAnswer, recordRead}
+use Rattle.record.specs.Contracts.{notRead, formAnswer, recordRead}
 use Rattle.record.specs.ReadLaws.{accepting}
 use Rattle.record.specs.HouseLaws.{house-drawn-read}
 use Rattle.record.specs.declared.EnvelopeRead.{EnvelopeRead}
-use Rattle.service.specs.Readings.{withEnds, linesWithEnds}
+use Rattle.text.specs.EndedLines.{withEnds, linesWithEnds}
 use Rattle.service.specs.Lines.{printAccepted, printVerdict, printVerdicts}
 use Rattle.service.specs.Programs.{drawBudget, drawOutput, recordAgainst, ofFigures, verifyOutput, readingsOutput, judgeOutput}
 use Rattle.service.specs.ProgramLaws.{draw-accepted, draw-record, against-sound, readings-judged}
 
-pub first-codes : (D limit : ℕ) (types : List ChannelType) (rows : List ℤ) (m n : ℕ) (codes others text : List ℕ) → n ≤ length codes → n ≤ length others
+pub first-codes : (D limit : ℕ) (types : Types) (rows : List ℤ) (m n : ℕ) (codes others text : List ℕ) → n ≤ length codes → n ≤ length others
     → take n codes ≡ take n others → recordRead D limit types rows m n codes text ≡ recordRead D limit types rows m n others text
 unfolding recordRead
 first-codes D limit types rows m n codes others text some-codes some-others alike =

@@ -20,15 +20,15 @@ use lib.IntN.{ℤ}
 use lib.ListN.{length, getD, drop, drop-of-length-le}
 use lib.Seq.{drop-cons}
 use Rattle.integers.specs.Tests.{cond-same, impossible}
-use Rattle.text.specs.Parts.{comma, lineEnd, free, cut, same, PartEnd, partsFrom}
+use Rattle.text.specs.Parts.{comma, lineEnd, free, cut, same, partsFrom}
+use Rattle.text.specs.Contracts.{PartEnd}
 use Rattle.text.specs.PartsLaws.{parts-from, partAt}
-use Rattle.text.specs.Label.{isLabel}
-use Rattle.channel.specs.Channel.{ChannelType, tagOf}
-use Rattle.channel.specs.ChannelLaws.{soundTypes}
+use Rattle.label.specs.Label.{isLabel}
+use Rattle.channel.specs.Channel.{Types, tagOf, codesKnown}
+use Rattle.channel.specs.ChannelLaws.{SoundTypes}
 use Rattle.value.specs.Value.{Written, valueOf, reads}
 use Rattle.value.specs.Values.{valuesOf, valuesInRange}
 use Rattle.value.proofs.ValuesSteps.{ValuesSoFar, values-none, values-stop, values-whole}
-use Rattle.envelope.specs.Figures.{codesKnown}
 use Rattle.reading.specs.Reading.{Reading, tagFields, valueFields, readingFields, readingLine, tagsAgree}
 use Rattle.reading.specs.ReadingLaws.{agreed-free}
 use Rattle.reading.specs.Contracts.{linePairs, pairsRead, PairsRead, lineRead, lineAlone, LineRead}
@@ -47,17 +47,17 @@ two-fields line at {e} {end} h p more q =
 -- ---- the pairs
 
 -- before turn i of the walk over the pairs: the values so far, and all tags agree where those so far do and those of the rest
-pub record PairsSoFar (types : List ChannelType) (codes : List ℕ) (fields rest : List (List ℕ)) (lent₀ lent : List ℤ) (agree outside : Bool)
+pub record PairsSoFar (types : Types) (codes : List ℕ) (fields rest : List (List ℕ)) (lent₀ lent : List ℤ) (agree outside : Bool)
     (i : ℕ) : Type 0 where
   pub values : ValuesSoFar types codes (valueFields fields) (valueFields rest) lent₀ lent outside i
   pub counts : length fields ≡ i + i + length rest
   pub tags : tagsAgree types codes (tagFields fields) ≡ (agree && tagsAgree types (drop i codes) (tagFields rest))
 
-module _ (types : List ChannelType) (codes : List ℕ) (fields : List (List ℕ)) (lent₀ : List ℤ) where
+module _ (types : Types) (codes : List ℕ) (fields : List (List ℕ)) (lent₀ : List ℤ) where
   pub pairs-none : PairsSoFar types codes fields fields lent₀ lent₀ true false 0
   pairs-none = record { values = values-none types codes (valueFields fields) lent₀; counts = omega arith; tags = refl }
 
-module _ {types : List ChannelType} {codes : List ℕ} {fields rest : List (List ℕ)} {lent₀ lent : List ℤ} {agree outside : Bool} {i : ℕ}
+module _ {types : Types} {codes : List ℕ} {fields rest : List (List ℕ)} {lent₀ lent : List ℤ} {agree outside : Bool} {i : ℕ}
     (f : PairsSoFar types codes fields rest lent₀ lent agree outside i) where
   pub value-here : {tag value : List ℕ} {further : List (List ℕ)} → rest ≡ tag ∷ value ∷ further
       → valueFields rest ≡ value ∷ valueFields further
@@ -145,13 +145,13 @@ module _ {types : List ChannelType} {codes : List ℕ} {fields rest : List (List
 -- ---- the line
 
 -- what stands before a text's last byte 10, whether or not there is a byte 10 in it
-pub record FieldsRead (types : List ChannelType) (codes line : List ℕ) (lent₀ lent : List ℤ) (r : Line) : Type 0 where
+pub record FieldsRead (types : Types) (codes line : List ℕ) (lent₀ lent : List ℤ) (r : Line) : Type 0 where
   pub is : r ≡ lineRead types codes (readingFields (length codes) (cut comma line))
   pub same-length : length lent ≡ length lent₀
   pub written : (reading : Reading) → readingFields (length codes) (cut comma line) ≡ some reading → r ≡ Within
       → lent ≡ map reads (reading .values) ++ drop (length codes) lent₀
 
-module _ (types : List ChannelType) (codes line : List ℕ) {lent₀ lent : List ℤ} where
+module _ (types : Types) (codes line : List ℕ) {lent₀ lent : List ℤ} where
   pub line-ended : free lineEnd line ≡ false → length lent ≡ length lent₀ → LineRead types codes line lent₀ lent Malformed
   line-ended h l =
       let o : readingLine (length codes) (lineAlone line) ≡ none = ap (λ t. readingLine (length codes) (cond t (some line) none)) h in
@@ -178,7 +178,7 @@ module _ (types : List ChannelType) (codes line : List ℕ) {lent₀ lent : List
       go true h = line-whole f h
       go false h = line-ended h (f .same-length)
 
-  pub line-agreed : {r : Line} → FieldsRead types codes line lent₀ lent r → soundTypes types ≡ true → codesKnown types codes ≡ true
+  pub line-agreed : {r : Line} → FieldsRead types codes line lent₀ lent r → SoundTypes types → codesKnown types codes ≡ true
       → (r ≡ Malformed → ⊥) → (r ≡ TagDiffers → ⊥) → LineRead types codes line lent₀ lent r
   line-agreed {r} f sound codes-are formed agreed = line-whole f (go (readingFields (length codes) (cut comma line)) refl (f .is))
     where
@@ -192,7 +192,7 @@ module _ (types : List ChannelType) (codes line : List ℕ) {lent₀ lent : List
       go none e is = absurd (formed is)
       go (some reading) e is = tags reading e (tagsAgree types codes (reading .tags)) refl is
 
-module _ (types : List ChannelType) (codes line label : List ℕ) {fields : List (List ℕ)} (e : cut comma line ≡ label ∷ fields) {lent₀ : List ℤ} where
+module _ (types : Types) (codes line label : List ℕ) {fields : List (List ℕ)} (e : cut comma line ≡ label ∷ fields) {lent₀ : List ℤ} where
   pub fields-no-label : isLabel label ≡ false → FieldsRead types codes line lent₀ lent₀ Malformed
   unfolding readingFields
   fields-no-label h =

@@ -17,14 +17,15 @@ use lib.Seq.{take-all, take-suc, take-append-seam, getD-at}
 use Rattle.integers.specs.Tests.{clash, impossible}
 use Rattle.refusal.specs.Number.{text-length, line-form, value-range, outside-limits, tag-differs}
 use Rattle.refusal.specs.Outcome.{choose}
-use Rattle.geometry.specs.Limits.{channelLimit, coordinate}
+use Rattle.geometry.specs.Table.{coordinate}
+use Rattle.limits.specs.Limits.{channelLimit}
 use Rattle.geometry.specs.Places.{centreOf}
 use Rattle.geometry.specs.Figures.{scaledSquaredDistance}
 use Rattle.geometry.specs.FigureLaws.{distance-cong}
-use Rattle.geometry.specs.Asked.{RowAt}
+use Rattle.geometry.specs.Contracts.{RowAt}
 use Rattle.text.specs.Parts.{lineEnd, textWithin, free, cut}
-use Rattle.channel.specs.Channel.{ChannelType}
-use Rattle.channel.specs.ChannelLaws.{soundTypes}
+use Rattle.channel.specs.Channel.{Types}
+use Rattle.channel.specs.ChannelLaws.{SoundTypes}
 use Rattle.value.specs.Value.{Written, number, reads}
 use Rattle.value.specs.ValueLaws.{reads-most}
 use Rattle.value.specs.Values.{valuesInRange}
@@ -53,7 +54,7 @@ byDistance D f none = Quiet
 byDistance D f (some reading) =
     verdictOf (scaledSquaredDistance D (f .n) (centreOf (f .ball .«scaled_centre»)) (pointOf (reading .values))) (f .ball .«scaled_squared_radius»)
 
-by-line : (D : ℕ) (types : List ChannelType) (f : Figures) (o : Option Reading)
+by-line : (D : ℕ) (types : Types) (f : Figures) (o : Option Reading)
     → lineVerdict (lineRead types (channelCodes f) o) (byDistance D f o) ≡ judgedReading D types f o
 by-line D types f none = refl
 by-line D types f (some reading) =
@@ -65,7 +66,7 @@ by-line D types f (some reading) =
     go true false v = refl
     go false within v = refl
 
-pub judged-line : (D : ℕ) (types : List ChannelType) (f : Figures) {text : List ℕ} {lent₀ lent : List ℤ} {r : Line}
+pub judged-line : (D : ℕ) (types : Types) (f : Figures) {text : List ℕ} {lent₀ lent : List ℤ} {r : Line}
     → LineRead types (channelCodes f) text lent₀ lent r → length (channelCodes f) ≡ f .n → (told : Line) → r ≡ told
     → let reading = readingLine (f .n) (lineAlone text) in lineVerdict told (byDistance D f reading) ≡ judgedReading D types f reading
 judged-line D types f {text} read count told is =
@@ -84,7 +85,7 @@ pub record PointRead (text : List ℕ) (lent : List ℤ) (n : ℕ) : Type 0 wher
   pub distance : (D : ℕ) (X : ℕ → ℤ) → scaledSquaredDistance D n X (coordinate lent n 0) ≡ scaledSquaredDistance D n X (pointOf (reading .values))
 
 -- a line within has a reading, whose values are within their ranges
-line-within : (types : List ChannelType) (codes : List ℕ) (o : Option Reading) → Within ≡ lineRead types codes o
+line-within : (types : Types) (codes : List ℕ) (o : Option Reading) → Within ≡ lineRead types codes o
     → (reading : Reading) × (o ≡ some reading) × (valuesInRange types codes (reading .values) ≡ true)
 line-within types codes none e = impossible (cc)
 line-within types codes (some reading) e =
@@ -95,8 +96,8 @@ line-within types codes (some reading) e =
     go true false h = impossible (cc)
     go false false h = impossible (cc)
 
-module _ {types : List ChannelType} {codes text : List ℕ} {lent₀ lent : List ℤ} (read : LineRead types codes text lent₀ lent Within)
-    (sound : soundTypes types ≡ true) (n : ℕ) (count : length codes ≡ n) (few : n ≤ length lent₀) (most : n ≤ channelLimit) where
+module _ {types : Types} {codes text : List ℕ} {lent₀ lent : List ℤ} (read : LineRead types codes text lent₀ lent Within)
+    (sound : SoundTypes types) (n : ℕ) (count : length codes ≡ n) (few : n ≤ length lent₀) (most : n ≤ channelLimit) where
   pub point-read : PointRead text lent n
   unfolding coordinate scaledSquaredDistance
   point-read =
@@ -190,7 +191,7 @@ module _ (text : List ℕ) (end : ℕ) (last : length text ≡ end + 1) where
           let as-long : length line ≡ end = omega (arith, sym (length-append line (lineEnd ∷ [])) ∙ ap length whole) in
           absurd (h (ap (λ l. getD l end 0) (sym whole) ∙ getD-at line lineEnd [] 0 end as-long))
 
-pub judged-text : (D : ℕ) (types : List ChannelType) (f : Figures) (text : List ℕ) {within fitting : Bool} {line : Option (List ℕ)}
+pub judged-text : (D : ℕ) (types : Types) (f : Figures) (text : List ℕ) {within fitting : Bool} {line : Option (List ℕ)}
     → figuresWithin D types f ≡ within → textWithin text ≡ fitting → oneLine (cut lineEnd text) ≡ line
     → choose within
     (λ _. choose fitting (λ _. judgedReading D types f (readingLine (f .n) line)) (λ _. refusedVerdict text-length 0))

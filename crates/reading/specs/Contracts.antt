@@ -15,42 +15,41 @@ use lib.Dec.{eqb}
 use lib.IntN.{ℤ}
 use lib.ListN.{length, take, drop}
 use Rattle.text.specs.Parts.{lineEnd, free}
-use Rattle.geometry.specs.Limits.{channelLimit}
-use Rattle.geometry.specs.Asked.{CentreWithin}
-use Rattle.channel.specs.Channel.{ChannelType, channelTypes}
+use Rattle.limits.specs.Limits.{channelLimit}
+use Rattle.geometry.specs.Contracts.{CentreWithin}
+use Rattle.channel.specs.Channel.{Types, channelTypes, codesKnown}
 use Rattle.value.specs.Value.{Written, reads}
 use Rattle.value.specs.Values.{valuesOf, valuesInRange}
-use Rattle.envelope.specs.Figures.{codesKnown}
 use Rattle.reading.specs.Reading.{Reading, tagFields, valueFields, readingLine, tagsAgree}
 use Rattle.reading.specs.declared.line.Line.{Line}
 use Rattle.reading.specs.declared.line.Line.the-variants.{Malformed, TagDiffers, OutOfRange, Within}
 
-abbrev pub linePairs : List ChannelType → List ℕ → List (List ℕ) → Option (List Written) → Line
+abbrev pub linePairs : Types → List ℕ → List (List ℕ) → Option (List Written) → Line
 linePairs types codes tags none = Malformed
 linePairs types codes tags (some vs) =
     cond (tagsAgree types codes tags) (cond (valuesInRange types codes vs) Within OutOfRange) TagDiffers
 
 -- exactly two fields for each code
-abbrev pub pairsRead : List ChannelType → List ℕ → List (List ℕ) → Line
+abbrev pub pairsRead : Types → List ℕ → List (List ℕ) → Line
 pairsRead types codes fields =
     cond (eqb (length fields) (length codes + length codes))
     (linePairs types codes (tagFields fields) (valuesOf (valueFields fields))) Malformed
 
 -- the values of a line within stand in the first of the lent places
-pub record PairsRead (types : List ChannelType) (codes : List ℕ) (fields : List (List ℕ)) (lent₀ lent : List ℤ) (r : Line) : Type 0 where
+pub record PairsRead (types : Types) (codes : List ℕ) (fields : List (List ℕ)) (lent₀ lent : List ℤ) (r : Line) : Type 0 where
   pub is : r ≡ pairsRead types codes fields
   pub same-length : length lent ≡ length lent₀
   pub written : (vs : List Written) → valuesOf (valueFields fields) ≡ some vs → r ≡ Within
       → lent ≡ map reads vs ++ drop (length codes) lent₀
 
-abbrev pub lineRead : List ChannelType → List ℕ → Option Reading → Line
+abbrev pub lineRead : Types → List ℕ → Option Reading → Line
 lineRead types codes none = Malformed
 lineRead types codes (some reading) = linePairs types codes (reading .tags) (some (reading .values))
 
 abbrev pub lineAlone : List ℕ → Option (List ℕ)
 lineAlone line = cond (free lineEnd line) (some line) none
 
-pub record LineRead (types : List ChannelType) (codes line : List ℕ) (lent₀ lent : List ℤ) (r : Line) : Type 0 where
+pub record LineRead (types : Types) (codes line : List ℕ) (lent₀ lent : List ℤ) (r : Line) : Type 0 where
   pub is : r ≡ lineRead types codes (readingLine (length codes) (lineAlone line))
   pub same-length : length lent ≡ length lent₀
   pub written : (reading : Reading) → readingLine (length codes) (lineAlone line) ≡ some reading → r ≡ Within

@@ -24,28 +24,30 @@ use Rattle.refusal.specs.Number.{outside-limits}
 use Rattle.refusal.specs.Outcome.{choose}
 use Rattle.refusal.specs.declared.Outcome.the-variants.{Accepted}
 use Rattle.geometry.specs.FigureLaws.{distance-cong}
-use Rattle.geometry.specs.Limits.{budgetLimit, coordinate}
+use Rattle.geometry.specs.Table.{coordinate}
+use Rattle.limits.specs.Limits.{budgetLimit}
 use Rattle.geometry.specs.TableLaws.{row-end}
 use Rattle.ball.specs.Draw.{drawing}
 use Rattle.ball.specs.Check.{checking}
-use Rattle.ball.specs.Promise.{Tight}
+use Rattle.ball.specs.Contracts.{Tight}
 use Rattle.ball.specs.Demand.{drawing-accepts, drawing-tight, checking-tight}
 use Rattle.ball.specs.declared.Ball.{Ball}
 use Rattle.text.specs.Parts.{textWithin}
-use Rattle.text.specs.Label.{isLabel}
-use Rattle.channel.specs.Channel.{ChannelType}
-use Rattle.channel.specs.ChannelLaws.{soundTypes}
+use Rattle.label.specs.Label.{isLabel}
+use Rattle.channel.specs.Channel.{Types, codesKnown}
+use Rattle.channel.specs.ChannelLaws.{SoundTypes}
 use Rattle.value.specs.Value.{Written, number, reads}
 use Rattle.value.specs.Values.{valuesInRange}
 use Rattle.value.specs.ValuesLaws.{range-in}
-use Rattle.rows.specs.Row.{Row, noRow}
-use Rattle.rows.specs.Rows.{sound, tableOf}
+use Rattle.reference_rows.specs.Row.{Row, noRow}
+use Rattle.reference_rows.specs.Rows.{sound, tableOf}
 use Rattle.reference.specs.Reference.{content}
 use Rattle.reference.specs.Printing.{Within}
 use Rattle.reference.specs.ReferenceLaws.{accepted-within}
 use Rattle.reference.specs.TableLaws.{table-length, table-at, accepted-table}
-use Rattle.envelope.specs.Figures.{channelCodes, codesKnown, figuresWithin, figuresOf}
-use Rattle.envelope.specs.FigureLaws.{each-codes, drawnFigures, drawn-within, checked-within}
+use Rattle.envelope.specs.Figures.{channelCodes, figuresWithin, figuresOf}
+use Rattle.envelope.specs.FigureLaws.{drawnFigures, drawn-within, checked-within}
+use Rattle.channel.specs.CodesLaws.{each-codes}
 use Rattle.envelope.specs.declared.Figures.{Figures}
 use Rattle.reading.specs.Reading.{Reading, readingOf, tagsAgree, printReading, ownReading}
 use Rattle.reading.specs.Verdict.{verdictNumber, pointOf, verdictOf, judgedReading, judged}
@@ -70,7 +72,7 @@ verdict-not-8 s M = go (leb s M) (s - M)
     go true e h = omega arith
     go false e h = omega arith
 
-module _ (D : ℕ) (types : List ChannelType) (f : Figures) where
+module _ (D : ℕ) (types : Types) (f : Figures) where
   reading-not-8 : (o : Option Reading) → Not8 (judgedReading D types f o)
   reading-not-8 none h = omega arith
   reading-not-8 (some reading) h =
@@ -83,7 +85,7 @@ module _ (D : ℕ) (types : List ChannelType) (f : Figures) where
   figures-not-8 within text =
       rw within (either (textWithin text) _ _ (reading-not-8 (readingOf (f .n) text)) (λ e. omega arith))
 
-module _ (D : ℕ) (types : List ChannelType) (n : ℕ) (codes : List ℕ) (typed : n ≤ length codes) (k : codesKnown types (take n codes) ≡ true)
+module _ (D : ℕ) (types : Types) (n : ℕ) (codes : List ℕ) (typed : n ≤ length codes) (k : codesKnown types (take n codes) ≡ true)
     (positive : 0 < D) (limit : ℕ) (rows : List ℤ) (m : ℕ) where
   pub drawn-not-8 : (b : ℕ) → drawing D limit rows m n b .outcome ≡ Accepted
       → (text : List ℕ) → verdictNumber (judged D types (drawnFigures n codes (drawing D limit rows m n b)) text) ≡ outside-limits → ⊥
@@ -98,7 +100,7 @@ module _ (D : ℕ) (types : List ChannelType) (n : ℕ) (codes : List ℕ) (type
 
 -- ---- 3.2: its own rows are Quiet
 
-module _ (D : ℕ) (types : List ChannelType) (types-sound : soundTypes types ≡ true) (n : ℕ) (codes : List ℕ)
+module _ (D : ℕ) (types : Types) (types-sound : SoundTypes types) (n : ℕ) (codes : List ℕ)
     (label : List ℕ) (labelled : isLabel label ≡ true) (values : List Written) (complete : length values ≡ n)
     (in-ranges : valuesInRange types (take n codes) values ≡ true) where
   -- the text of the reading
@@ -131,7 +133,7 @@ module _ (D : ℕ) (types : List ChannelType) (types-sound : soundTypes types �
 
 -- ---- the rows of an accepted reference text
 
-module _ (D : ℕ) (positive : 0 < D) (limit : ℕ) (types : List ChannelType) (types-sound : soundTypes types ≡ true)
+module _ (D : ℕ) (positive : 0 < D) (limit : ℕ) (types : Types) (types-sound : SoundTypes types)
     (reference codes : List ℕ) (rows : List Row) (is : content limit types reference ≡ sound codes rows) (more : List ℤ)
     (held : List ℕ) (taken : take (length codes) held ≡ codes) where
   abbrev m : ℕ

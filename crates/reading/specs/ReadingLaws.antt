@@ -18,21 +18,19 @@ use lib.Dec.{eqb}
 use lib.ListN.{length, length-append, length-map}
 use Rattle.integers.specs.Tests.{both, clash, unlike, impossible, cond-some, range-in}
 use Rattle.lists.specs.Each.{Each, each-head, each-tail}
-use Rattle.geometry.specs.Limits.{channelLimit}
-use Rattle.text.specs.Parts.{comma, lineEnd, textLimit, textWithin, cut, join, same, free, allFree}
+use Rattle.limits.specs.Limits.{channelLimit, textLimit, labelLimit}
+use Rattle.text.specs.Parts.{comma, lineEnd, textWithin, cut, join, same, free, allFree}
 use Rattle.text.specs.PartsLaws.{same-eq, same-refl, join-cut, cut-join, cut-free, cut-keeps-free, join-free, join-length}
-use Rattle.text.specs.Label.{isLabel, isLabelByte, labelLimit}
-use Rattle.text.specs.LabelLaws.{label-free, label-short, no-digit, no-hyphen}
-use Rattle.channel.specs.Channel.{ChannelType, typeOf, tagOf}
-use Rattle.channel.specs.ChannelLaws.{soundTypes, Known, tag-label, tags-free}
+use Rattle.label.specs.Label.{isLabel, isLabelByte}
+use Rattle.label.specs.LabelLaws.{label-free, label-short, no-digit, no-hyphen}
+use Rattle.channel.specs.Channel.{Types, typeOf, tagOf, codesKnown}
+use Rattle.channel.specs.ChannelLaws.{SoundTypes, Known, tag-label, tags-free}
 use Rattle.value.specs.Value.{Written, lessThan, inRange, printValue}
 use Rattle.value.specs.ValueLaws.{value-free, valueLimit, value-short}
 use Rattle.value.specs.Values.{valuesOf, valuesInRange}
 use Rattle.value.specs.ValuesLaws.{values-printed, printed-values}
-use Rattle.envelope.specs.Figures.{codesKnown}
-use Rattle.envelope.specs.FigureLaws.{codes-each}
-use Rattle.reading.specs.Reading.{Reading, tagFields, valueFields, readingFields, oneLine, readingLine, readingOf, tagsAgree}
-use Rattle.reading.specs.Reading.{pairFields, printReading, ownReading}
+use Rattle.channel.specs.CodesLaws.{codes-each}
+use Rattle.reading.specs.Reading.{Reading, tagFields, valueFields, readingFields, oneLine, readingLine, readingOf, tagsAgree, pairFields, printReading, ownReading}
 
 -- what stands in the place of a tag may be anything that leaves the fields and the line as they are
 pub record InForm (n : ℕ) (reading : Reading) : Type 0 where
@@ -225,7 +223,7 @@ module _ {n : ℕ} {reading : Reading} (form : InForm n reading) where
 
 -- ---- the tags of the channels
 
-module _ (types : List ChannelType) where
+module _ (types : Types) where
   pub tags-agree : (codes : List ℕ) (tags : List (List ℕ)) → tagsAgree types codes tags ≡ true → tags ≡ map (tagOf types) codes
   unfolding tagsAgree
   tags-agree [] [] h = refl
@@ -240,7 +238,7 @@ module _ (types : List ChannelType) where
   agree-tags [] = refl
   agree-tags (code ∷ codes) = rw (same-refl (tagOf types code)) (agree-tags codes)
 
-  module _ (sound : soundTypes types ≡ true) where
+  module _ (sound : SoundTypes types) where
     pairs-short : (codes : List ℕ) (values : List Written) → Each (Known types) 0 codes → valuesInRange types codes values ≡ true → (first : List ℕ)
         → length (join comma (first ∷ pairFields (map (tagOf types) codes) values)) ≤ length first + length codes * (labelLimit + valueLimit + 2)
     unfolding valuesInRange pairFields join

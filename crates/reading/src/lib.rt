@@ -1,7 +1,7 @@
 // The verdict on a reading against the figures of an envelope (document 01, "Texts"): Quiet when s of the reading, taken as a row,
 // is at most M, else Alarm with s - M. Whoever made the figures and the text, the types are matched before a value's range counts.
 ghost use mathlib.Core.Path.{_≡_};
-ghost use Rattle.geometry.specs.Limits.{total};
+ghost use Rattle.limits.specs.Limits.{total};
 ghost use Rattle.channel.specs.Channel.{channelTypes};
 ghost use Rattle.envelope.specs.Figures.{lentFigures};
 ghost use Rattle.reading.specs.Reading.{readingLine};
@@ -12,10 +12,11 @@ mod line;
 
 use crate::line::Line;
 use crate::line::read_line;
+use channel::Code;
 use envelope::Figures;
 use envelope::figures_within;
 use figures::distance::scaled_squared_distance;
-use figures::limits::CHANNELS;
+use limits::CHANNELS;
 use refusal::Refusal;
 use text::parts::LINE_END;
 use text::parts::text_within;
@@ -48,18 +49,18 @@ fn verdict_of(distance: u64, radius: u64) -> Verdict
 // The verdict on what stands before a text's last byte 10, against known types and X within its limits.
 fn judge_line(
     n: usize,
-    types: &[u8],
+    codes: &[Code],
     centre: &[i64],
     scaled_squared_radius: u64,
     line: &[u8],
 ) -> Verdict
-    requires { ⌜ Judging n (now types) (now centre) ⌝ }
+    requires { ⌜ Judging n (now codes) (now centre) ⌝ }
     ensures { λ r.
-        ⌜ r ≡ judgedReading total channelTypes (lentFigures n (now (types .entry)) (now (centre .entry)) «scaled_squared_radius» 0 0)
+        ⌜ r ≡ judgedReading total channelTypes (lentFigures n (now (codes .entry)) (now (centre .entry)) «scaled_squared_radius» 0 0)
         (readingLine n (lineAlone (now (line .entry)))) ⌝ }
 {
     let mut values = [0i32; CHANNELS];
-    let read = read_line(line, types, n, &mut values);
+    let read = read_line(line, codes, n, &mut values);
     match read {
         Line::Malformed => refused(refusal::LINE_FORM, 1),
         Line::TagDiffers => refused(refusal::TAG_DIFFERS, 1),
@@ -75,7 +76,7 @@ fn judge_line(
 // leftmost 4.
 pub fn judge_lent(
     n: usize,
-    types: &[u8],
+    codes: &[Code],
     centre: &[i64],
     scaled_squared_radius: u64,
     scaled_lower_bound: u64,
@@ -83,12 +84,12 @@ pub fn judge_lent(
     text: &[u8],
 ) -> Verdict
     ensures { λ r.
-        ⌜ r ≡ judged total channelTypes (lentFigures n (now (types .entry)) (now (centre .entry)) «scaled_squared_radius»
+        ⌜ r ≡ judged total channelTypes (lentFigures n (now (codes .entry)) (now (centre .entry)) «scaled_squared_radius»
         «scaled_lower_bound» moves) (now (text .entry)) ⌝ }
 {
     if !figures_within(
         n,
-        types,
+        codes,
         centre,
         scaled_squared_radius,
         scaled_lower_bound,
@@ -103,19 +104,19 @@ pub fn judge_lent(
     if text[end] != LINE_END {
         return refused(refusal::LINE_FORM, 1);
     }
-    judge_line(n, types, centre, scaled_squared_radius, &text[..end])
+    judge_line(n, codes, centre, scaled_squared_radius, &text[..end])
 }
 
 // The same against figures as one value.
 pub fn judge(figures: Figures, text: &[u8]) -> Verdict
     ensures { λ r. ⌜ r ≡ judged total channelTypes figures (now (text .entry)) ⌝ }
 {
-    let types = figures.types;
+    let codes = figures.codes;
     let ball = figures.ball;
     let centre = ball.scaled_centre;
     judge_lent(
         figures.n,
-        &types,
+        &codes,
         &centre,
         ball.scaled_squared_radius,
         ball.scaled_lower_bound,

@@ -5,10 +5,10 @@ ghost use mathlib.Core.Bool.{true};
 ghost use Prim.Native.Nat.{_≤_};
 ghost use lib.ListN.{length, take};
 ghost use Rattle.text.specs.Parts.{comma, partsFrom};
-ghost use Rattle.channel.specs.Channel.{channelTypes};
-ghost use Rattle.envelope.specs.Figures.{codesKnown};
+ghost use Rattle.channel.specs.Channel.{channelTypes, codesKnown};
 ghost use Rattle.reading.specs.Contracts.{PairsRead, LineRead};
-use text::label::is_label;
+use channel::Code;
+use label::is_label;
 use text::parts::field_end;
 use text::parts::line_end;
 use value::Value;
@@ -24,10 +24,10 @@ pub enum Line {
 }
 
 // Exactly n pairs of tag and value from `at` on, each under its type, the values put into the lent places.
-fn read_pairs(line: &[u8], at: usize, types: &[u8], n: usize, places: &mut [i32]) -> Line
-    requires { ⌜ (n ≤ length (now types)) × (n ≤ length (now places)) ⌝ }
+fn read_pairs(line: &[u8], at: usize, codes: &[Code], n: usize, places: &mut [i32]) -> Line
+    requires { ⌜ (n ≤ length (now codes)) × (n ≤ length (now places)) ⌝ }
     ensures { λ r.
-        ⌜ PairsRead channelTypes (take n (now (types .entry))) (partsFrom comma (now (line .entry)) at) (now (places .entry))
+        ⌜ PairsRead channelTypes (take n (now (codes .entry))) (partsFrom comma (now (line .entry)) at) (now (places .entry))
         (now (places .exit)) r ⌝ }
 {
     let mut from = at;
@@ -42,7 +42,7 @@ fn read_pairs(line: &[u8], at: usize, types: &[u8], n: usize, places: &mut [i32]
         if line.len() == tag_end {
             return Line::Malformed;
         }
-        let code = types[i];
+        let code = codes[i];
         tags_agree = channel::is_tag(&line[from..tag_end], code) & tags_agree;
         let value_at = tag_end + 1;
         let end = field_end(line, value_at);
@@ -69,16 +69,16 @@ fn read_pairs(line: &[u8], at: usize, types: &[u8], n: usize, places: &mut [i32]
 
 // What stands before a text's last byte 10 as a reading of n channels, its values put into the lent places. A byte 10 in it is no
 // part of a label or of a value, nor of any channel's tag: where every tag is the channel's there is none.
-pub fn read_line(line: &[u8], types: &[u8], n: usize, places: &mut [i32]) -> Line
-    requires { ⌜ (codesKnown channelTypes (take n (now types)) ≡ true) × ((n ≤ length (now types)) × (n ≤ length (now places))) ⌝ }
+pub fn read_line(line: &[u8], codes: &[Code], n: usize, places: &mut [i32]) -> Line
+    requires { ⌜ (codesKnown channelTypes (take n (now codes)) ≡ true) × ((n ≤ length (now codes)) × (n ≤ length (now places))) ⌝ }
     ensures { λ r.
-        ⌜ LineRead channelTypes (take n (now (types .entry))) (now (line .entry)) (now (places .entry)) (now (places .exit)) r ⌝ }
+        ⌜ LineRead channelTypes (take n (now (codes .entry))) (now (line .entry)) (now (places .entry)) (now (places .exit)) r ⌝ }
 {
     let label_end = field_end(line, 0);
     if !is_label(&line[..label_end]) {
         return Line::Malformed;
     }
-    let read = read_pairs(line, label_end + 1, types, n, places);
+    let read = read_pairs(line, label_end + 1, codes, n, places);
     match read {
         Line::Malformed => Line::Malformed,
         Line::TagDiffers => {

@@ -26,19 +26,19 @@ use Rattle.integers.specs.Reading.{back, number-cast}
 use Rattle.refusal.specs.Number.{record-form, disagreement}
 use Rattle.refusal.specs.Outcome.{refused, refusedAt, choose}
 use Rattle.refusal.specs.declared.Outcome.the-variants.{Accepted}
-use Rattle.geometry.specs.Limits.{rowLimit, channelLimit}
+use Rattle.limits.specs.Limits.{rowLimit, channelLimit}
 use Rattle.ball.specs.declared.Ball.{Ball}
 use Rattle.text.specs.Parts.{same}
-use Rattle.channel.specs.Channel.{ChannelType}
-use Rattle.channel.specs.ChannelLaws.{soundTypes}
+use Rattle.channel.specs.Channel.{Types}
+use Rattle.channel.specs.ChannelLaws.{SoundTypes}
 use Rattle.envelope.specs.Figures.{figuresOf}
 use Rattle.envelope.specs.Agreement.{agrees}
 use Rattle.record_form.specs.Record.{Record, Form, faulty, sound, form}
 use Rattle.record_form.specs.RecordLaws.{form-printed, form-faults}
-use Rattle.record_form.specs.Answers.{statedForm}
+use Rattle.record_form.specs.Contracts.{statedForm}
 use Rattle.record_form.specs.declared.form.Stated.{Stated}
 use Rattle.record.specs.declared.EnvelopeRead.{EnvelopeRead}
-use Rattle.record.specs.Answers.{notRead, statedBall, formAnswer, ballAnswer, statedAnswer}
+use Rattle.record.specs.Contracts.{notRead, statedBall, formAnswer, ballAnswer, statedAnswer}
 use Rattle.record.specs.HeldLaws.{Holding, held-answer}
 
 pub sign-cast : (z : ℤ) → SFits w64 z → ltZ (back w64 z) (pos 0) ≡ false → T (nonNeg (back w64 z)) × Fits w64 (natAbs (back w64 z))
@@ -68,14 +68,14 @@ abbrev pub envelopeRead : Stated → EnvelopeRead
 envelopeRead s =
     record {
       outcome = Accepted;
-      envelope = record { figures = figuresOf (s .n) (s .types) (ballRead s) (s .moves); weights = s .weights };
+      envelope = record { figures = figuresOf (s .n) (s .codes) (ballRead s) (s .moves); weights = s .weights };
     }
 
 module _ (D limit : ℕ) (rows : List ℤ) (m : ℕ) (codes : List ℕ) (s : Stated) where
   abbrev turned : EnvelopeRead
   turned = notRead limit (refused disagreement)
 
-  pub codes-differ : same codes (take (s .n) (s .types)) ≡ false → turned ≡ statedAnswer D limit rows m codes s
+  pub codes-differ : same codes (take (s .n) (s .codes)) ≡ false → turned ≡ statedAnswer D limit rows m codes s
   unfolding statedAnswer
   codes-differ e = go (statedBall (s .centre) (s .radius) (s .floor) (s .settled))
     where
@@ -108,7 +108,7 @@ module _ (D limit : ℕ) (rows : List ℤ) (m : ℕ) (codes : List ℕ) (s : Sta
         (sym (toZ-ofZ (signs .floor-fits)) ∙ abs-nonneg (back w64 (s .floor)) (signs .floor-not))
 
     -- n and the tags are those given
-    module _ (n : ℕ) (count : length codes ≡ n) (agreed : same codes (take (s .n) (s .types)) ≡ true) where
+    module _ (n : ℕ) (count : length codes ≡ n) (agreed : same codes (take (s .n) (s .codes)) ≡ true) where
       answer : (t : Bool) → agrees D limit rows m n (ballRead s) (s .weights) ≡ t
           → choose t (λ _. envelopeRead s) (λ _. turned) ≡ statedAnswer D limit rows m codes s
       unfolding statedAnswer
@@ -126,12 +126,12 @@ module _ (D limit : ℕ) (rows : List ℤ) (m : ℕ) (codes : List ℕ) (s : Sta
 -- ---- a text
 
 -- n of a record in form
-form-channels : (types : List ChannelType) → soundTypes types ≡ true → (text : List ℕ) (r : Record) → form rowLimit types text ≡ sound r
+form-channels : (types : Types) → SoundTypes types → (text : List ℕ) (r : Record) → form rowLimit types text ≡ sound r
     → length (r .codes) ≤ channelLimit
 form-channels types types-sound text r f = form-printed rowLimit types types-sound text r f .0 .heading .channels
 
-module _ (types : List ChannelType) (text : List ℕ) (s : Stated) (e : s ≡ statedForm (form rowLimit types text)) where
-  pub read-channels : soundTypes types ≡ true → s .n ≤ channelLimit
+module _ (types : Types) (text : List ℕ) (s : Stated) (e : s ≡ statedForm (form rowLimit types text)) where
+  pub read-channels : SoundTypes types → s .n ≤ channelLimit
   read-channels types-sound = subst (λ (x : Stated). x .n ≤ channelLimit) (sym e) (go (form rowLimit types text) refl)
     where
       go : (f : Form Record) → form rowLimit types text ≡ f → statedForm f .n ≤ channelLimit
@@ -147,7 +147,7 @@ module _ (types : List ChannelType) (text : List ℕ) (s : Stated) (e : s ≡ st
         go (faulty line) is = ap (λ (x : Stated). notRead rowLimit (refusedAt record-form (x .line))) is
         go (sound r) is = absurd (h (ap (λ (x : Stated). x .line) is))
 
-    pub read-sound : soundTypes types ≡ true → Holding D → s .line ≡ 0
+    pub read-sound : SoundTypes types → Holding D → s .line ≡ 0
         → statedAnswer D rowLimit rows m codes s ≡ formAnswer D rowLimit rows m codes (form rowLimit types text)
     read-sound types-sound holding h = ap (statedAnswer D rowLimit rows m codes) e ∙ go (form rowLimit types text) refl e
       where

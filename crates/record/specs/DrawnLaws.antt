@@ -11,28 +11,28 @@ use lib.IntN.{ℤ}
 use lib.ListN.{length, take, drop}
 use Rattle.lists.specs.Padded.{padded, padded-first, padded-length}
 use Rattle.refusal.specs.declared.Outcome.the-variants.{Accepted}
-use Rattle.geometry.specs.Limits.{total, channelLimit, budgetLimit}
+use Rattle.limits.specs.Limits.{total, channelLimit, budgetLimit, textLimit}
 use Rattle.geometry.specs.TableLaws.{within-limits}
 use Rattle.ball.specs.Draw.{drawing}
 use Rattle.ball.specs.Check.{checking}
 use Rattle.ball.specs.Demand.{drawing-accepted, checking-accepted}
 use Rattle.ball.specs.DrawnWeights.{drawing-length}
-use Rattle.text.specs.Parts.{textLimit}
-use Rattle.text.specs.Saturated.{magnitudeLimit}
-use Rattle.channel.specs.Channel.{ChannelType}
-use Rattle.channel.specs.ChannelLaws.{soundTypes}
-use Rattle.envelope.specs.Figures.{codesKnown, figuresOf}
+use Rattle.number.specs.Contracts.{magnitudeLimit}
+use Rattle.channel.specs.Channel.{Types, codesKnown}
+use Rattle.channel.specs.ChannelLaws.{SoundTypes}
+use Rattle.envelope.specs.Figures.{figuresOf}
 use Rattle.envelope.specs.FigureLaws.{drawn-within, checked-within}
 use Rattle.envelope.specs.Agreement.{allZero, drawnEnvelope}
 use Rattle.envelope.specs.AgreementLaws.{agrees-agreed, agreed-weight, drawn-agrees, drawn-cleared, checked-agrees}
 use Rattle.envelope.specs.declared.Envelope.{Envelope}
 use Rattle.record_print.specs.Printed.{recordText}
-use Rattle.record.specs.Answers.{recordRead, written, recordWritten}
+use Rattle.record.specs.Contracts.{recordRead, recordWritten}
+use Rattle.lent.specs.Contracts.{written}
 use Rattle.record.specs.ReadLaws.{accepting}
 use Rattle.record.specs.WriteLaws.{Writing, writing-written}
 use Rattle.record.specs.TripLaws.{Holds, written-envelope}
 
-module _ (D limit : ℕ) (types : List ChannelType) (positive : 0 < D) (rows : List ℤ) (m n : ℕ)
+module _ (D limit : ℕ) (types : Types) (positive : 0 < D) (rows : List ℤ) (m n : ℕ)
     (codes : List ℕ) (coded : length codes ≡ n) (codes-known : codesKnown types codes ≡ true) where
   -- the codes in their eight places
   module _ (most : n ≤ channelLimit) where
@@ -61,7 +61,7 @@ module _ (D limit : ℕ) (types : List ChannelType) (positive : 0 < D) (rows : L
         → recordWritten D limit types rows m own places ≡ written (length (recordText types own))
     drawn-written places room = writing-written D limit types rows m own places drawn-writing room
 
-    pub drawn-read : soundTypes types ≡ true → D ≤ total → limit < magnitudeLimit → length (recordText types own) ≤ textLimit
+    pub drawn-read : SoundTypes types → D ≤ total → limit < magnitudeLimit → length (recordText types own) ≤ textLimit
         → recordRead D limit types rows m n (padded channelLimit codes) (recordText types own) ≡ accepting own
     drawn-read types-sound D-most small room =
         let r = drawing D limit rows m n budget in

@@ -18,7 +18,7 @@ use Rattle.lists.specs.Padded.{padded, padded-take}
 use Rattle.refusal.specs.Number.{disagreement}
 use Rattle.refusal.specs.Outcome.{refused, choose}
 use Rattle.refusal.specs.declared.Outcome.the-variants.{Accepted}
-use Rattle.geometry.specs.Limits.{total, rowLimit, channelLimit, centreLimit, distanceLimit}
+use Rattle.limits.specs.Limits.{total, rowLimit, channelLimit, centreLimit, distanceLimit}
 use Rattle.geometry.specs.Places.{centreList, centreOf}
 use Rattle.geometry.specs.PlacesLaws.{centreList-at, centreList-cong}
 use Rattle.ball.specs.declared.Ball.{Ball}
@@ -30,9 +30,9 @@ use Rattle.envelope.specs.AgreementLaws.{agrees-agreed, agreed-tight, agreed-we
 use Rattle.record_form.specs.Lines.{Weight}
 use Rattle.record_form.specs.Record.{Record, sound}
 use Rattle.record_form.specs.Weights.{placedIn, weightsOf}
-use Rattle.record_form.specs.Answers.{heldLimit, heldWeightLimit, held, heldWeight, heldWeights, heldRecord, statedRecord}
+use Rattle.record_form.specs.Contracts.{heldLimit, heldWeightLimit, held, heldWeight, heldWeights, heldRecord, statedRecord}
 use Rattle.record.specs.declared.EnvelopeRead.{EnvelopeRead}
-use Rattle.record.specs.Answers.{notRead, statedBall, agreedRecord, formAnswer, ballAnswer, statedAnswer}
+use Rattle.record.specs.Contracts.{notRead, statedBall, agreedRecord, formAnswer, ballAnswer, statedAnswer}
 
 -- ---- numbers
 

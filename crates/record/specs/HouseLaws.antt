@@ -20,25 +20,26 @@ use Rattle.lists.specs.Padded.{padded}
 use Rattle.refusal.specs.Number.{disagreement, buffer-short}
 use Rattle.refusal.specs.Outcome.{refused, numberOf}
 use Rattle.refusal.specs.declared.Outcome.the-variants.{Accepted}
-use Rattle.geometry.specs.Limits.{total, rowLimit, channelLimit, rowsWithin}
+use Rattle.geometry.specs.Table.{rowsWithin}
+use Rattle.limits.specs.Limits.{total, rowLimit, channelLimit, textLimit}
 use Rattle.geometry.specs.TableLaws.{within-limits}
 use Rattle.ball.specs.Draw.{drawing}
 use Rattle.ball.specs.DrawnWeights.{drawing-length}
-use Rattle.text.specs.Parts.{textLimit}
-use Rattle.text.specs.UnsignedLaws.{Below}
-use Rattle.channel.specs.Channel.{channelTypes}
+use Rattle.number.specs.UnsignedLaws.{Below}
+use Rattle.channel.specs.Channel.{channelTypes, codesKnown}
 use Rattle.channel.specs.ChannelLaws.{house-sound}
-use Rattle.channel.specs.AnswersLaws.{house-short}
-use Rattle.envelope.specs.Figures.{codesKnown, figuresWithin}
+use Rattle.channel.specs.ContractLaws.{house-short}
+use Rattle.envelope.specs.Figures.{figuresWithin}
 use Rattle.envelope.specs.FigureLaws.{within-figures}
 use Rattle.envelope.specs.Agreement.{cleared, drawnEnvelope}
 use Rattle.envelope.specs.AgreementLaws.{agrees-agreed, agreed-weight}
 use Rattle.envelope.specs.declared.Envelope.{Envelope}
 use Rattle.record_print.specs.Printed.{recordOf, recordText, recordRoom, recordMost}
 use Rattle.record_print.specs.PrintedLaws.{heading-short, centre-short, result-short, lines-short, record-length, record-room}
-use Rattle.record.specs.Answers.{recordRead, notWritten, written, recordWritten}
+use Rattle.record.specs.Contracts.{recordRead, recordWritten}
+use Rattle.lent.specs.Contracts.{notWritten, written}
 use Rattle.record.specs.declared.EnvelopeRead.{EnvelopeRead}
-use Rattle.record.specs.declared.TextWritten.{TextWritten}
+use Rattle.lent.specs.declared.TextWritten.{TextWritten}
 use Rattle.record.specs.ReadLaws.{accepting}
 use Rattle.record.specs.WriteLaws.{within-printing, Writing, each-written, written-writing, writing-written}
 use Rattle.record.specs.TripLaws.{Holds, written-envelope, disagreement-unread, unread-disagreement}
@@ -102,7 +103,7 @@ module _ (rows : List ℤ) (m : ℕ) (e : Envelope) where
 module _ (rows : List ℤ) (m : ℕ) (e : Envelope) (arrays : Arrays e) (places : ℕ) where
   -- what is read of the envelope's own text, against the same rows and codes
   abbrev readBack : EnvelopeRead
-  readBack = recordRead total rowLimit channelTypes rows m (e .figures .n) (e .figures .types) (recordText channelTypes e)
+  readBack = recordRead total rowLimit channelTypes rows m (e .figures .n) (e .figures .codes) (recordText channelTypes e)
 
   pub house-written-read : recordWritten total rowLimit channelTypes rows m e places .outcome ≡ Accepted
       → readBack ≡ accepting (cleared e)

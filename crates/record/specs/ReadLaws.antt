@@ -23,23 +23,22 @@ use Rattle.integers.specs.Tests.{both, impossible, nonzero}
 use Rattle.refusal.specs.Number.{text-length, outside-limits, record-form, disagreement}
 use Rattle.refusal.specs.Outcome.{refused, refusedAt, numberOf, choose}
 use Rattle.refusal.specs.declared.Outcome.the-variants.{Accepted}
-use Rattle.geometry.specs.Limits.{rowsWithin}
+use Rattle.geometry.specs.Table.{rowsWithin}
 use Rattle.ball.specs.declared.Ball.{Ball}
 use Rattle.text.specs.Parts.{textWithin, same}
 use Rattle.text.specs.PartsLaws.{same-eq, same-refl}
-use Rattle.text.specs.Saturated.{magnitudeLimit}
-use Rattle.channel.specs.Channel.{ChannelType}
-use Rattle.channel.specs.ChannelLaws.{soundTypes}
-use Rattle.envelope.specs.Figures.{codesKnown}
+use Rattle.number.specs.Contracts.{magnitudeLimit}
+use Rattle.channel.specs.Channel.{Types, codesKnown}
+use Rattle.channel.specs.ChannelLaws.{SoundTypes}
 use Rattle.envelope.specs.Agreement.{agrees}
 use Rattle.envelope.specs.declared.Envelope.{Envelope}
 use Rattle.record_form.specs.Record.{Record, Form, faulty, sound, form, printRecord, Within}
 use Rattle.record_form.specs.RecordLaws.{form-printed, printed-form}
 use Rattle.record_form.specs.Weights.{weightsOf}
-use Rattle.record.specs.Answers.{notRead, ballOfRecord, statedEnvelope, agreedRecord, formAnswer, givenWithin, recordRead}
+use Rattle.record.specs.Contracts.{notRead, ballOfRecord, statedEnvelope, agreedRecord, formAnswer, givenWithin, recordRead}
 use Rattle.record.specs.declared.EnvelopeRead.{EnvelopeRead}
 
-pub given-within : (limit : ℕ) (types : List ChannelType) (rows : List ℤ) (m n : ℕ) (codes : List ℕ) → givenWithin limit types rows m n codes ≡ true
+pub given-within : (limit : ℕ) (types : Types) (rows : List ℤ) (m n : ℕ) (codes : List ℕ) → givenWithin limit types rows m n codes ≡ true
     → (rowsWithin limit rows m n ≡ true) × (n ≤ length codes)
 given-within limit types rows m n codes h =
     let places = leb n (length codes) in
@@ -47,7 +46,7 @@ given-within limit types rows m n codes h =
     let parts = both (rowsWithin limit rows m n) (places && known) h in
     (parts .0, leb-true n (length codes) (both places known (parts .1) .0))
 
-module _ (D limit : ℕ) (types : List ChannelType) (rows : List ℤ) (m n : ℕ) (codes text : List ℕ) where
+module _ (D limit : ℕ) (types : Types) (rows : List ℤ) (m n : ℕ) (codes text : List ℕ) where
   pub read-limits : givenWithin limit types rows m n codes ≡ false → recordRead D limit types rows m n codes text ≡ notRead limit (refused outside-limits)
   unfolding recordRead
   read-limits h = rw (h, recordRead)
@@ -65,7 +64,7 @@ module _ (D limit : ℕ) (types : List ChannelType) (rows : List ℤ) (m n : ℕ
 -- ---- what may be answered
 
 -- an accepted record: what it states is in form, has the codes given, and agrees with the rows
-pub record Accepting (D limit : ℕ) (types : List ChannelType) (rows : List ℤ) (m n : ℕ) (codes text : List ℕ) (e : Envelope) : Type 0 where
+pub record Accepting (D limit : ℕ) (types : Types) (rows : List ℤ) (m n : ℕ) (codes text : List ℕ) (e : Envelope) : Type 0 where
   pub given : givenWithin limit types rows m n codes ≡ true
   pub some-text : textWithin text ≡ true
   pub stated : Record
@@ -80,7 +79,7 @@ abbrev pub accepting : Envelope → EnvelopeRead
 accepting e = record { outcome = Accepted; envelope = e }
 
 -- what holds of each answer holds of the call
-module _ (D limit : ℕ) (types : List ChannelType) (rows : List ℤ) (m n : ℕ) (codes text : List ℕ) (P : EnvelopeRead → Type 0)
+module _ (D limit : ℕ) (types : Types) (rows : List ℤ) (m n : ℕ) (codes text : List ℕ) (P : EnvelopeRead → Type 0)
     (outside : P (notRead limit (refused outside-limits))) (no-text : P (notRead limit (refused text-length)))
     (faulted : (line : ℕ) → form limit types text ≡ faulty line → P (notRead limit (refusedAt record-form line)))
     (disagreed : P (notRead limit (refused disagreement)))
@@ -127,7 +126,7 @@ module _ (D limit : ℕ) (types : List ChannelType) (rows : List ℤ) (m n : ℕ
       go true false g t = no-text
       go false t g h = outside
 
-module _ (D limit : ℕ) (types : List ChannelType) (rows : List ℤ) (m n : ℕ) (codes text : List ℕ) where
+module _ (D limit : ℕ) (types : Types) (rows : List ℤ) (m n : ℕ) (codes text : List ℕ) where
   pub read-zero : numberOf (recordRead D limit types rows m n codes text .outcome) ≡ 0 → recordRead D limit types rows m n codes text .outcome ≡ Accepted
   read-zero =
       each-read D limit types rows m n codes text (λ (a : EnvelopeRead). numberOf (a .outcome) ≡ 0 → a .outcome ≡ Accepted)
@@ -151,7 +150,7 @@ module _ (D limit : ℕ) (types : List ChannelType) (rows : List ℤ) (m n : ℕ
 
 -- ---- 2.10: the form
 
-module _ (D limit : ℕ) (types : List ChannelType) (types-sound : soundTypes types ≡ true) (rows : List ℤ) (m n : ℕ) (codes text : List ℕ) where
+module _ (D limit : ℕ) (types : Types) (types-sound : SoundTypes types) (rows : List ℤ) (m n : ℕ) (codes text : List ℕ) where
   pub not-11-printed : givenWithin limit types rows m n codes ≡ true → textWithin text ≡ true
       → (numberOf (recordRead D limit types rows m n codes text .outcome) ≡ record-form → ⊥)
       → (r : Record) × Within limit types r × (printRecord types r ≡ text)

@@ -28,19 +28,20 @@ use Rattle.lists.specs.Padded.{padded, padded-take, padded-first, padded-length
 use Rattle.refusal.specs.Number.{disagreement}
 use Rattle.refusal.specs.Outcome.{refused, numberOf}
 use Rattle.refusal.specs.declared.Outcome.the-variants.{Accepted}
-use Rattle.geometry.specs.Limits.{total, channelLimit, centreLimit, distanceLimit, coordinate, rowsWithin}
+use Rattle.geometry.specs.Table.{coordinate, rowsWithin}
+use Rattle.limits.specs.Limits.{total, channelLimit, centreLimit, distanceLimit, textLimit}
 use Rattle.geometry.specs.Places.{centreList, centreOf}
 use Rattle.geometry.specs.PlacesLaws.{length-centreList, centreList-at, centreList-cong}
-use Rattle.ball.specs.Promise.{Tight}
+use Rattle.ball.specs.Contracts.{Tight}
 use Rattle.ball.specs.declared.Ball.{Ball}
-use Rattle.text.specs.Parts.{textLimit}
 use Rattle.text.specs.LinesLaws.{printed-some}
-use Rattle.text.specs.Saturated.{magnitudeLimit}
-use Rattle.channel.specs.Channel.{ChannelType}
-use Rattle.channel.specs.ChannelLaws.{soundTypes}
+use Rattle.number.specs.Contracts.{magnitudeLimit}
+use Rattle.channel.specs.Channel.{Types, codesKnown}
+use Rattle.channel.specs.ChannelLaws.{SoundTypes}
 use Rattle.heading.specs.Heading.{CodesWithin}
-use Rattle.envelope.specs.Figures.{channelCodes, codesKnown, figuresWithin, figuresOf}
-use Rattle.envelope.specs.FigureLaws.{codes-each, each-codes, Within as FiguresWithin, within-figures, figures-within, figures-refused}
+use Rattle.envelope.specs.Figures.{channelCodes, figuresWithin, figuresOf}
+use Rattle.envelope.specs.FigureLaws.{Within as FiguresWithin, within-figures, figures-within, figures-refused}
+use Rattle.channel.specs.CodesLaws.{codes-each, each-codes}
 use Rattle.envelope.specs.Agreement.{agrees, withCentre, clearedBall, cleared}
 use Rattle.envelope.specs.AgreementLaws.{agrees-agreed, agrees-cleared, agreed-within, agreed-tight, agreed-some}
 use Rattle.envelope.specs.declared.Envelope.{Envelope}
@@ -50,7 +51,8 @@ use Rattle.record_form.specs.RecordLaws.{form-printed, printed-form, printed-co
 use Rattle.record_form.specs.Weights.{weightsOf, listed}
 use Rattle.record_form.specs.WeightsLaws.{ShortWeight, placed-listed, listed-placed, listed-within, listed-some}
 use Rattle.record_print.specs.Printed.{recordOf, recordText}
-use Rattle.record.specs.Answers.{statedBall, ballOfRecord, statedEnvelope, givenWithin, recordRead, notWritten, written, recordWritten}
+use Rattle.record.specs.Contracts.{statedBall, ballOfRecord, statedEnvelope, givenWithin, recordRead, recordWritten}
+use Rattle.lent.specs.Contracts.{notWritten, written}
 use Rattle.record.specs.declared.EnvelopeRead.{EnvelopeRead}
 use Rattle.record.specs.ReadLaws.{given-within, Accepting, accepting, accepted-read, read-accepted}
 use Rattle.record.specs.WriteLaws.{Writing, writing-written, writing-refused, refused-writing}
@@ -89,7 +91,7 @@ taken X n many most =
 put-back : (X : List ℤ) (n : ℕ) → n ≤ channelLimit → centreList n (centreOf (take n X)) ≡ centreList n (centreOf X)
 put-back X n most = centreList-cong n (centreOf (take n X)) (centreOf X) most (λ k h. getD-take n X k (pos 0) h)
 
-module _ (limit : ℕ) (types : List ChannelType) (r : Record) (ball : Ball) (within : Within limit types r) (states : ballOfRecord r ≡ some ball) where
+module _ (limit : ℕ) (types : Types) (r : Record) (ball : Ball) (within : Within limit types r) (states : ballOfRecord r ≡ some ball) where
   stated : Stating (centreList (length (r .codes)) (centreOf (r .centre))) (r .result .radius) (r .result .floor) (r .result .settled) ball
   stated = ball-stated (centreList (length (r .codes)) (centreOf (r .centre))) (r .result .radius) (r .result .floor) (r .result .settled) ball states
 
@@ -106,7 +108,7 @@ module _ (limit : ℕ) (types : List ChannelType) (r : Record) (ball : Ball) (wi
 
 -- ---- accepted records
 
-module _ (D limit : ℕ) (types : List ChannelType) (types-sound : soundTypes types ≡ true) where
+module _ (D limit : ℕ) (types : Types) (types-sound : SoundTypes types) where
   module _ (rows : List ℤ) (m n : ℕ) (codes text : List ℕ) (e : Envelope) (a : Accepting D limit types rows m n codes text e) where
     printed : Within limit types (a .stated) × (printRecord types (a .stated) ≡ text)
     printed = form-printed limit types types-sound text (a .stated) (a .in-form)
@@ -203,12 +205,12 @@ distance-most D h =
     let twice : 2 * centreLimit D ≤ 2 * centreLimit total = omega arith in
     mul-le-mul (mul-le-mul (le-refl channelLimit) twice) twice
 
-module _ (D limit : ℕ) (types : List ChannelType) (e : Envelope) (D-most : D ≤ total) (kept : figuresWithin D types (e .figures) ≡ true) (holds : Holds limit e) where
+module _ (D limit : ℕ) (types : Types) (e : Envelope) (D-most : D ≤ total) (kept : figuresWithin D types (e .figures) ≡ true) (holds : Holds limit e) where
   figures : FiguresWithin D types (e .figures)
   figures = within-figures D types (e .figures) kept
 
   coded : length (channelCodes (e .figures)) ≡ e .figures .n
-  coded = length-take-le (e .figures .n) (e .figures .types) (figures .typed)
+  coded = length-take-le (e .figures .n) (e .figures .codes) (figures .typed)
 
   placed : length (take (e .figures .n) (e .figures .ball .«scaled_centre»)) ≡ e .figures .n
   placed = length-take-le (e .figures .n) (e .figures .ball .«scaled_centre») (figures .places)
@@ -238,7 +240,7 @@ module _ (D limit : ℕ) (types : List ChannelType) (e : Envelope) (D-most : D �
         each-weight = ap (λ (k : ℕ). weightsWithin k 0 (listed 1 (e .weights))) (sym (holds .places)) ∙ listed-within (e .weights) (holds .short);
       }
 
-module _ (D limit : ℕ) (types : List ChannelType) (types-sound : soundTypes types ≡ true) (positive : 0 < D) (D-most : D ≤ total) (limit-small : limit < magnitudeLimit) where
+module _ (D limit : ℕ) (types : Types) (types-sound : SoundTypes types) (positive : 0 < D) (D-most : D ≤ total) (limit-small : limit < magnitudeLimit) where
   module _ (rows : List ℤ) (m : ℕ) (e : Envelope) (holds : Holds limit e) where
     abbrev n : ℕ
     n = e .figures .n
@@ -250,16 +252,16 @@ module _ (D limit : ℕ) (types : List ChannelType) (types-sound : soundTypes ty
     ws = e .weights
 
     -- what a written record is read against is within limits
-    read-given : figuresWithin D types (e .figures) ≡ true → rowsWithin limit rows m n ≡ true → givenWithin limit types rows m n (e .figures .types) ≡ true
+    read-given : figuresWithin D types (e .figures) ≡ true → rowsWithin limit rows m n ≡ true → givenWithin limit types rows m n (e .figures .codes) ≡ true
     read-given kept rows-kept =
         let figures = within-figures D types (e .figures) kept in
-        ap₂ _&&_ rows-kept (ap₂ _&&_ (le-leb n (length (e .figures .types)) (figures .typed)) (figures .codes))
+        ap₂ _&&_ rows-kept (ap₂ _&&_ (le-leb n (length (e .figures .codes)) (figures .typed)) (figures .codes))
 
     -- the ball that the envelope's own record states
     own-states : figuresWithin D types (e .figures) ≡ true → ballOfRecord (recordOf (e .figures) ws) ≡ some (clearedBall n b)
     own-states kept =
         let figures = within-figures D types (e .figures) kept in
-        ap (λ (k : ℕ). some (withCentre b (centreList k (centreOf (take n (b .«scaled_centre»)))))) (length-take-le n (e .figures .types) (figures .typed))
+        ap (λ (k : ℕ). some (withCentre b (centreList k (centreOf (take n (b .«scaled_centre»)))))) (length-take-le n (e .figures .codes) (figures .typed))
         ∙ ap (λ (X : List ℤ). some (withCentre b X)) (put-back (b .«scaled_centre») n (figures .channels))
 
     module _ (w : Writing D limit types rows m e) where
@@ -269,11 +271,11 @@ module _ (D limit : ℕ) (types : List ChannelType) (types-sound : soundTypes ty
           listed-some 1 ws (found .0) (found .1)
 
       written-accepting : length (recordText types e) ≤ textLimit
-          → Accepting D limit types rows m n (e .figures .types) (recordText types e) (cleared e)
+          → Accepting D limit types rows m n (e .figures .codes) (recordText types e) (cleared e)
       unfolding recordText printRecord
       written-accepting room =
           let figures = within-figures D types (e .figures) (w .figures-kept) in
-          let coded = length-take-le n (e .figures .types) (figures .typed) in
+          let coded = length-take-le n (e .figures .codes) (figures .typed) in
           let weights-are = listed-placed limit ws (holds .places) in
           record {
             given = read-given (w .figures-kept) (w .rows-kept);
@@ -294,14 +296,14 @@ module _ (D limit : ℕ) (types : List ChannelType) (types-sound : soundTypes ty
               record { figures = figuresOf k (padded channelLimit (channelCodes (e .figures))) (clearedBall n b) (e .figures .moves); weights = l }
 
       pub written-envelope : length (recordText types e) ≤ textLimit
-          → recordRead D limit types rows m n (e .figures .types) (recordText types e) ≡ accepting (cleared e)
-      written-envelope room = read-accepted D limit types rows m n (e .figures .types) (recordText types e) (cleared e) (written-accepting room)
+          → recordRead D limit types rows m n (e .figures .codes) (recordText types e) ≡ accepting (cleared e)
+      written-envelope room = read-accepted D limit types rows m n (e .figures .codes) (recordText types e) (cleared e) (written-accepting room)
 
     -- ---- 12
 
     -- an accepted text of an envelope within limits states that envelope's record
     read-own : figuresWithin D types (e .figures) ≡ true → (x : Envelope)
-        → (a : Accepting D limit types rows m n (e .figures .types) (recordText types e) x) → recordOf (e .figures) ws ≡ a .stated
+        → (a : Accepting D limit types rows m n (e .figures .codes) (recordText types e) x) → recordOf (e .figures) ws ≡ a .stated
     unfolding recordText
     read-own kept x a =
         let own = recordOf (e .figures) ws in
@@ -316,13 +318,13 @@ module _ (D limit : ℕ) (types : List ChannelType) (types-sound : soundTypes ty
 
     -- what such a text states agrees with the rows only where the envelope does
     own-agrees : figuresWithin D types (e .figures) ≡ true → (x : Envelope)
-        → Accepting D limit types rows m n (e .figures .types) (recordText types e) x → agrees D limit rows m n b ws ≡ true
+        → Accepting D limit types rows m n (e .figures .codes) (recordText types e) x → agrees D limit rows m n b ws ≡ true
     own-agrees kept x a =
         let figures = within-figures D types (e .figures) kept in
         let own = read-own kept x a in
         let ball-is = inside (sym (own-states kept) ∙ ap ballOfRecord own ∙ a .states) in
         let weights-are = sym (listed-placed limit ws (holds .places)) ∙ ap (λ (r : Record). weightsOf limit (r .weights)) own in
-        let coded = length-take-le n (e .figures .types) (figures .typed) in
+        let coded = length-take-le n (e .figures .codes) (figures .typed) in
         sym (agrees-cleared D limit rows m n b ws (figures .channels))
         ∙ ap₂ (agrees D limit rows m n) ball-is weights-are
         ∙ ap (λ (k : ℕ). agrees D limit rows m k (a .ball) (weightsOf limit (a .stated .weights))) (sym coded)
@@ -332,15 +334,15 @@ module _ (D limit : ℕ) (types : List ChannelType) (types-sound : soundTypes ty
         inside h = cc
 
     pub disagreement-unread : (places : ℕ) → numberOf (recordWritten D limit types rows m e places .outcome) ≡ disagreement
-        → recordRead D limit types rows m n (e .figures .types) (recordText types e) .outcome ≡ Accepted → ⊥
+        → recordRead D limit types rows m n (e .figures .codes) (recordText types e) .outcome ≡ Accepted → ⊥
     disagreement-unread places refused accepted =
         let found = writing-refused D limit types rows m e places refused in
-        let a = accepted-read D limit types rows m n (e .figures .types) (recordText types e) accepted in
+        let a = accepted-read D limit types rows m n (e .figures .codes) (recordText types e) accepted in
         clash (own-agrees (found .0) _ a) (found .2)
 
     pub unread-disagreement : (places : ℕ) → figuresWithin D types (e .figures) ≡ true → rowsWithin limit rows m n ≡ true
         → length (recordText types e) ≤ textLimit
-        → (recordRead D limit types rows m n (e .figures .types) (recordText types e) .outcome ≡ Accepted → ⊥)
+        → (recordRead D limit types rows m n (e .figures .codes) (recordText types e) .outcome ≡ Accepted → ⊥)
         → recordWritten D limit types rows m e places ≡ notWritten (refused disagreement)
     unread-disagreement places kept rows-kept room unread = go (agrees D limit rows m n b ws) refl
       where
@@ -352,7 +354,7 @@ module _ (D limit : ℕ) (types : List ChannelType) (types-sound : soundTypes ty
 
 -- ---- places past n
 
-module _ (D limit : ℕ) (types : List ChannelType) (e : Envelope) (typed : length (e .figures .types) ≡ channelLimit)
+module _ (D limit : ℕ) (types : Types) (e : Envelope) (typed : length (e .figures .codes) ≡ channelLimit)
     (placed : length (e .figures .ball .«scaled_centre») ≡ channelLimit) where
   abbrev count : ℕ
   count = e .figures .n
@@ -362,7 +364,7 @@ module _ (D limit : ℕ) (types : List ChannelType) (e : Envelope) (typed : leng
 
   module _ (most : count ≤ channelLimit) where
     codes-kept : channelCodes (cleared e .figures) ≡ channelCodes (e .figures)
-    codes-kept = padded-first channelLimit count (channelCodes (e .figures)) (length-take-le count (e .figures .types) (omega arith)) most
+    codes-kept = padded-first channelLimit count (channelCodes (e .figures)) (length-take-le count (e .figures .codes) (omega arith)) most
 
     places-kept : take count (centreList count (centreOf X)) ≡ take count X
     places-kept =
@@ -380,9 +382,9 @@ module _ (D limit : ℕ) (types : List ChannelType) (e : Envelope) (typed : leng
     figures-kept : figuresWithin D types (cleared e .figures) ≡ figuresWithin D types (e .figures)
     figures-kept =
         test-same (figuresWithin D types (cleared e .figures)) (figuresWithin D types (e .figures))
-        (other (cleared e .figures .types) (e .figures .types) (cleared e .figures .ball .«scaled_centre») X (omega arith) (omega arith) (sym codes-kept)
+        (other (cleared e .figures .codes) (e .figures .codes) (cleared e .figures .ball .«scaled_centre») X (omega arith) (omega arith) (sym codes-kept)
         (λ k h. sym (places-kept-at k h)))
-        (other (e .figures .types) (cleared e .figures .types) X (cleared e .figures .ball .«scaled_centre»)
+        (other (e .figures .codes) (cleared e .figures .codes) X (cleared e .figures .ball .«scaled_centre»)
         (omega (arith, padded-length channelLimit (channelCodes (e .figures)))) (omega (arith, length-centreList count (centreOf X))) codes-kept places-kept-at)
       where
         places-kept-at : (k : ℕ) → k < count → centreOf (centreList count (centreOf X)) k ≡ centreOf X k

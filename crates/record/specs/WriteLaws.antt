@@ -3,8 +3,6 @@
 --     Writing                            what a written envelope keeps: its limits, those of the rows, and agreement with them
 --     outside-figures, outside-rows      8
 --     refused-writing                    12
---     text-short, text-fits              a text is written exactly to a buffer that holds it
---     text-most                          no more places are written than the buffer and the text have
 --     writing-agreed                     past 8 and 12, the record's text is written as any text is
 --     short-writing                      13
 --     each-written                       what holds of each answer holds of the call
@@ -23,18 +21,20 @@ use Rattle.integers.specs.Tests.{nonzero}
 use Rattle.refusal.specs.Number.{outside-limits, disagreement, buffer-short}
 use Rattle.refusal.specs.Outcome.{refused, numberOf, choose}
 use Rattle.refusal.specs.declared.Outcome.the-variants.{Accepted}
-use Rattle.geometry.specs.Limits.{total, rowLimit, rowsWithin}
-use Rattle.channel.specs.Channel.{ChannelType}
+use Rattle.geometry.specs.Table.{rowsWithin}
+use Rattle.limits.specs.Limits.{total, rowLimit}
+use Rattle.channel.specs.Channel.{Types}
 use Rattle.envelope.specs.Figures.{figuresWithin}
 use Rattle.envelope.specs.FigureLaws.{within-figures}
 use Rattle.envelope.specs.Agreement.{agrees}
 use Rattle.envelope.specs.declared.Figures.{Figures}
 use Rattle.envelope.specs.declared.Envelope.{Envelope}
 use Rattle.record_print.specs.Printed.{recordText, Printing}
-use Rattle.record.specs.Answers.{notWritten, written, textWritten, recordWritten}
-use Rattle.record.specs.declared.TextWritten.{TextWritten}
+use Rattle.record.specs.Contracts.{recordWritten}
+use Rattle.lent.specs.Contracts.{notWritten, written, textWritten}
+use Rattle.lent.specs.declared.TextWritten.{TextWritten}
 
-pub within-printing : (types : List ChannelType) (f : Figures) (weights : List ℕ) → figuresWithin total types f ≡ true → length weights ≡ rowLimit
+pub within-printing : (types : Types) (f : Figures) (weights : List ℕ) → figuresWithin total types f ≡ true → length weights ≡ rowLimit
     → Printing f weights
 within-printing types f weights h count =
     let within = within-figures total types f h in
@@ -48,35 +48,12 @@ within-printing types f weights h count =
       rows = omega arith;
     }
 
--- ---- a text
-
-module _ (text : List ℕ) (places : ℕ) where
-  chosen : {b : Bool} → leb (length text) places ≡ b
-      → textWritten text places ≡ choose b (λ _. written (length text)) (λ _. notWritten (refused buffer-short))
-  chosen e = ap (λ (b : Bool). choose b (λ _. written (length text)) (λ _. notWritten (refused buffer-short))) e
-
-  pub text-short : places < length text → textWritten text places ≡ notWritten (refused buffer-short)
-  text-short h = chosen (lt-leb (length text) places h)
-
-  pub text-fits : length text ≤ places → textWritten text places ≡ written (length text)
-  text-fits h = chosen (le-leb (length text) places h)
-
-  pub text-most : (textWritten text places .length ≤ places) × (textWritten text places .length ≤ length text)
-  text-most = go (leb (length text) places) refl
-    where
-      go : (b : Bool) → leb (length text) places ≡ b
-          → let r = choose b (λ _. written (length text)) (λ _. notWritten (refused buffer-short)) in (r .length ≤ places) × (r .length ≤ length text)
-      go true e = (leb-true (length text) places e, omega arith)
-      go false e = (zero-le, zero-le)
-
--- ---- a record
-
-pub record Writing (D limit : ℕ) (types : List ChannelType) (rows : List ℤ) (m : ℕ) (e : Envelope) : Type 0 where
+pub record Writing (D limit : ℕ) (types : Types) (rows : List ℤ) (m : ℕ) (e : Envelope) : Type 0 where
   pub figures-kept : figuresWithin D types (e .figures) ≡ true
   pub rows-kept : rowsWithin limit rows m (e .figures .n) ≡ true
   pub agreeing : agrees D limit rows m (e .figures .n) (e .figures .ball) (e .weights) ≡ true
 
-module _ (D limit : ℕ) (types : List ChannelType) (rows : List ℤ) (m : ℕ) (e : Envelope) where
+module _ (D limit : ℕ) (types : Types) (rows : List ℤ) (m : ℕ) (e : Envelope) where
   module _ (places : ℕ) where
     pub outside-figures : figuresWithin D types (e .figures) ≡ false → recordWritten D limit types rows m e places ≡ notWritten (refused outside-limits)
     unfolding recordWritten

@@ -3,25 +3,30 @@
 ghost use mathlib.Core.Path.{_≡_};
 ghost use lib.ListN.{length};
 ghost use Rattle.refusal.specs.Outcome.{numberOf, refusedAt};
-ghost use Rattle.geometry.specs.Limits.{total, rowLimit};
-ghost use Rattle.lists.specs.Filled.{filled};
+ghost use Rattle.limits.specs.Limits.{total, rowLimit};
+ghost use Rattle.lent.specs.Filled.{filled};
 ghost use Rattle.channel.specs.Channel.{channelTypes};
 ghost use Rattle.record_print.specs.Printed.{recordText};
-ghost use Rattle.record.specs.Answers.{notRead, givenWithin, Agreeing, statedAnswer, recordRead, notWritten, Part, textWritten, recordWritten};
+ghost use Rattle.record.specs.Contracts.{notRead, givenWithin, Agreeing, statedAnswer, recordRead, recordWritten};
+ghost use Rattle.lent.specs.Contracts.{notWritten, Part, textWritten};
 use ball::Ball;
+use channel::Code;
+use channel::codes_known;
+use channel::same_codes;
 use envelope::Envelope;
 use envelope::Figures;
 use envelope::agreement::agrees;
 use envelope::figures_within;
-use envelope::types_known;
-use figures::limits::CHANNELS;
-use figures::limits::ROWS;
-use figures::limits::rows_within;
+use figures::table::rows_within;
+use lent::TextWritten;
+use lent::hand_out;
+use lent::not_written;
+use limits::CHANNELS;
+use limits::ROWS;
 use record_form::form::Stated;
 use record_form::form::read_form;
 use record_print::print_record;
 use refusal::Outcome;
-use text::parts::same_bytes;
 use text::parts::text_within;
 
 // room for the printing of every record
@@ -36,12 +41,6 @@ pub struct EnvelopeRead {
     pub envelope: Envelope,
 }
 
-// What writing a text to a lent buffer answers. In a refusal the length is 0.
-pub struct TextWritten {
-    pub outcome: Outcome,
-    pub length: usize,
-}
-
 // A record that is turned back.
 pub fn not_read(number: u32, line: u32) -> EnvelopeRead
     ensures { λ r. ⌜ r ≡ notRead rowLimit (refusedAt number line) ⌝ }
@@ -54,7 +53,7 @@ pub fn not_read(number: u32, line: u32) -> EnvelopeRead
     };
     let figures = Figures {
         n: 0,
-        types: [0; CHANNELS],
+        codes: [0; CHANNELS],
         ball,
         moves: 0,
     };
@@ -69,25 +68,25 @@ pub fn not_read(number: u32, line: u32) -> EnvelopeRead
 }
 
 // Whether rows and the n codes are within their limits.
-fn given_within(rows: &[i32], m: usize, n: usize, types: &[u8]) -> bool
-    ensures { λ r. ⌜ r ≡ givenWithin rowLimit channelTypes (now (rows .entry)) m n (now (types .entry)) ⌝ }
+fn given_within(rows: &[i32], m: usize, n: usize, codes: &[Code]) -> bool
+    ensures { λ r. ⌜ r ≡ givenWithin rowLimit channelTypes (now (rows .entry)) m n (now (codes .entry)) ⌝ }
 {
     if !rows_within(rows, m, n) {
         return false;
     }
-    if types.len() < n {
+    if codes.len() < n {
         return false;
     }
-    types_known(types, n)
+    codes_known(codes, n)
 }
 
 // What a record in form states against rows and codes within their limits.
-fn agreed(rows: &[i32], m: usize, n: usize, codes: &[u8], stated: Stated) -> EnvelopeRead
+fn agreed(rows: &[i32], m: usize, n: usize, codes: &[Code], stated: Stated) -> EnvelopeRead
     requires { ⌜ Agreeing (now rows) m n (now codes) stated ⌝ }
     ensures { λ r. ⌜ r ≡ statedAnswer total rowLimit (now (rows .entry)) m (now (codes .entry)) stated ⌝ }
 {
-    let types = stated.types;
-    if !same_bytes(codes, &types[..stated.n]) {
+    let stated_codes = stated.codes;
+    if !same_codes(codes, &stated_codes[..stated.n]) {
         return not_read(refusal::DISAGREEMENT, 0);
     }
     if stated.radius < 0 {
@@ -111,7 +110,7 @@ fn agreed(rows: &[i32], m: usize, n: usize, codes: &[u8], stated: Stated) -> Env
     }
     let figures = Figures {
         n: stated.n,
-        types,
+        codes: stated_codes,
         ball,
         moves: stated.moves,
     };
@@ -122,11 +121,11 @@ fn agreed(rows: &[i32], m: usize, n: usize, codes: &[u8], stated: Stated) -> Env
 }
 
 // Reads a record against the first m rows of n channels and the first n codes of types. Refused: 8, 1, 11, 12.
-pub fn read(rows: &[i32], m: usize, n: usize, types: &[u8], text: &[u8]) -> EnvelopeRead
+pub fn read(rows: &[i32], m: usize, n: usize, codes: &[Code], text: &[u8]) -> EnvelopeRead
     ensures { λ r.
-        ⌜ r ≡ recordRead total rowLimit channelTypes (now (rows .entry)) m n (now (types .entry)) (now (text .entry)) ⌝ }
+        ⌜ r ≡ recordRead total rowLimit channelTypes (now (rows .entry)) m n (now (codes .entry)) (now (text .entry)) ⌝ }
 {
-    if !given_within(rows, m, n, types) {
+    if !given_within(rows, m, n, codes) {
         return not_read(refusal::OUTSIDE_LIMITS, 0);
     }
     if !text_within(text) {
@@ -136,34 +135,7 @@ pub fn read(rows: &[i32], m: usize, n: usize, types: &[u8], text: &[u8]) -> Enve
     if stated.line != 0 {
         return not_read(refusal::RECORD_FORM, stated.line);
     }
-    agreed(rows, m, n, &types[..n], stated)
-}
-
-fn not_written(number: u32) -> TextWritten
-    ensures { λ r. ⌜ r ≡ notWritten (refusedAt number 0) ⌝ }
-{
-    TextWritten {
-        outcome: refusal::refused_at(number, 0),
-        length: 0,
-    }
-}
-
-// Writes a text to the first places of the buffer, and to no other. Refused, with the buffer as it was: 13.
-pub fn hand_out(text: &[u8], buffer: &mut [u8]) -> TextWritten
-    ensures answer { λ r. ⌜ r ≡ textWritten (now (text .entry)) (length (now (buffer .entry))) ⌝ }
-    ensures buffer_filled { λ r.
-        ⌜ now (buffer .exit) ≡ filled (numberOf (r .outcome)) (r .length) (now (text .entry)) (now (buffer .entry)) ⌝ }
-    ensures part { λ r. ⌜ Part (now (buffer .exit)) (r .length) ⌝ }
-{
-    let length = text.len();
-    if buffer.len() < length {
-        return not_written(refusal::BUFFER_SHORT);
-    }
-    bytes::copy(text, buffer);
-    TextWritten {
-        outcome: Outcome::Accepted,
-        length,
-    }
+    agreed(rows, m, n, &codes[..n], stated)
 }
 
 // Writes the record of an envelope, drawn from the first m rows, to the first places of the buffer, and to no other. Refused, with
@@ -176,13 +148,13 @@ pub fn write(envelope: Envelope, rows: &[i32], m: usize, buffer: &mut [u8]) -> T
 {
     let figures = envelope.figures;
     let weights = envelope.weights;
-    let types = figures.types;
+    let codes = figures.codes;
     let ball = figures.ball;
     let centre = ball.scaled_centre;
     let n = figures.n;
     if !figures_within(
         n,
-        &types,
+        &codes,
         &centre,
         ball.scaled_squared_radius,
         ball.scaled_lower_bound,

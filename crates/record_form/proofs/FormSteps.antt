@@ -19,13 +19,14 @@ use mir.Facts.{toZ-ofZ}
 use Rattle.integers.specs.Reading.{back}
 use Rattle.integers.specs.Tests.{clash}
 use Rattle.lists.specs.Padded.{padded}
-use Rattle.geometry.specs.Limits.{rowLimit, channelLimit}
+use Rattle.limits.specs.Limits.{rowLimit, channelLimit}
 use Rattle.geometry.specs.Places.{centreList, centreOf}
 use Rattle.geometry.specs.PlacesLaws.{centreList-zeros}
-use Rattle.text.specs.Parts.{lineEnd, cut, PartEnd, partsFrom}
+use Rattle.text.specs.Parts.{lineEnd, cut, partsFrom}
+use Rattle.text.specs.Contracts.{PartEnd}
 use Rattle.text.specs.Lines.{endedLine}
 use Rattle.text.specs.PartsLaws.{parts-whole, partAt, last-part, followed}
-use Rattle.channel.specs.Channel.{ChannelType}
+use Rattle.channel.specs.Channel.{Types}
 use Rattle.heading.specs.Heading.{headingOf}
 use Rattle.heading.specs.declared.Heading.{Heading}
 use Rattle.heading.proofs.Headed.{Headed, codesIn}
@@ -33,7 +34,7 @@ use Rattle.record_form.specs.Lines.{recordWord, Result, centreLine, resu
 use Rattle.record_form.specs.Record.{Record, Form, faulty, sound, lineAs, andLine, weightsFrom, withWeights, formOf, form}
 use Rattle.record_form.specs.RecordLaws.{weights-faults}
 use Rattle.record_form.specs.Weights.{weightsOf}
-use Rattle.record_form.specs.Answers.{held, isThere, resultRead, weightsFault, WeightsRead, statedForm, formAfterCentre, AfterCentreRead}
+use Rattle.record_form.specs.Contracts.{held, isThere, resultRead, weightsFault, WeightsRead, statedForm, formAfterCentre, AfterCentreRead}
 use Rattle.record_form.specs.declared.line.ResultRead.{ResultRead}
 use Rattle.record_form.specs.declared.form.Stated.{Stated}
 use Rattle.record_form.proofs.LineSteps.{held-fits}
@@ -68,10 +69,10 @@ fromWeights codes centre result parts = withWeights codes centre result (weights
 abbrev fromCentre : ℕ → List ℕ → List (List ℕ) → Form Record
 fromCentre n codes = andEnded 2 (centreLine n) (formAfterCentre codes)
 
-abbrev fromHeading : List ChannelType → List (List ℕ) → Form Record
+abbrev fromHeading : Types → List (List ℕ) → Form Record
 fromHeading types = andEnded 1 (headingOf recordWord channelLimit types) (λ codes. fromCentre (length codes) codes)
 
-module _ (types : List ChannelType) (text : List ℕ) where
+module _ (types : Types) (text : List ℕ) where
   abbrev pub AtHeading : Type 0
   AtHeading =
       Reached 1 (headingOf recordWord channelLimit types) (λ codes. fromCentre (length codes) codes) (form rowLimit types text) text 0
@@ -142,7 +143,7 @@ statedBy n types centre r weights =
     record {
       line = 0;
       n = n;
-      types = types;
+      codes = types;
       centre = centre;
       radius = back w64 (r .radius);
       floor = back w64 (r .floor);
@@ -183,11 +184,11 @@ module _ {codes : List ℕ} {X : List ℤ} {text : List ℕ} {at next : ℕ} {re
       ∙ ap₂ (λ x s. statedBy (length codes) (padded channelLimit codes) x s lent) point read
       ∙ rw (held-back (result .radius), held-back (result .floor), w .written (found .0) (found .1)) (ap statedForm (sym is))
 
-pub form-stated : {types : List ChannelType} {text first : List ℕ} {h : Heading} {centre : List ℤ} {at : ℕ} {r : Stated} (X : List ℤ)
-    → AfterCentreRead text at (h .n) (h .types) centre r → Headed recordWord types first h
+pub form-stated : {types : Types} {text first : List ℕ} {h : Heading} {centre : List ℤ} {at : ℕ} {r : Stated} (X : List ℤ)
+    → AfterCentreRead text at (h .n) (h .codes) centre r → Headed recordWord types first h
     → centre ≡ map held X ++ drop (h .n) (replicate channelLimit (pos 0)) → length centre ≡ channelLimit
     → r ≡ statedForm (formAfterCentre (codesIn h) X (partsFrom lineEnd text at))
 form-stated {h = h} {centre = centre} X after head c long =
-    after .is (codesIn h) X (ap (λ (g : Heading). g .n) (head .is)) (ap (λ (g : Heading). g .types) (head .is))
+    after .is (codesIn h) X (ap (λ (g : Heading). g .n) (head .is)) (ap (λ (g : Heading). g .codes) (head .is))
     (centreList-zeros (h .n) (map held X) centre (head .channels) long c
     ∙ ap (λ (g : Heading). centreList (g .n) (centreOf (map held X))) (head .is))

@@ -31,16 +31,17 @@ use Rattle.integers.specs.Absolute.{abs-neg, fits64}
 use Rattle.integers.specs.Reading.{back}
 use Rattle.integers.specs.Tests.{impossible, cond-same, cond-some}
 use Rattle.lists.specs.Gathered.{gathered-none, gathered-next}
-use Rattle.text.specs.Parts.{comma, cut, same, partEnd, PartEnd, partsFrom, partStart}
+use Rattle.text.specs.Parts.{comma, cut, same, partEnd, partsFrom, partStart}
+use Rattle.text.specs.Contracts.{PartEnd}
 use Rattle.text.specs.PartsLaws.{parts-none, parts-some, parts-from, first-part-from, part-start, part-start-most}
-use Rattle.text.specs.Number.{plain, print}
-use Rattle.text.specs.Saturated.{magnitudeLimit, saturated, plainRead}
-use Rattle.text.specs.SaturatedLaws.{saturated-small}
-use Rattle.text.specs.declared.number.Plain.{Plain}
-use Rattle.text.specs.declared.number.Plain.the-variants as written
+use Rattle.number.specs.Number.{plain, print}
+use Rattle.number.specs.Contracts.{magnitudeLimit, saturated, plainRead}
+use Rattle.number.specs.ContractLaws.{saturated-small}
+use Rattle.number.specs.declared.Plain.{Plain}
+use Rattle.number.specs.declared.Plain.the-variants as written
 use Rattle.record_form.specs.Lines.{shortNumber, recordNumber, andNumber, numbersOf, numbersLine, centreWord, centreLine}
 use Rattle.record_form.specs.LinesLaws.{fields-numbers}
-use Rattle.record_form.specs.Answers.{heldLimit, heldSigned, held, numberRead, nextOf, numbersStarting, numbersNext, NumbersRead, isThere, CentreRead}
+use Rattle.record_form.specs.Contracts.{heldLimit, heldSigned, held, numberRead, nextOf, numbersStarting, numbersNext, NumbersRead, isThere, CentreRead}
 use Rattle.record_form.specs.declared.line.Number.{Number}
 use Rattle.record_form.specs.declared.line.Number.the-variants as number
 

@@ -13,14 +13,15 @@ use borrow.Author.Tests.{le-leb, lt-leb}
 use lib.Dec.{leb}
 use lib.ListN.{length, set, length-set}
 use Rattle.integers.specs.Tests.{impossible}
-use Rattle.geometry.specs.Limits.{rowLimit}
-use Rattle.text.specs.Parts.{lineEnd, same, PartEnd, partsFrom}
+use Rattle.limits.specs.Limits.{rowLimit}
+use Rattle.text.specs.Parts.{lineEnd, same, partsFrom}
+use Rattle.text.specs.Contracts.{PartEnd}
 use Rattle.text.specs.PartsLaws.{partAt, last-empty, last-some, followed}
 use Rattle.record_form.specs.Lines.{Weight, weightLine}
 use Rattle.record_form.specs.LinesLaws.{weight-within, weight-printed}
 use Rattle.record_form.specs.Record.{Form, faulty, sound, andLine, withWeight, weightsFrom}
 use Rattle.record_form.specs.Weights.{placedIn}
-use Rattle.record_form.specs.Answers.{heldWeights, weightRead, weightsFault, WeightsRead}
+use Rattle.record_form.specs.Contracts.{heldWeights, weightRead, weightsFault, WeightsRead}
 use Rattle.record_form.specs.declared.line.WeightRead.{WeightRead}
 
 weight-past : (last : ℕ) (line : List ℕ) (w : Weight) → weightLine rowLimit last line ≡ some w → (last < w .row) × (w .row ≤ rowLimit)

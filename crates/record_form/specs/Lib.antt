@@ -6,4 +6,4 @@ pub mod Weights
 pub mod LinesLaws
 pub mod RecordLaws
 pub mod WeightsLaws
-pub mod Answers
+pub mod Contracts

@@ -28,11 +28,11 @@ use mathlib.Core.Option.{Option, none, some, Option·map}
 use lib.Dec.{eqb, leb, ltb}
 use lib.IntN.{ℤ, pos, negsuc, natAbs}
 use lib.ListN.{length, getD, take, drop}
-use Rattle.geometry.specs.Limits.{budgetLimit}
+use Rattle.limits.specs.Limits.{budgetLimit}
 use Rattle.text.specs.Parts.{comma, cut, same}
-use Rattle.text.specs.Number.{plain}
-use Rattle.text.specs.Saturated.{magnitudeLimit}
-use Rattle.text.specs.Put.{numbersAfter}
+use Rattle.number.specs.Number.{plain}
+use Rattle.number.specs.Contracts.{magnitudeLimit}
+use Rattle.printing.specs.Contracts.{numbersAfter}
 
 -- ---- the fixed byte strings
 

@@ -22,13 +22,13 @@ use lib.IntN.{ℤ, pos, negsuc, natAbs}
 use lib.ListN.{length, take, drop, length-map, take-append-drop}
 use Rattle.integers.specs.Tests.{both, unlike, cond-some}
 use Rattle.lists.specs.Each.{Each, each-cons, each-head, each-tail}
-use Rattle.geometry.specs.Limits.{budgetLimit}
+use Rattle.limits.specs.Limits.{budgetLimit}
 use Rattle.text.specs.Parts.{comma, lineEnd, cut, join, same, free, allFree}
 use Rattle.text.specs.PartsLaws.{same-eq, same-refl, join-cut, cut-join, join-free, join-more}
-use Rattle.text.specs.Number.{hyphen, isDigit, plain, print}
-use Rattle.text.specs.NumberLaws.{plain-print, print-plain, print-free}
-use Rattle.text.specs.Saturated.{magnitudeLimit}
-use Rattle.text.specs.Put.{numbersAfter}
+use Rattle.number.specs.Number.{hyphen, isDigit, plain, print}
+use Rattle.number.specs.NumberLaws.{plain-print, print-plain, print-free}
+use Rattle.number.specs.Contracts.{magnitudeLimit}
+use Rattle.printing.specs.Contracts.{numbersAfter}
 use Rattle.record_form.specs.Lines.{
   centreWord,
   resultWord,

@@ -21,11 +21,11 @@ use mathlib.Core.Option.{Option, none, some}
 use lib.Dec.{leb, ltb}
 use lib.IntN.{ℤ, pos, natAbs}
 use lib.ListN.{length, getD, drop}
-use Rattle.geometry.specs.Limits.{channelLimit, budgetLimit}
+use Rattle.limits.specs.Limits.{channelLimit, budgetLimit}
 use Rattle.text.specs.Parts.{lineEnd, cut, same}
 use Rattle.text.specs.Lines.{printLines, endedLine}
-use Rattle.text.specs.Saturated.{magnitudeLimit}
-use Rattle.channel.specs.Channel.{ChannelType}
+use Rattle.number.specs.Contracts.{magnitudeLimit}
+use Rattle.channel.specs.Channel.{Types}
 use Rattle.heading.specs.Heading.{headingOf, printHeading, CodesWithin}
 use Rattle.record_form.specs.Lines.{recordWord, Result, Weight, centreLine, resultLine, weightLine, weightWithin, printCentre, printResult, printWeight}
 
@@ -68,19 +68,19 @@ withWeights codes centre result (faulty line) = faulty line
 withWeights codes centre result (sound ws) = sound (record { codes = codes; centre = centre; result = result; weights = ws })
 
 -- a missing line is the one after the last
-unfoldable pub formOf : ℕ → List ChannelType → List (List ℕ) → Form Record
+unfoldable pub formOf : ℕ → Types → List (List ℕ) → Form Record
 formOf limit types parts =
     andLine 1 (lineAs (headingOf recordWord channelLimit types) (endedLine parts))
     (λ codes. andLine 2 (lineAs (centreLine (length codes)) (endedLine (drop 1 parts)))
     (λ centre. andLine 3 (lineAs resultLine (endedLine (drop 2 parts)))
     (λ result. withWeights codes centre result (weightsFrom limit 4 0 (drop 3 parts)))))
 
-unfoldable pub form : ℕ → List ChannelType → List ℕ → Form Record
+unfoldable pub form : ℕ → Types → List ℕ → Form Record
 form limit types text = formOf limit types (cut lineEnd text)
 
 -- ---- what is written
 
-unfoldable pub printRecord : List ChannelType → Record → List ℕ
+unfoldable pub printRecord : Types → Record → List ℕ
 printRecord types r =
     printLines
     (printHeading recordWord types (r .codes) ∷ printCentre (r .centre) ∷ printResult (r .result) ∷ map printWeight (r .weights))
@@ -92,7 +92,7 @@ weightsWithin limit last [] = true
 weightsWithin limit last (w ∷ ws) = (weightWithin limit last w && ltb (w .weight) magnitudeLimit) && weightsWithin limit (w .row) ws
 
 -- the default of getD is never met
-pub record Within (limit : ℕ) (types : List ChannelType) (r : Record) : Type 0 where
+pub record Within (limit : ℕ) (types : Types) (r : Record) : Type 0 where
   pub heading : CodesWithin channelLimit types (r .codes)
   pub complete : length (r .centre) ≡ length (r .codes)
   pub centre-short : (k : ℕ) → k < length (r .centre) → natAbs (getD (r .centre) k (pos 0)) < magnitudeLimit

@@ -18,15 +18,15 @@ use lib.Dec.{leb, ltb}
 use lib.IntN.{ℤ}
 use lib.ListN.{length, drop, length-append, length-map}
 use Rattle.integers.specs.Tests.{both, unlike, impossible}
-use Rattle.geometry.specs.Limits.{channelLimit}
+use Rattle.limits.specs.Limits.{channelLimit}
 use Rattle.text.specs.Parts.{lineEnd, cut, join, same, allFree}
 use Rattle.text.specs.PartsLaws.{same-eq, join-cut}
 use Rattle.text.specs.Lines.{ended, endedLine}
 use Rattle.text.specs.LinesLaws.{ended-printed, printed-ended}
-use Rattle.text.specs.Label.{isLabel, labelBytes}
-use Rattle.text.specs.Saturated.{magnitudeLimit}
-use Rattle.channel.specs.Channel.{ChannelType}
-use Rattle.channel.specs.ChannelLaws.{soundTypes}
+use Rattle.label.specs.Label.{isLabel, labelBytes}
+use Rattle.number.specs.Contracts.{magnitudeLimit}
+use Rattle.channel.specs.Channel.{Types}
+use Rattle.channel.specs.ChannelLaws.{SoundTypes}
 use Rattle.heading.specs.Heading.{headingOf, printHeading, CodesWithin}
 use Rattle.heading.specs.HeadingLaws.{heading-within, heading-printed, printed-heading, heading-free}
 use Rattle.record_form.specs.Lines.{
@@ -165,10 +165,10 @@ with-weights codes centre result (sound ws) r e =
     let made : record { codes = codes; centre = centre; result = result; weights = ws } ≡ r = cc in
     rw (← made) (refl, refl)
 
-linesOf : List ChannelType → Record → List (List ℕ)
+linesOf : Types → Record → List (List ℕ)
 linesOf types r = printHeading recordWord types (r .codes) ∷ printCentre (r .centre) ∷ printResult (r .result) ∷ map printWeight (r .weights)
 
-pub form-read : (limit : ℕ) (types : List ChannelType) (parts : List (List ℕ)) (r : Record) → formOf limit types parts ≡ sound r
+pub form-read : (limit : ℕ) (types : Types) (parts : List (List ℕ)) (r : Record) → formOf limit types parts ≡ sound r
     → (lineAs (headingOf recordWord channelLimit types) (endedLine parts) ≡ some (r .codes))
     × (lineAs (centreLine (length (r .codes))) (endedLine (drop 1 parts)) ≡ some (r .centre))
     × (lineAs resultLine (endedLine (drop 2 parts)) ≡ some (r .result))
@@ -181,7 +181,7 @@ form-read limit types parts r e =
     let others = with-weights (first .0) (second .0) (third .0) (weightsFrom limit 4 0 (drop 3 parts)) r (third .2) in
     rw (others .1) (first .1, second .1, third .1, others .0)
 
-module _ (limit : ℕ) (types : List ChannelType) (types-sound : soundTypes types ≡ true) where
+module _ (limit : ℕ) (types : Types) (types-sound : SoundTypes types) where
   parts-printed : (parts : List (List ℕ)) (r : Record) → formOf limit types parts ≡ sound r → Within limit types r × (parts ≡ ended (linesOf types r))
   unfolding linesOf
   parts-printed parts r e =
@@ -281,7 +281,7 @@ weights-faults limit line last (part ∷ next ∷ parts) fault e =
     go w (faulty k) later read = omega (arith, later read)
     go w (sound ws) later read = faulty-sound (sym read)
 
-pub form-faults : (limit : ℕ) (types : List ChannelType) (text : List ℕ) (line : ℕ) → form limit types text ≡ faulty line → 1 ≤ line
+pub form-faults : (limit : ℕ) (types : Types) (text : List ℕ) (line : ℕ) → form limit types text ≡ faulty line → 1 ≤ line
 unfolding form formOf
 form-faults limit types text line e =
     let parts = cut lineEnd text in

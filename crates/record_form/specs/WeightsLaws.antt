@@ -16,7 +16,7 @@ use lib.Dec.{eqb}
 use lib.ListN.{length, getD, set, replicate, length-append, length-set, length-replicate}
 use lib.Seq.{append-snoc, set-at}
 use Rattle.lists.specs.Each.{Each, each-head, each-tail}
-use Rattle.text.specs.Saturated.{magnitudeLimit}
+use Rattle.number.specs.Contracts.{magnitudeLimit}
 use Rattle.record_form.specs.Lines.{Weight, weightWithin}
 use Rattle.record_form.specs.LinesLaws.{weight-within, within-weight}
 use Rattle.record_form.specs.Record.{weightsWithin}

@@ -2,24 +2,25 @@
 ghost use mathlib.Core.Path.{_≡_};
 ghost use Prim.Native.Nat.{_≤_};
 ghost use lib.ListN.{length};
-ghost use Rattle.geometry.specs.Limits.{rowLimit};
+ghost use Rattle.limits.specs.Limits.{rowLimit};
 ghost use Rattle.channel.specs.Channel.{channelTypes};
 ghost use Rattle.record_form.specs.Record.{form};
-ghost use Rattle.record_form.specs.Answers.{WeightsRead, AfterCentreRead, statedFault, statedForm};
+ghost use Rattle.record_form.specs.Contracts.{WeightsRead, AfterCentreRead, statedFault, statedForm};
 use crate::line::read_centre;
 use crate::line::read_result;
 use crate::line::read_weight;
 use crate::words::RECORD_WORD;
-use figures::limits::CHANNELS;
-use figures::limits::ROWS;
+use channel::Code;
 use heading::read_heading;
+use limits::CHANNELS;
+use limits::ROWS;
 use text::parts::line_end;
 
 // What a record in form states. `line` is the first faulty line, and 0 where the record is in form; at a fault every figure is 0.
 pub struct Stated {
     pub line: u32,
     pub n: usize,
-    pub types: [u8; CHANNELS],
+    pub codes: [Code; CHANNELS],
     pub centre: [i64; CHANNELS],
     pub radius: i64,
     pub floor: i64,
@@ -34,7 +35,7 @@ fn faulty(line: u32) -> Stated
     Stated {
         line,
         n: 0,
-        types: [0; CHANNELS],
+        codes: [0; CHANNELS],
         centre: [0; CHANNELS],
         radius: 0,
         floor: 0,
@@ -80,11 +81,11 @@ fn read_after_centre(
     text: &[u8],
     at: usize,
     n: usize,
-    types: [u8; CHANNELS],
+    codes: [Code; CHANNELS],
     centre: [i64; CHANNELS],
 ) -> Stated
     requires { ⌜ at ≤ length (now text) ⌝ }
-    ensures { λ r. ⌜ AfterCentreRead (now (text .entry)) at n types centre r ⌝ }
+    ensures { λ r. ⌜ AfterCentreRead (now (text .entry)) at n codes centre r ⌝ }
 {
     let end = line_end(text, at);
     if end == text.len() {
@@ -102,7 +103,7 @@ fn read_after_centre(
     Stated {
         line: 0,
         n,
-        types,
+        codes,
         centre,
         radius: result.radius,
         floor: result.floor,
@@ -134,6 +135,6 @@ pub fn read_form(text: &[u8]) -> Stated
     if !read_centre(&text[centre_at..centre_end], n, &mut centre) {
         return faulty(2);
     }
-    let types = heading.types;
-    read_after_centre(text, centre_end + 1, n, types, centre)
+    let codes = heading.codes;
+    read_after_centre(text, centre_end + 1, n, codes, centre)
 }

@@ -20,11 +20,11 @@ use mir.Syntax.{w64}
 use mir.Val.{toZ}
 use Rattle.text.specs.Parts.{comma, lineEnd}
 use Rattle.text.specs.Lines.{printLines}
-use Rattle.text.specs.Put.{numbersAfter, printNumbers, Put}
-use Rattle.text.specs.PutLaws.{put-none, put-byte, put-then, put-as, put-ended}
-use Rattle.text.specs.UnsignedLaws.{Below, below-none, below-more, held-signed}
+use Rattle.printing.specs.Contracts.{numbersAfter, printNumbers, Put}
+use Rattle.printing.specs.ContractLaws.{put-none, put-byte, put-then, put-as, put-ended}
+use Rattle.number.specs.UnsignedLaws.{Below, below-none, below-more, held-signed}
 use Rattle.channel.specs.Channel.{channelTypes}
-use Rattle.channel.specs.AnswersLaws.{house-short}
+use Rattle.channel.specs.ContractLaws.{house-short}
 use Rattle.heading.specs.Heading.{printHeading}
 use Rattle.envelope.specs.Figures.{channelCodes}
 use Rattle.envelope.specs.declared.Figures.{Figures}

@@ -9,10 +9,10 @@ use Prim.Native.Nat.{ℕ, _+_, _*_, _≤_, _<_, _^_}
 use mathlib.Core.List.{List, map}
 use lib.IntN.{pos, natAbs}
 use lib.ListN.{length, take}
-use Rattle.geometry.specs.Limits.{channelLimit}
+use Rattle.limits.specs.Limits.{channelLimit}
 use Rattle.geometry.specs.Places.{centreOf}
 use Rattle.text.specs.Lines.{printLines}
-use Rattle.channel.specs.Channel.{ChannelType}
+use Rattle.channel.specs.Channel.{Types}
 use Rattle.envelope.specs.Figures.{channelCodes}
 use Rattle.envelope.specs.declared.Figures.{Figures}
 use Rattle.envelope.specs.declared.Envelope.{Envelope}
@@ -36,7 +36,7 @@ recordOf f weights =
       weights = listed 1 weights;
     }
 
-unfoldable pub recordText : List ChannelType → Envelope → List ℕ
+unfoldable pub recordText : Types → Envelope → List ℕ
 recordText types e = printRecord types (recordOf (e .figures) (e .weights))
 
 unfoldable pub weightLines : List ℕ → List ℕ
@@ -58,7 +58,7 @@ recordMost rows = 38 + 90 + 52 + 12 * rows
 -- n types and places of X, and numbers below 2^63
 pub record Printing (f : Figures) (weights : List ℕ) : Type 0 where
   pub channels : f .n ≤ channelLimit
-  pub typed : f .n ≤ length (f .types)
+  pub typed : f .n ≤ length (f .codes)
   pub places : f .n ≤ length (f .ball .«scaled_centre»)
   pub centre-small : (k : ℕ) → k < f .n → natAbs (centreOf (f .ball .«scaled_centre») k) < 2 ^ 63
   pub radius-small : f .ball .«scaled_squared_radius» < 2 ^ 63

@@ -23,13 +23,13 @@ use lib.ListN.{length, getD, take, length-append, List·getD-eq-default}
 use lib.Seq.{length-take-le, getD-take}
 use Rattle.text.specs.Parts.{comma, lineEnd, join}
 use Rattle.text.specs.Lines.{printLines}
-use Rattle.text.specs.Number.{print}
-use Rattle.text.specs.NumberLaws.{magnitude-short}
-use Rattle.text.specs.Put.{numbersAfter}
-use Rattle.text.specs.PutLaws.{numbers-short}
-use Rattle.text.specs.UnsignedLaws.{Below, below-none, below-more}
-use Rattle.channel.specs.Channel.{ChannelType}
-use Rattle.channel.specs.AnswersLaws.{shortTags}
+use Rattle.number.specs.Number.{print}
+use Rattle.number.specs.NumberLaws.{magnitude-short}
+use Rattle.printing.specs.Contracts.{numbersAfter}
+use Rattle.printing.specs.ContractLaws.{numbers-short}
+use Rattle.number.specs.UnsignedLaws.{Below, below-none, below-more}
+use Rattle.channel.specs.Channel.{Types}
+use Rattle.channel.specs.ContractLaws.{ShortTags}
 use Rattle.heading.specs.Heading.{printHeading}
 use Rattle.heading.specs.HeadingLaws.{heading-length}
 use Rattle.envelope.specs.Figures.{channelCodes}
@@ -50,10 +50,10 @@ taken-small limit n X h small k l =
     let places : length (take n X) ≡ n = length-take-le n X h in
     omega (arith, ap natAbs (getD-take n X k (pos 0) (omega arith)), small k (omega arith))
 
-pub heading-short : (f : Figures) (types : List ChannelType) → shortTags types ≡ true → f .n < 10 → f .n ≤ length (f .types)
+pub heading-short : (f : Figures) (types : Types) → ShortTags types → f .n < 10 → f .n ≤ length (f .codes)
     → length (printHeading recordWord types (channelCodes f)) ≤ 5 + 4 * f .n
 heading-short f types short few typed =
-    let codes : length (channelCodes f) ≡ f .n = length-take-le (f .n) (f .types) typed in
+    let codes : length (channelCodes f) ≡ f .n = length-take-le (f .n) (f .codes) typed in
     omega (arith, heading-length types short 1 recordWord (channelCodes f) (omega arith) (omega arith))
 
 -- a hyphen, digits and a comma for each place
@@ -140,7 +140,7 @@ module _ (row-digits weight-digits : ℕ) (some-row : 1 ≤ row-digits) (some-we
 
 -- ---- the whole record
 
-pub record-lines : (types : List ChannelType) (r : Record)
+pub record-lines : (types : Types) (r : Record)
     → printRecord types r
     ≡ (printHeading recordWord types (r .codes) ++ (lineEnd ∷ []))
     ++ ((printCentre (r .centre) ++ (lineEnd ∷ []))
@@ -153,7 +153,7 @@ record-lines types r = sym (simp append-assoc)
 line-length : (line rest : List ℕ) → length ((line ++ (lineEnd ∷ [])) ++ rest) ≡ length line + 1 + length rest
 line-length line rest = length-append (line ++ (lineEnd ∷ [])) rest ∙ ap (λ n. n + length rest) (length-append line (lineEnd ∷ []))
 
-pub record-length : (types : List ChannelType) (r : Record)
+pub record-length : (types : Types) (r : Record)
     → length (printRecord types r)
     ≡ (length (printHeading recordWord types (r .codes)) + 1)
     + (length (printCentre (r .centre)) + 1)
@@ -198,7 +198,7 @@ pub weight-length : (row weight : ℕ) → row < 10 ^ 4 → weight < 10 ^ 10 →
 weight-length row weight r w = omega (arith, weight-short 4 10 (omega arith) (omega arith) row weight r w)
 
 module _ (f : Figures) (weights : List ℕ) (p : Printing f weights) where
-  pub heading-most : (types : List ChannelType) → shortTags types ≡ true → length (printHeading recordWord types (channelCodes f)) ≤ 37
+  pub heading-most : (types : Types) → ShortTags types → length (printHeading recordWord types (channelCodes f)) ≤ 37
   heading-most types short = omega (arith, p .channels, heading-short f types short (omega (arith, p .channels)) (p .typed))
 
   pub centre-most : length (printCentre (recordOf f weights .centre)) ≤ 169
@@ -215,7 +215,7 @@ module _ (f : Figures) (weights : List ℕ) (p : Printing f weights) where
       let L = f .ball .«scaled_lower_bound» in
       result-length M L (f .moves) (result-below M L (f .moves) (p .radius-small) (p .floor-small) made) (f .ball .settled)
 
-  pub record-room : (types : List ChannelType) → shortTags types ≡ true → f .moves < 2 ^ 63 → Below weightLimit weights
+  pub record-room : (types : Types) → ShortTags types → f .moves < 2 ^ 63 → Below weightLimit weights
       → length (printRecord types (recordOf f weights)) ≤ recordRoom (length weights)
   record-room types short made below =
       omega (

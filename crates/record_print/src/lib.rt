@@ -5,13 +5,16 @@ ghost use Prim.Native.Nat.{ℕ, _+_, _*_, _^_, _≤_, _<_};
 ghost use lib.IntN.{pos, natAbs};
 ghost use lib.ListN.{length, getD, take};
 ghost use Rattle.text.specs.Parts.{lineEnd};
-ghost use Rattle.text.specs.Put.{Put};
+ghost use Rattle.printing.specs.Contracts.{Put};
 ghost use Rattle.channel.specs.Channel.{channelTypes};
 ghost use Rattle.record_form.specs.Lines.{printCentre, printResult, printWeight};
 ghost use Rattle.record_form.specs.Record.{printRecord};
 ghost use Rattle.record_print.specs.Printed.{recordOf, lineRoom, recordRoom, Printing, weightLines};
 use envelope::Figures;
 use heading::put_heading;
+use printing::put_bytes;
+use printing::put_line;
+use printing::put_numbers;
 use record_form::words::BUDGET_LETTER;
 use record_form::words::CENTRE_WORD;
 use record_form::words::RECORD_WORD;
@@ -20,9 +23,6 @@ use record_form::words::SETTLED_LETTER;
 use record_form::words::WEIGHT_WORD;
 use text::parts::COMMA;
 use text::parts::LINE_END;
-use text::printing::put_bytes;
-use text::printing::put_line;
-use text::printing::put_numbers;
 
 // `C` and X, with its byte 10.
 fn put_centre(out: &mut [u8], at: usize, centre: &[i64], n: usize) -> usize
@@ -94,10 +94,10 @@ pub fn print_record(figures: Figures, weights: &[u32], out: &mut [u8]) -> usize
     ensures { λ r. ⌜ Put (printRecord channelTypes (recordOf figures (now (weights .entry)))) (now (out .entry)) 0 (now (out .exit)) r ⌝ }
 {
     let n = figures.n;
-    let types = figures.types;
+    let codes = figures.codes;
     let ball = figures.ball;
     let centre = ball.scaled_centre;
-    let heading_end = put_heading(out, 0, &RECORD_WORD, &types, n);
+    let heading_end = put_heading(out, 0, &RECORD_WORD, &codes, n);
     out[heading_end] = LINE_END;
     let centre_end = put_centre(out, heading_end + 1, &centre, n);
     let result_end = put_result(

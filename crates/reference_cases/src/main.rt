@@ -8,9 +8,10 @@ use case_io::least;
 use case_io::print_number;
 use case_io::raised;
 use case_io::two_bytes;
-use figures::limits::CHANNELS;
-use figures::limits::PLACES;
+use channel::Code;
 use libc::STDIN_FILENO;
+use limits::CHANNELS;
+use limits::PLACES;
 use reference::read::Part;
 use reference::read::Reference;
 use reference::read::label_part;
@@ -29,7 +30,7 @@ fn raised_number(number: i32) -> u64
     raised(number as i64, 4000)
 }
 
-fn widened(code: u8) -> u64
+fn widened(code: Code) -> u64
     ensures { λ r. ⌜ r < 256 ⌝ }
 {
     code as u64
@@ -49,13 +50,13 @@ fn table_digest(table: &[i32; PLACES]) -> u64 {
 }
 
 // The sum of place times code, in the same way.
-fn types_digest(types: [u8; CHANNELS]) -> u64 {
+fn codes_digest(codes: [Code; CHANNELS]) -> u64 {
     let mut sum: u64 = 0;
     let mut tail: u64 = 0;
     let mut k = CHANNELS;
     while 0 < k {
         k -= 1;
-        tail += widened(types[k]);
+        tail += widened(codes[k]);
         sum += tail;
     }
     sum
@@ -64,13 +65,13 @@ fn types_digest(types: [u8; CHANNELS]) -> u64 {
 // The line of a case.
 fn print_line(reference: Reference, table: u64, label: Part) {
     let outcome = reference.outcome;
-    let types = reference.types;
+    let codes = reference.codes;
     print_number(refusal::number_of(outcome) as u64, b',');
     print_number(refusal::line_of(outcome) as u64, b',');
     print_number(reference.m as u64, b',');
     print_number(reference.n as u64, b',');
     print_number(table, b',');
-    print_number(types_digest(types), b',');
+    print_number(codes_digest(codes), b',');
     print_number(label.start as u64, b',');
     print_number(label.length as u64, b'\n');
 }

@@ -8,28 +8,28 @@ use native.Mathlib.Omega.{arith}
 use lib.IntN.{ℤ}
 use lib.ListN.{length, take, drop, length-append, length-drop}
 use lib.Seq.{take-at, take-length}
-use Rattle.lists.specs.Filled.{filled}
+use Rattle.lent.specs.Filled.{filled}
 use Rattle.lists.specs.Padded.{padded}
 use Rattle.refusal.specs.Outcome.{numberOf}
-use Rattle.geometry.specs.Limits.{total, rowLimit, channelLimit}
+use Rattle.limits.specs.Limits.{total, rowLimit, channelLimit}
 use Rattle.ball.specs.Draw.{drawing}
-use Rattle.ball.specs.Promise.{DrawPromise}
+use Rattle.ball.specs.Contracts.{DrawPromise}
 use Rattle.ball.specs.declared.Drawing.{Drawing}
-use Rattle.text.specs.Put.{Put}
-use Rattle.text.specs.PutLaws.{put-as}
-use Rattle.channel.specs.Channel.{channelTypes}
+use Rattle.printing.specs.Contracts.{Put}
+use Rattle.printing.specs.ContractLaws.{put-as}
+use Rattle.channel.specs.Channel.{channelTypes, codesKnown}
 use Rattle.channel.specs.ChannelLaws.{house-sound}
-use Rattle.rows.specs.Rows.{tableOf}
+use Rattle.reference_rows.specs.Rows.{tableOf}
 use Rattle.reference.specs.ReferenceLaws.{accepted-within}
 use Rattle.reference.specs.declared.read.Reference.{Reference}
-use Rattle.envelope.specs.Figures.{codesKnown}
-use Rattle.envelope.specs.FigureLaws.{each-codes}
+use Rattle.channel.specs.CodesLaws.{each-codes}
 use Rattle.envelope.specs.Agreement.{drawnEnvelope}
 use Rattle.envelope.specs.declared.Envelope.{Envelope}
 use Rattle.record_print.specs.Printed.{recordText}
-use Rattle.record.specs.Answers.{written, recordWritten}
+use Rattle.record.specs.Contracts.{recordWritten}
+use Rattle.lent.specs.Contracts.{written}
 use Rattle.record.specs.HouseLaws.{house-drawn-most, house-drawn-written}
-use Rattle.record.specs.declared.TextWritten.{TextWritten}
+use Rattle.lent.specs.declared.TextWritten.{TextWritten}
 use Rattle.service.specs.Programs.{drawBudget, drawOutput}
 use Rattle.service.specs.ProgramLaws.{draw-accepted, draw-record}
 use Rattle.service.specs.Contracts.{drawRoom}
@@ -62,10 +62,10 @@ module _ {text : List ℕ} {r : Reference} {table : List ℤ} (read : RowsRead t
   abbrev own : Envelope
   own = drawnEnvelope n (padded channelLimit (read .codes)) (drawing total rowLimit rows m n drawBudget)
 
-  own-is : drawnEnvelope (r .n) (r .types) d ≡ own
+  own-is : drawnEnvelope (r .n) (r .codes) d ≡ own
   own-is =
-      ap (drawnEnvelope (r .n) (r .types)) (promise .is ∙ ap (λ (l : List ℤ). drawing total rowLimit l (r .m) (r .n) drawBudget) (read .first))
-      ∙ ap (λ (x : Reference). drawnEnvelope (x .n) (x .types) (drawing total rowLimit rows (x .m) (x .n) drawBudget)) (read .answer)
+      ap (drawnEnvelope (r .n) (r .codes)) (promise .is ∙ ap (λ (l : List ℤ). drawing total rowLimit l (r .m) (r .n) drawBudget) (read .first))
+      ∙ ap (λ (x : Reference). drawnEnvelope (x .n) (x .codes) (drawing total rowLimit rows (x .m) (x .n) drawBudget)) (read .answer)
 
   known : codesKnown channelTypes (read .codes) ≡ true
   known = each-codes channelTypes (read .codes) (accepted-within rowLimit channelTypes text (read .codes) (read .rows) (read .is) .heading .each-known)
@@ -80,7 +80,7 @@ module _ {text : List ℕ} {r : Reference} {table : List ℤ} (read : RowsRead t
           room,
         )
 
-    own-written : {w : TextWritten} → w ≡ recordWritten total rowLimit channelTypes (take (r .m * r .n) table) (r .m) (drawnEnvelope (r .n) (r .types) d) (length out)
+    own-written : {w : TextWritten} → w ≡ recordWritten total rowLimit channelTypes (take (r .m * r .n) table) (r .m) (drawnEnvelope (r .n) (r .codes) d) (length out)
         → w ≡ written (length (recordText channelTypes own))
     own-written e =
         e
@@ -89,8 +89,8 @@ module _ {text : List ℕ} {r : Reference} {table : List ℤ} (read : RowsRead t
         ∙ house-drawn-written rows m n (read .codes) refl known drawBudget
         (draw-accepted total rowLimit channelTypes text (read .codes) (read .rows) (read .is) house-sound) (length out) room
 
-    pub drawn-put : {out′ : List ℕ} {w : TextWritten} → w ≡ recordWritten total rowLimit channelTypes (take (r .m * r .n) table) (r .m) (drawnEnvelope (r .n) (r .types) d) (length out)
-        → out′ ≡ filled (numberOf (w .outcome)) (w .length) (recordText channelTypes (drawnEnvelope (r .n) (r .types) d)) out
+    pub drawn-put : {out′ : List ℕ} {w : TextWritten} → w ≡ recordWritten total rowLimit channelTypes (take (r .m * r .n) table) (r .m) (drawnEnvelope (r .n) (r .codes) d) (length out)
+        → out′ ≡ filled (numberOf (w .outcome)) (w .length) (recordText channelTypes (drawnEnvelope (r .n) (r .codes) d)) out
         → Put (drawOutput total rowLimit channelTypes text) out 0 out′ (w .length)
     drawn-put {out′ = out′} e f =
         let answer = own-written e in

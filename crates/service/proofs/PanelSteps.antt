@@ -12,15 +12,15 @@ use lib.ListN.{length, getD, set, take, length-set}
 use lib.Seq.{length-take-le}
 use Rattle.refusal.specs.declared.Outcome.{Outcome}
 use Rattle.refusal.specs.declared.Outcome.the-variants.{Accepted}
-use Rattle.geometry.specs.Limits.{total, rowLimit, channelLimit}
+use Rattle.limits.specs.Limits.{total, rowLimit, channelLimit}
 use Rattle.text.specs.Parts.{comma, lineEnd}
-use Rattle.text.specs.Number.{print}
-use Rattle.text.specs.NumberLaws.{print-short}
-use Rattle.text.specs.Put.{numbersAfter, printNumbers, Put}
-use Rattle.text.specs.PutLaws.{put-none, put-byte, put-then, put-as, put-ended, take-next, numbers-none, numbers-more}
+use Rattle.number.specs.Number.{print}
+use Rattle.number.specs.NumberLaws.{print-short}
+use Rattle.printing.specs.Contracts.{numbersAfter, printNumbers, Put}
+use Rattle.printing.specs.ContractLaws.{put-none, put-byte, put-then, put-as, put-ended, take-next, numbers-none, numbers-more}
 use Rattle.channel.specs.Channel.{channelTypes, tagOf}
 use Rattle.channel.specs.ChannelLaws.{house-sound}
-use Rattle.channel.specs.AnswersLaws.{house-short, type-short}
+use Rattle.channel.specs.ContractLaws.{house-short, type-short}
 use Rattle.envelope.specs.Figures.{figuresWithin}
 use Rattle.envelope.specs.FigureLaws.{within-figures}
 use Rattle.envelope.specs.declared.Figures.{Figures}
@@ -88,8 +88,8 @@ module _ (types : List ℕ) (steps : List ℤ) (n : ℕ) where
 
 pub record Shown (f : Figures) (steps : List ℤ) : Type 0 where
   pub channels : f .n ≤ channelLimit
-  pub typed : f .n ≤ length (f .types)
-  pub is : printSteps channelTypes (take (f .n) (f .types)) (take (f .n) steps) ≡ shownOutput total channelTypes f
+  pub typed : f .n ≤ length (f .codes)
+  pub is : printSteps channelTypes (take (f .n) (f .codes)) (take (f .n) steps) ≡ shownOutput total channelTypes f
 
 pub shown : (read : EnvelopeRead) (reference text : List ℕ) → read ≡ recordAgainst total rowLimit channelTypes reference text → read .outcome ≡ Accepted
     → (panel : PanelShown) → panel ≡ panelShown total channelTypes (read .envelope .figures) → Shown (read .envelope .figures) (panel .steps)
@@ -99,8 +99,8 @@ shown read reference text is accepted panel panel-is =
     let within = ap (λ (r : EnvelopeRead). figuresWithin total channelTypes (r .envelope .figures)) is
     ∙ against-within total rowLimit channelTypes house-sound (omega arith) reference text same in
     let limits = within-figures total channelTypes f within in
-    let codes = take (f .n) (f .types) in
-    let count : length codes ≡ f .n = length-take-le (f .n) (f .types) (limits .typed) in
+    let codes = take (f .n) (f .codes) in
+    let count : length codes ≡ f .n = length-take-le (f .n) (f .codes) (limits .typed) in
     record {
       channels = limits .channels;
       typed = limits .typed;

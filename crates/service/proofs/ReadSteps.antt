@@ -13,22 +13,22 @@ use native.Mathlib.Omega.{arith}
 use lib.IntN.{ℤ}
 use lib.ListN.{length, take, drop}
 use lib.Seq.{take-at, take-length, length-take-le}
-use Rattle.lists.specs.Filled.{filled}
+use Rattle.lent.specs.Filled.{filled}
 use Rattle.lists.specs.Padded.{padded-first}
 use Rattle.refusal.specs.Outcome.{numberOf, lineOf, refusedAt}
 use Rattle.refusal.specs.declared.Refusal.{Refusal}
 use Rattle.refusal.specs.declared.Outcome.the-variants.{Accepted, Refused}
-use Rattle.geometry.specs.Limits.{total, rowLimit, channelLimit}
+use Rattle.limits.specs.Limits.{total, rowLimit, channelLimit}
 use Rattle.channel.specs.Channel.{channelTypes}
-use Rattle.rows.specs.Row.{Row}
-use Rattle.rows.specs.Rows.{Content, faulty, sound, tableOf}
+use Rattle.reference_rows.specs.Row.{Row}
+use Rattle.reference_rows.specs.Rows.{Content, faulty, sound, tableOf}
 use Rattle.reference.specs.Reference.{content}
 use Rattle.reference.specs.ReferenceLaws.{accepted-rows}
 use Rattle.reference.specs.TableLaws.{table-length}
-use Rattle.reference.specs.Answers.{answerOf, referenceRead, valuesIn}
-use Rattle.reference.specs.AnswerLaws.{answer-types, answer-rows, answer-channels, read-room}
+use Rattle.reference.specs.Contracts.{answerOf, referenceRead, valuesIn}
+use Rattle.reference.specs.ContractLaws.{answer-types, answer-rows, answer-channels, read-room}
 use Rattle.reference.specs.declared.read.Reference.{Reference}
-use Rattle.record.specs.Answers.{recordRead}
+use Rattle.record.specs.Contracts.{recordRead}
 use Rattle.service.specs.Programs.{recordAgainst}
 use Rattle.service.specs.ProgramLaws.{against-sound}
 
@@ -40,7 +40,7 @@ pub record TableRead (text : List ℕ) (r : Reference) (table : List ℤ) : Type
   pub places : r .m * r .n ≤ 2048
   pub within : r .m * r .n ≤ length table
   pub channels : r .n ≤ 8
-  pub typed : r .n ≤ length (r .types)
+  pub typed : r .n ≤ length (r .codes)
   pub values : List ℤ
   pub table-is : table ≡ filled (numberOf (r .outcome)) (r .m * r .n) (valuesIn (contentIs text)) values
 
@@ -56,7 +56,7 @@ table-read {text} {r} {table} values e f long =
       places = places;
       within = omega arith;
       channels = channels;
-      typed = omega (arith, ap (λ (x : Reference). length (x .types)) is, answer-types (contentIs text));
+      typed = omega (arith, ap (λ (x : Reference). length (x .codes)) is, answer-types (contentIs text));
       values = values;
       table-is = f;
     }
@@ -76,7 +76,7 @@ pub record RowsRead (text : List ℕ) (r : Reference) (table : List ℤ) : Type 
   pub is : contentIs text ≡ sound codes rows
   pub answer : r ≡ answerOf (sound codes rows)
   pub first : take (r .m * r .n) table ≡ tableOf rows
-  pub typed : take (r .n) (r .types) ≡ codes
+  pub typed : take (r .n) (r .codes) ≡ codes
 
 module _ {text : List ℕ} {r : Reference} {table : List ℤ} (t : TableRead text r table) where
   pub rows-read : r .outcome ≡ Accepted → RowsRead text r table
@@ -98,7 +98,7 @@ module _ {text : List ℕ} {r : Reference} {table : List ℤ} (t : TableRead tex
                 filled-first (numberOf (r .outcome)) (r .m * r .n) (tableOf rows) (t .values) table (ap numberOf accepted)
                 (table-length rowLimit channelTypes text codes rows is ∙ ap (λ (x : Reference). x .m * x .n) (sym answer))
                 (t .table-is ∙ ap (λ (c : Content). filled (numberOf (r .outcome)) (r .m * r .n) (valuesIn c) (t .values)) is);
-            typed = ap (λ (x : Reference). take (x .n) (x .types)) answer ∙ padded-first channelLimit (length codes) codes refl (accepted-rows rowLimit channelTypes text codes rows is .3);
+            typed = ap (λ (x : Reference). take (x .n) (x .codes)) answer ∙ padded-first channelLimit (length codes) codes refl (accepted-rows rowLimit channelTypes text codes rows is .3);
           }
 
   pub refused-read : (refusal : Refusal) → r .outcome ≡ Refused refusal → contentIs text ≡ faulty (refusal .number) (refusal .line)
@@ -114,7 +114,7 @@ module _ {text : List ℕ} {r : Reference} {table : List ℤ} (t : TableRead tex
           absurd (omega arith)
 
 pub record-read : {text : List ℕ} {r : Reference} {table : List ℤ} → RowsRead text r table → (record-text : List ℕ)
-    → recordRead total rowLimit channelTypes (take (r .m * r .n) table) (r .m) (r .n) (take (r .n) (r .types)) record-text
+    → recordRead total rowLimit channelTypes (take (r .m * r .n) table) (r .m) (r .n) (take (r .n) (r .codes)) record-text
     ≡ recordAgainst total rowLimit channelTypes text record-text
 record-read {text} {r} {table} read record-text =
     ap₂ (λ (rows : List ℤ) (codes : List ℕ). recordRead total rowLimit channelTypes rows (r .m) (r .n) codes record-text) (read .first) (read .typed)

@@ -1,9 +1,9 @@
 // A reference text and a record, from which the programs that need an envelope start.
 ghost use mathlib.Core.Path.{_≡_};
-ghost use Rattle.geometry.specs.Limits.{total, rowLimit};
+ghost use Rattle.limits.specs.Limits.{total, rowLimit};
 ghost use Rattle.channel.specs.Channel.{channelTypes};
 ghost use Rattle.service.specs.Programs.{recordAgainst};
-use figures::limits::PLACES;
+use limits::PLACES;
 use record::EnvelopeRead;
 use refusal::Outcome;
 
@@ -17,9 +17,9 @@ pub fn record_against(reference: &[u8], record_text: &[u8]) -> EnvelopeRead
     let outcome = read.outcome;
     let n = read.n;
     let places = read.m * n;
-    let types = read.types;
+    let codes = read.codes;
     match outcome {
-        Outcome::Accepted => { record::read(&table[..places], read.m, n, &types[..n], record_text) }
+        Outcome::Accepted => { record::read(&table[..places], read.m, n, &codes[..n], record_text) }
         Outcome::Refused(refusal) => record::not_read(refusal.number, refusal.line),
     }
 }

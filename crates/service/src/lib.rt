@@ -9,10 +9,9 @@ pub mod draw;
 pub mod judge;
 mod lines;
 pub mod panel;
-mod readings;
 pub mod verify;
 
-use text::parts::TEXT_MOST;
+use limits::TEXT_MOST;
 
 // The most bytes that a program reads of each of its texts, one more than a text may have: what follows them changes no output.
 pub const TEXT_READ: usize = TEXT_MOST + 1;

@@ -1,12 +1,12 @@
 // The lines that the programs print.
 ghost use Prim.Native.Nat.{_+_, _^_, _≤_, _<_};
 ghost use lib.ListN.{length};
-ghost use Rattle.text.specs.Put.{Put};
+ghost use Rattle.printing.specs.Contracts.{Put};
 ghost use Rattle.reading.specs.Verdict.{verdictExcess};
 ghost use Rattle.service.specs.Lines.{printRefusal, printVerdict};
 ghost use Rattle.service.specs.Contracts.{verdictRoom};
+use printing::put_line;
 use reading::Verdict;
-use text::printing::put_line;
 
 // room for a line of `NO`, or of a verdict
 pub const LINE_MOST: usize = 64;

@@ -1,6 +1,6 @@
 -- Document 01, "Texts": the parts of a text between separators. Lines are the parts between the bytes 10, fields those between
 -- the commas of a line. A byte is a number, a text a list of them.
---     comma, lineEnd, textLimit    44, 10, and the most bytes of a text
+--     comma, lineEnd               44 and 10
 --     textWithin text              the text is not empty and has at most that many bytes; else 1
 --     same a b                     a and b have the same bytes
 --     extend b parts               the parts with the byte b before the first
@@ -8,25 +8,21 @@
 --     join c parts                 the parts with a byte c between each two
 --     free c l, allFree c parts    no byte c stands in l, in any of the parts
 --     partEnd c s at               where the part of s that starts at index at ends
---     PartEnd c s at e             e is that end
 --     partsFrom c s at             the parts of s from index at on; none past the end
 --     partStart c k s              where part k of s, counted from 0, starts; past the end where there is no such part
-use Prim.Native.Nat.{ℕ, zero, suc, _+_, _≤_}
+use Prim.Native.Nat.{ℕ, zero, suc, _+_}
 use mathlib.Core.Bool.{Bool, true, false, not, cond, _&&_}
 use mathlib.Core.List.{List, [], _∷_, _++_}
-use mathlib.Core.Path.{_≡_}
 use lib.Dec.{eqb, leb}
 use lib.ListN.{length, drop}
 use Rattle.bytes.specs.Bytes.{indexOf}
+use Rattle.limits.specs.Limits.{textLimit}
 
 abbrev pub comma : ℕ
 comma = 44
 
 abbrev pub lineEnd : ℕ
 lineEnd = 10
-
-abbrev pub textLimit : ℕ
-textLimit = 65536
 
 abbrev pub textWithin : List ℕ → Bool
 textWithin text = leb 1 (length text) && leb (length text) textLimit
@@ -63,11 +59,6 @@ allFree c (part ∷ parts) = free c part && allFree c parts
 -- at the next byte c, or at the end of s where there is none
 unfoldable pub partEnd : ℕ → List ℕ → ℕ → ℕ
 partEnd c s at = at + indexOf c (drop at s)
-
-pub record PartEnd (c : ℕ) (s : List ℕ) (at e : ℕ) : Type 0 where
-  pub is : e ≡ partEnd c s at
-  pub low : at ≤ e
-  pub high : e ≤ length s
 
 unfoldable pub partsFrom : ℕ → List ℕ → ℕ → List (List ℕ)
 partsFrom c s at = cond (leb at (length s)) (cut c (drop at s)) []

@@ -38,7 +38,9 @@ use lib.ListN.{length, getD, take, drop, length-append, length-drop, length-take
 use lib.Seq.{drop-cons, drop-drop, take-length, getD-drop}
 use Rattle.bytes.specs.Bytes.{indexOf, indexAfter, slice}
 use Rattle.integers.specs.Tests.{both, clash}
-use Rattle.text.specs.Parts.{textLimit, textWithin, same, extend, cut, join, free, allFree, partEnd, PartEnd, partsFrom, partStart}
+use Rattle.text.specs.Parts.{textWithin, same, extend, cut, join, free, allFree, partEnd, partsFrom, partStart}
+use Rattle.text.specs.Contracts.{PartEnd}
+use Rattle.limits.specs.Limits.{textLimit}
 
 pub text-within : (text : List ℕ) → textWithin text ≡ true → (1 ≤ length text) × (length text ≤ textLimit)
 text-within text h =

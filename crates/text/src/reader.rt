@@ -2,7 +2,8 @@
 ghost use mathlib.Core.Path.{_≡_};
 ghost use Prim.Native.Nat.{_≤_};
 ghost use lib.ListN.{length};
-ghost use Rattle.text.specs.Parts.{lineEnd, PartEnd};
+ghost use Rattle.text.specs.Parts.{lineEnd};
+ghost use Rattle.text.specs.Contracts.{PartEnd};
 use crate::parts::LINE_END;
 
 // A walk over a text: the lent text beside the byte that it has reached.

@@ -13,18 +13,19 @@ use Rattle.refusal.specs.Outcome.{numberOf}
 use Rattle.geometry.specs.Figures.{squaredLength, squaredDistance, scaledCentre, scaledSquaredDistance, largest, scaledSquaredRadius, weightedSquaredLength, scaledLowerBound}
 use Rattle.geometry.specs.Select.{farthest, replaces, nearest}
 use Rattle.geometry.specs.Move.{scaledSquaredDistanceOf, farRow, nearRow, difference, separation, settled, transfer, moveWeight, moved, weightOf}
-use Rattle.geometry.specs.Limits.{total, rowLimit, coordinate, placesWithin, rowsWithin}
+use Rattle.geometry.specs.Table.{coordinate, placesWithin, rowsWithin}
+use Rattle.limits.specs.Limits.{total, rowLimit}
 use Rattle.geometry.specs.Places.{tabulate, centreList}
 use Rattle.ball.specs.Ball.{ballOf}
 use Rattle.ball.specs.Draw.{run, start, runFrom, drawing}
 use Rattle.ball.specs.declared.Drawing.{Drawing}
 use Rattle.text.specs.Parts.{join}
 use Rattle.text.specs.Lines.{printLines}
-use Rattle.text.specs.Number.{decimal, printMagnitude, print}
-use Rattle.text.specs.Put.{numbersAfter}
-use Rattle.channel.specs.Channel.{channelTypes, typeOf, known}
+use Rattle.number.specs.Number.{decimal, printMagnitude, print}
+use Rattle.printing.specs.Contracts.{numbersAfter}
+use Rattle.channel.specs.Channel.{channelTypes, houseTypes, typeIn, knownIn, typeOf, known, codesKnown}
 use Rattle.heading.specs.Heading.{printHeading}
-use Rattle.envelope.specs.Figures.{codesKnown, figuresWithin, lentFigures}
+use Rattle.envelope.specs.Figures.{figuresWithin, lentFigures}
 use Rattle.envelope.specs.Agreement.{drawnEnvelope}
 use Rattle.record_form.specs.Lines.{printCentre, printResult, printWeight}
 use Rattle.record_form.specs.Record.{printRecord}
@@ -131,5 +132,5 @@ trials =
     ∷ []
 
 pub trials-agree : map (λ (t : Trial). t .computed) trials ≡ map (λ (t : Trial). t .stated) trials
-unfolding trials numbers flag draw outline whole differenceUnder transferUnder right-triangle shown exampleRecord join printLines decimal printMagnitude print numbersAfter channelTypes typeOf printHeading printCentre printResult printWeight printRecord listed recordText sumℤ sumℕ square squaredLength squaredDistance scaledCentre scaledSquaredDistance largest scaledSquaredRadius weightedSquaredLength scaledLowerBound farthest replaces nearest scaledSquaredDistanceOf farRow nearRow difference separation settled transfer moveWeight moved coordinate placesWithin rowsWithin tabulate centreList ballOf run start runFrom drawing known codesKnown figuresWithin panelShown
+unfolding trials numbers flag draw outline whole differenceUnder transferUnder right-triangle shown exampleRecord join printLines decimal printMagnitude print numbersAfter houseTypes typeIn knownIn typeOf printHeading printCentre printResult printWeight printRecord listed recordText sumℤ sumℕ square squaredLength squaredDistance scaledCentre scaledSquaredDistance largest scaledSquaredRadius weightedSquaredLength scaledLowerBound farthest replaces nearest scaledSquaredDistanceOf farRow nearRow difference separation settled transfer moveWeight moved coordinate placesWithin rowsWithin tabulate centreList ballOf run start runFrom drawing known codesKnown figuresWithin panelShown
 trials-agree = refl

@@ -4,5 +4,5 @@ pub mod Value
 pub mod ValueLaws
 pub mod Values
 pub mod ValuesLaws
-pub mod Ranged
-pub mod RangedLaws
+pub mod Contracts
+pub mod ContractLaws

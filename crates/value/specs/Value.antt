@@ -14,8 +14,8 @@ use mathlib.Core.Option.{Option, none, some, Option·map}
 use lib.Dec.{eqb}
 use lib.IntN.{ℤ, pos}
 use lib.Signed.{leZ}
-use Rattle.text.specs.Number.{plain, print}
-use Rattle.channel.specs.Channel.{ChannelType, typeOf}
+use Rattle.number.specs.Number.{plain, print}
+use Rattle.channel.specs.Channel.{Types, ChannelType, typeOf}
 use Rattle.value.specs.declared.Value.{Value}
 use Rattle.value.specs.declared.Value.the-variants.{Malformed, OutOfRange, Reads}
 
@@ -48,5 +48,5 @@ abbrev pub valueUnder : ChannelType → Option Written → Value
 valueUnder t none = Malformed
 valueUnder t (some v) = cond (inRange t v) (Reads (reads v)) OutOfRange
 
-unfoldable pub valueRead : List ChannelType → ℕ → List ℕ → Value
+unfoldable pub valueRead : Types → ℕ → List ℕ → Value
 valueRead types code l = valueUnder (typeOf types code) (valueOf l)

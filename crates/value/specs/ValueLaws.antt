@@ -22,10 +22,11 @@ use lib.ListN.{length}
 use lib.Signed.{leZ}
 use Rattle.text.specs.Parts.{free}
 use Rattle.integers.specs.Tests.{both, clash}
-use Rattle.text.specs.Number.{hyphen, isDigit, plain, print}
-use Rattle.text.specs.NumberLaws.{plain-print, print-plain, print-free, print-first, magnitude-short, print-short}
-use Rattle.channel.specs.Channel.{ChannelType, typeOf}
-use Rattle.channel.specs.ChannelLaws.{rangeLimit, soundTypes, range-within, range-zero}
+use Rattle.number.specs.Number.{hyphen, isDigit, plain, print}
+use Rattle.number.specs.NumberLaws.{plain-print, print-plain, print-free, print-first, magnitude-short, print-short}
+use Rattle.channel.specs.Channel.{Types, typeOf}
+use Rattle.channel.specs.ChannelLaws.{SoundTypes, range-within, range-zero}
+use Rattle.limits.specs.Limits.{coordinateLimit}
 use Rattle.value.specs.Value.{Written, number, below, lessThan, valueOf, inRange, reads, printValue}
 
 -- ---- printing
@@ -80,10 +81,10 @@ far-outside low high (pos n) l h = ap (λ b. leZ low (pos n) && b) (far-above hi
 far-outside low high (negsuc k) l h = ap (λ b. b && leZ (negsuc k) high) (far-below low k l)
 
 -- what is between two numbers within 4,000 of 0 is so too
-between : (low high z : ℤ) → (natAbs low ≤ rangeLimit) × (natAbs high ≤ rangeLimit) → (leZ low z && leZ z high) ≡ true → natAbs z ≤ rangeLimit
-between low high z ends h = go (decLe (natAbs z) rangeLimit)
+between : (low high z : ℤ) → (natAbs low ≤ coordinateLimit) × (natAbs high ≤ coordinateLimit) → (leZ low z && leZ z high) ≡ true → natAbs z ≤ coordinateLimit
+between low high z ends h = go (decLe (natAbs z) coordinateLimit)
   where
-    go : Dec (natAbs z ≤ rangeLimit) → natAbs z ≤ rangeLimit
+    go : Dec (natAbs z ≤ coordinateLimit) → natAbs z ≤ coordinateLimit
     go (yes k) = k
     go (no k) = clash h (far-outside low high z (omega (arith, ends)) (omega (arith, ends)))
 
@@ -91,18 +92,18 @@ abbrev pub valueLimit : ℕ
 valueLimit = 5
 
 -- `<` stands before a number without a hyphen
-below-short : (z : ℤ) → leZ (pos 1) z ≡ true → natAbs z ≤ rangeLimit → length (lessThan ∷ print z) ≤ valueLimit
+below-short : (z : ℤ) → leZ (pos 1) z ≡ true → natAbs z ≤ coordinateLimit → length (lessThan ∷ print z) ≤ valueLimit
 unfolding print
 below-short (pos n) h k = omega (arith, magnitude-short 4 n (omega arith) (omega arith))
 below-short (negsuc i) h k = clash h refl
 
-module _ (types : List ChannelType) (sound : soundTypes types ≡ true) (code : ℕ) where
+module _ (types : Types) (sound : SoundTypes types) (code : ℕ) where
   pub reads-within : (v : Written) → inRange (typeOf types code) v ≡ true
       → (leZ (typeOf types code .low) (reads v) ≡ true) × (leZ (reads v) (typeOf types code .high) ≡ true)
   reads-within (number z) h = both (leZ (typeOf types code .low) z) (leZ z (typeOf types code .high)) h
   reads-within (below z) h = range-zero types sound code
 
-  pub reads-most : (v : Written) → inRange (typeOf types code) v ≡ true → natAbs (reads v) ≤ rangeLimit
+  pub reads-most : (v : Written) → inRange (typeOf types code) v ≡ true → natAbs (reads v) ≤ coordinateLimit
   reads-most v h =
       let w = reads-within v h in
       between (typeOf types code .low) (typeOf types code .high) (reads v) (range-within types sound code) (ap₂ _&&_ (w .0) (w .1))

@@ -5,7 +5,7 @@ use Prim.Native.Nat.{ℕ}
 use mathlib.Core.Bool.{Bool, true, _&&_}
 use mathlib.Core.List.{List, [], _∷_}
 use mathlib.Core.Option.{Option, none, some, Option·map}
-use Rattle.channel.specs.Channel.{ChannelType, typeOf}
+use Rattle.channel.specs.Channel.{Types, typeOf}
 use Rattle.value.specs.Value.{Written, valueOf, inRange}
 
 abbrev pub andValue : Option Written → Option (List Written) → Option (List Written)
@@ -16,7 +16,7 @@ unfoldable pub valuesOf : List (List ℕ) → Option (List Written)
 valuesOf [] = some []
 valuesOf (field ∷ fields) = andValue (valueOf field) (valuesOf fields)
 
-unfoldable pub valuesInRange : List ChannelType → List ℕ → List Written → Bool
+unfoldable pub valuesInRange : Types → List ℕ → List Written → Bool
 valuesInRange types [] values = true
 valuesInRange types (code ∷ codes) [] = true
 valuesInRange types (code ∷ codes) (v ∷ values) = inRange (typeOf types code) v && valuesInRange types codes values

@@ -15,9 +15,9 @@ use lib.IntN.{pos}
 use lib.ListN.{length, getD}
 use Rattle.integers.specs.Tests.{both, unlike}
 use Rattle.text.specs.Parts.{allFree}
-use Rattle.text.specs.Label.{isLabelByte}
-use Rattle.text.specs.LabelLaws.{no-digit, no-hyphen}
-use Rattle.channel.specs.Channel.{ChannelType, typeOf}
+use Rattle.label.specs.Label.{isLabelByte}
+use Rattle.label.specs.LabelLaws.{no-digit, no-hyphen}
+use Rattle.channel.specs.Channel.{Types, typeOf}
 use Rattle.value.specs.Value.{Written, number, lessThan, valueOf, inRange, printValue}
 use Rattle.value.specs.ValueLaws.{value-print, print-value, value-free}
 use Rattle.value.specs.Values.{andValue, valuesOf, valuesInRange}
@@ -47,7 +47,7 @@ values-free c h other (v ∷ vs) = rw (value-free c (no-digit c h) (no-hyphen c 
 
 -- ---- the ranges
 
-module _ (types : List ChannelType) where
+module _ (types : Types) where
   pub in-range : (codes : List ℕ) (vs : List Written) → length vs ≡ length codes → valuesInRange types codes vs ≡ true
       → (k : ℕ) → k < length codes → inRange (typeOf types (getD codes k 0)) (getD vs k (number (pos 0))) ≡ true
   unfolding valuesInRange

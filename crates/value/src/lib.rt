@@ -3,10 +3,11 @@
 ghost use mathlib.Core.Path.{_≡_};
 ghost use Rattle.channel.specs.Channel.{channelTypes};
 ghost use Rattle.value.specs.Value.{valueRead};
-ghost use Rattle.value.specs.Ranged.{RangeWithin, plainUnder, belowUnder};
+ghost use Rattle.value.specs.Contracts.{RangeWithin, plainUnder, belowUnder};
+use channel::Code;
 use channel::Range;
-use text::number::Plain;
-use text::number::plain_number;
+use number::Plain;
+use number::plain_number;
 
 const LESS_THAN: u8 = 60;
 
@@ -75,7 +76,7 @@ fn below_detection(number: Plain, range: Range) -> Value
     }
 }
 
-pub fn read_value(field: &[u8], code: u8) -> Value
+pub fn read_value(field: &[u8], code: Code) -> Value
     ensures { λ r. ⌜ r ≡ valueRead channelTypes code (now (field .entry)) ⌝ }
 {
     let range = channel::range_of(code);

@@ -6,33 +6,29 @@ use mathlib.Core.Bool.{Bool, true, false, cond}
 use mathlib.Core.List.{List}
 use Prim.Native.Nat.{ℕ, _+_, _-_, _≤_, _<_}
 use native.Mathlib.Omega.{arith}
-use lib.ListN.{length, getD, drop, List·getD-map}
+use lib.ListN.{getD, drop, List·getD-map}
 use Rattle.text.specs.Parts.{same}
-use Rattle.channel.specs.Channel.{ChannelType, channelTypes, codeOf, noType}
-use Rattle.channel.specs.Answers.{tagLimit}
-use Rattle.channel.specs.AnswersLaws.{house-short, tag-short, tag-within, tag-taken}
-use Rattle.channel.proofs.Laws.{codeOf-step}
+use Rattle.channel.specs.Channel.{ChannelType, houseTypes, houseCount, codeIn, noType}
+use Rattle.channel.specs.ChannelLaws.{listed-code-of}
+use Rattle.channel.specs.ContractLaws.{house-tag, tag-within, tag-taken}
+use Rattle.channel.proofs.Laws.{code-step}
 use Rattle.channel.proofs.find_tag.Statement.{statement}
 use Rattle.channel.proofs.find_tag.Tie as tie
 
--- a tag of the table has at most three bytes
-short : (at : ℕ) → length (getD channelTypes at noType .tag) ≤ tagLimit
-short = tag-short channelTypes house-short
-
-module _ (field : List ℕ) (at : ℕ) (l : at < 8) (e : codeOf channelTypes field ≡ codeOf (drop at channelTypes) field) where
-  found : (b : Bool) → same (getD channelTypes at noType .tag) field ≡ b
-      → codeOf channelTypes field ≡ cond b (getD channelTypes at noType .code) (codeOf (drop (at + 1) channelTypes) field)
-  unfolding channelTypes
+module _ (field : List ℕ) (at : ℕ) (l : at < houseCount) (e : codeIn houseTypes field ≡ codeIn (drop at houseTypes) field) where
+  found : (b : Bool) → same (getD houseTypes at noType .tag) field ≡ b
+      → codeIn houseTypes field ≡ cond b (getD houseTypes at noType .code) (codeIn (drop (at + 1) houseTypes) field)
+  unfolding houseTypes
   found b s =
       e
-      ∙ codeOf-step channelTypes field at l
-      ∙ ap (λ t. cond t (getD channelTypes at noType .code) (codeOf (drop (at + 1) channelTypes) field)) s
+      ∙ code-step houseTypes field at l
+      ∙ ap (λ t. cond t (getD houseTypes at noType .code) (codeIn (drop (at + 1) houseTypes) field)) s
 
 abbrev Inv-loop : tie.InvT-loop
-Inv-loop field at₀ at = (at ≤ 8) × (codeOf channelTypes field ≡ codeOf (drop at channelTypes) field)
+Inv-loop field at₀ at = (at ≤ houseCount) × (codeIn houseTypes field ≡ codeIn (drop at houseTypes) field)
 
 abbrev μ-loop : tie.MeasureT-loop
-μ-loop field at₀ at = 8 - at
+μ-loop field at₀ at = houseCount - at
 
 loop-holds : tie.Need-loop-holds Inv-loop μ-loop
 loop-holds c = (omega arith, refl)
@@ -41,28 +37,29 @@ tag-at-requires : tie.Need-tag-at-requires Inv-loop μ-loop
 tag-at-requires c κs = search needs
 
 has-bytes-requires : tie.Need-has-bytes-requires Inv-loop μ-loop
-has-bytes-requires c κs = tag-within (c .tag-at .result) _ (c .tag-at .ensures) (short (c .before .before .loop .at))
+has-bytes-requires c κs = tag-within (c .tag-at .result) _ (c .tag-at .ensures) (house-tag (c .before .before .loop .at))
 
 array-read-result : tie.Need-array-read-result Inv-loop μ-loop
 array-read-result c = search needs
 
 -- what the code of the field is, by what the test gives
 decided : (c : tie.After-has-bytes Inv-loop μ-loop) (b : Bool) → c .has-bytes .result ≡ b
-    → codeOf channelTypes (c .before .before .before .before .before .args .field .now)
-    ≡ cond b (getD channelTypes (c .before .before .before .loop .at) noType .code)
-    (codeOf (drop (c .before .before .before .loop .at + 1) channelTypes) (c .before .before .before .before .before .args .field .now))
+    → codeIn houseTypes (c .before .before .before .before .before .args .field .now)
+    ≡ cond b (getD houseTypes (c .before .before .before .loop .at) noType .code)
+    (codeIn (drop (c .before .before .before .loop .at + 1) houseTypes) (c .before .before .before .before .before .args .field .now))
 decided c b e =
     let field = c .before .before .before .before .before .args .field .now in
     let at = c .before .before .before .loop in
     let tag-at = c .before .tag-at in
     found field (at .at) (omega arith) (at .inv .1) b
-    (ap (λ l. same l field) (sym (tag-taken (tag-at .result) _ (tag-at .ensures) (short (at .at)))) ∙ sym (c .has-bytes .ensures) ∙ e)
+    (ap (λ l. same l field) (sym (tag-taken (tag-at .result) _ (tag-at .ensures) (house-tag (at .at)))) ∙ sym (c .has-bytes .ensures) ∙ e)
 
 returns : tie.Need-returns Inv-loop μ-loop
-unfolding channelTypes
+unfolding houseTypes
 returns c =
-    List·getD-map (λ (t : ChannelType). t .code) channelTypes (c .before .before .before .before .loop .at) noType
+    List·getD-map (λ (t : ChannelType). t .code) houseTypes (c .before .before .before .before .loop .at) noType
     ∙ sym (decided (c .before) true (c .if1 .taken))
+    ∙ sym (listed-code-of houseTypes _)
 
 add-at : tie.Need-add-at Inv-loop μ-loop
 add-at c = search needs
@@ -74,10 +71,11 @@ loop-again : tie.Need-loop-again Inv-loop μ-loop
 loop-again c = (omega arith, decided (c .before) false (c .if1 .left))
 
 returns-2 : tie.Need-returns-2 Inv-loop μ-loop
-unfolding channelTypes codeOf
+unfolding houseTypes codeIn
 returns-2 c =
-    let e : c .before .loop .at ≡ 8 = omega arith in
-    sym (c .before .loop .inv .1 ∙ ap (λ k. codeOf (drop k channelTypes) (c .before .before .before .args .field .now)) e)
+    let e : c .before .loop .at ≡ houseCount = omega arith in
+    sym (listed-code-of houseTypes (c .before .before .before .args .field .now) ∙ c .before .loop .inv .1
+    ∙ ap (λ k. codeIn (drop k houseTypes) (c .before .before .before .args .field .now)) e)
 
 pub find-tag-spec : {M : Type 1} → statement M
 find-tag-spec =

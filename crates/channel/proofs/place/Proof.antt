@@ -5,20 +5,20 @@ use mathlib.Core.Path.{_∙_, ap}
 use Prim.Native.Nat.{_-_}
 use native.Mathlib.Omega.{arith}
 use lib.ListN.{List·getD-eq-default}
-use Rattle.channel.specs.Channel.{channelTypes, noType, typeOf}
-use Rattle.channel.proofs.Laws.{typeOf-place}
+use Rattle.channel.specs.Channel.{houseTypes, noType, typeIn}
+use Rattle.channel.proofs.Laws.{type-place}
 use Rattle.channel.proofs.place.Statement.{statement}
 use Rattle.channel.proofs.place.Tie as tie
 
 returns : tie.Need-returns
-unfolding channelTypes typeOf
-returns c = ap (typeOf channelTypes) (c .if1 .taken)
+unfolding houseTypes typeIn
+returns c = ap (typeIn houseTypes) (c .if1 .taken)
 
 returns-2 : tie.Need-returns-2
-unfolding channelTypes
+unfolding houseTypes
 returns-2 c =
     let code = c .before .before .args .code in
-    typeOf-place code (omega arith) ∙ List·getD-eq-default channelTypes noType {n = code - 1} (omega arith)
+    type-place code (omega arith) ∙ List·getD-eq-default houseTypes noType {n = code - 1} (omega arith)
 
 sub-result : tie.Need-sub-result
 sub-result c = search needs
@@ -27,7 +27,7 @@ cast-result : tie.Need-cast-result
 cast-result c = search needs
 
 returns-3 : tie.Need-returns-3
-returns-3 c = typeOf-place (c .before .before .args .code) (omega arith)
+returns-3 c = type-place (c .before .before .args .code) (omega arith)
 
 pub place-spec : {M : Type 1} → statement M
 place-spec = tie.close (tie.spec returns returns-2 sub-result cast-result returns-3)

@@ -4,10 +4,10 @@ use borrow.Author.Needs.{needs}
 use mathlib.Core.Path.{sym, ap, ap₂}
 use native.Mathlib.Omega.{arith}
 use lib.IntN.{ℤ}
-use Rattle.channel.specs.Channel.{channelTypes}
+use Rattle.channel.specs.Channel.{houseTypes, channelTypes, typeOf}
 use Rattle.channel.specs.ChannelLaws.{house-sound, range-within}
 use Rattle.channel.specs.declared.Range.{Range}
-use Rattle.channel.proofs.Laws.{typeOf-none, number-read}
+use Rattle.channel.proofs.Laws.{type-none, number-read}
 use Rattle.channel.proofs.range_of.Statement.{statement}
 use Rattle.channel.proofs.range_of.Tie as tie
 
@@ -18,10 +18,10 @@ place-requires : tie.Need-place-requires
 place-requires c κs = search needs
 
 returns : tie.Need-returns
-unfolding from-to
+unfolding from-to typeOf
 returns c =
     sym (ap (λ t. from-to (t .low) (t .high))
-    (typeOf-none (c .before .before .args .code) (c .before .place .result) (c .before .place .ensures) (omega arith)))
+    (type-none (c .before .before .args .code) (c .before .place .result) (c .before .place .ensures) (omega arith)))
 
 mul-t5 : tie.Need-mul-t5
 mul-t5 c = search needs
@@ -36,7 +36,7 @@ array-copy-out-t13 : tie.Need-array-copy-out-t13
 array-copy-out-t13 c = search needs
 
 returns-2 : tie.Need-returns-2
-unfolding channelTypes from-to
+unfolding houseTypes from-to typeOf
 returns-2 c =
     let code = c .before .before .before .before .args .code in
     let at = c .before .before .before .place in

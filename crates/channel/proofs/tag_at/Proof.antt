@@ -5,8 +5,8 @@ use mathlib.Core.List.{List, map}
 use Prim.Native.Nat.{ℕ}
 use native.Mathlib.Omega.{arith}
 use lib.ListN.{length, getD, List·getD-map}
-use Rattle.channel.specs.Channel.{ChannelType, channelTypes, noType}
-use Rattle.channel.specs.AnswersLaws.{house-short, tag-short}
+use Rattle.channel.specs.Channel.{ChannelType, houseTypes, noType}
+use Rattle.channel.specs.ContractLaws.{house-tag}
 use Rattle.channel.specs.declared.Tag.{Tag}
 use Rattle.channel.proofs.Laws.{three-read}
 use Rattle.channel.proofs.tag_at.Statement.{statement}
@@ -17,8 +17,8 @@ tag-made b n = record { bytes = b; length = n }
 
 -- what the tag at a place has, read from its column
 read : (f : List ℕ → ℕ) (at : ℕ)
-    → getD (map (λ (t : ChannelType). f (t .tag)) channelTypes) at (f (noType .tag)) ≡ f (getD channelTypes at noType .tag)
-read f at = List·getD-map (λ (t : ChannelType). f (t .tag)) channelTypes at noType
+    → getD (map (λ (t : ChannelType). f (t .tag)) houseTypes) at (f (noType .tag)) ≡ f (getD houseTypes at noType .tag)
+read f at = List·getD-map (λ (t : ChannelType). f (t .tag)) houseTypes at noType
 
 array-read-t5 : tie.Need-array-read-t5
 array-read-t5 c = search needs
@@ -33,14 +33,14 @@ array-read-t18 : tie.Need-array-read-t18
 array-read-t18 c = search needs
 
 cast-t19 : tie.Need-cast-t19
-unfolding channelTypes
-cast-t19 c = record { fits = omega (arith, read length (c .args .at), tag-short channelTypes house-short (c .args .at)) }
+unfolding houseTypes
+cast-t19 c = record { fits = omega (arith, read length (c .args .at), house-tag (c .args .at)) }
 
 returns : tie.Need-returns
-unfolding tag-made channelTypes
+unfolding tag-made houseTypes
 returns c =
     let at = c .args .at in
-    let tag = getD channelTypes at noType .tag in
+    let tag = getD houseTypes at noType .tag in
     ap₂ tag-made (three-read tag (read (λ t. getD t 0 0) at) (read (λ t. getD t 1 0) at) (read (λ t. getD t 2 0) at)) (read length at)
 
 pub tag-at-spec : {M : Type 1} → statement M

@@ -3,8 +3,9 @@ use borrow.Author.Needs.{needs}
 use mathlib.Core.Path.{sym, ap, _∙_}
 use native.Mathlib.Omega.{arith}
 use Rattle.lists.specs.Padded.{padded}
-use Rattle.channel.specs.Answers.{tagPlaces}
-use Rattle.channel.proofs.Laws.{typeOf-none}
+use Rattle.channel.specs.Channel.{typeOf}
+use Rattle.channel.specs.Contracts.{tagPlaces}
+use Rattle.channel.proofs.Laws.{type-none}
 use Rattle.channel.proofs.tag_of.Statement.{statement}
 use Rattle.channel.proofs.tag_of.Tie as tie
 
@@ -12,15 +13,16 @@ place-requires : tie.Need-place-requires
 place-requires c κs = search needs
 
 returns : tie.Need-returns
-unfolding padded
+unfolding padded typeOf
 returns c =
     sym (ap (λ t. tagPlaces (t .tag))
-    (typeOf-none (c .before .before .args .code) (c .before .place .result) (c .before .place .ensures) (omega arith)))
+    (type-none (c .before .before .args .code) (c .before .place .result) (c .before .place .ensures) (omega arith)))
 
 tag-at-requires : tie.Need-tag-at-requires
 tag-at-requires c κs = search needs
 
 returns-2 : tie.Need-returns-2
+unfolding typeOf
 returns-2 c = c .tag-at .ensures ∙ sym (ap (λ t. tagPlaces (t .tag)) (c .before .before .place .ensures))
 
 pub tag-of-spec : {M : Type 1} → statement M

@@ -4,7 +4,7 @@ use mathlib.Core.Path.{ap, _∙_}
 use Prim.Native.Nat.{_-_}
 use native.Mathlib.Omega.{arith}
 use Rattle.integers.specs.Reading.{passed}
-use Rattle.geometry.specs.Limits.{total}
+use Rattle.limits.specs.Limits.{total}
 use Rattle.geometry.specs.TableLaws.{centre-held}
 use Rattle.chart.specs.Fraction.{fractionOf}
 use Rattle.chart.proofs.centre_fraction.Statement.{statement}

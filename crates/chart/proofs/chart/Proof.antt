@@ -1,7 +1,7 @@
 -- The mark is that of the same figures with their types and X lent; it does not depend on their ending.
 use mathlib.Core.Path.{_∙_}
 use borrow.Author.Needs.{needs}
-use Rattle.geometry.specs.Limits.{total}
+use Rattle.limits.specs.Limits.{total}
 use Rattle.channel.specs.Channel.{channelTypes}
 use Rattle.chart.specs.MarkLaws.{chart-lent}
 use Rattle.chart.proofs.chart.Statement.{statement}

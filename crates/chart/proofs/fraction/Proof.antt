@@ -6,7 +6,7 @@ use lib.IntN.{ℤ, pos}
 use lib.Ieee.{binary64, inFloat, div, ofInt}
 use mir.Syntax.{w64}
 use mir.ValLaws.{toZ-ofZ}
-use Rattle.geometry.specs.Limits.{total}
+use Rattle.limits.specs.Limits.{total}
 use Rattle.chart.specs.FractionLaws.{in-float, quotient-fraction}
 use Rattle.chart.proofs.fraction.Statement.{statement}
 use Rattle.chart.proofs.fraction.Tie as tie

@@ -5,7 +5,7 @@ use native.Mathlib.Omega.{arith}
 use lib.IntN.{pos, natAbs}
 use mir.Syntax.{w64}
 use mir.ValLaws.{toZ-pos}
-use Rattle.geometry.specs.Limits.{total}
+use Rattle.limits.specs.Limits.{total}
 use Rattle.chart.specs.Fraction.{fractionOf}
 use Rattle.chart.specs.Mark.{markOf}
 use Rattle.chart.specs.MarkLaws.{disc-of}

@@ -4,7 +4,7 @@ use borrow.Author.Needs.{sfits-of}
 use Prim.Native.Nat.{_-_}
 use native.Mathlib.Omega.{arith}
 use mir.Syntax.{w64}
-use Rattle.geometry.specs.Limits.{total, centreLimit}
+use Rattle.limits.specs.Limits.{total, centreLimit}
 use Rattle.geometry.specs.TableLaws.{PlacesSoFar, places-none, places-next, places-fail, places-done}
 use Rattle.envelope.proofs.centre_within.Statement.{statement}
 use Rattle.envelope.proofs.centre_within.Tie as tie

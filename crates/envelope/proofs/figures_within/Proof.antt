@@ -8,7 +8,7 @@ use native.Mathlib.Omega.{arith}
 use lib.Dec.{leb}
 use denote.Ref.{now}
 use Rattle.integers.specs.Tests.{clash}
-use Rattle.geometry.specs.Limits.{total, centreLimit, budgetLimit}
+use Rattle.limits.specs.Limits.{total, centreLimit, budgetLimit}
 use Rattle.geometry.specs.TableLaws.{placesWithin-at, placesWithin-by}
 use Rattle.channel.specs.Channel.{channelTypes}
 use Rattle.envelope.specs.Figures.{figuresWithin, lentFigures}
@@ -29,7 +29,7 @@ last f h = go (leb (f .moves) budgetLimit) refl
 abbrev given : tie.Else5 → Figures
 given c =
     let args = c .before .before .before .before .before .before .before .args in
-    lentFigures (args .n) (now (args .types)) (now (args .centre)) (args .scaled-squared-radius) (args .scaled-lower-bound) (args .moves)
+    lentFigures (args .n) (now (args .codes)) (now (args .centre)) (args .scaled-squared-radius) (args .scaled-lower-bound) (args .moves)
 
 returns : tie.Need-returns
 returns c = figures-refused _ _ _ (λ w. omega (arith, w .some-channel))
@@ -43,11 +43,11 @@ returns-3 c = figures-refused _ _ _ (λ w. omega (arith, w .typed))
 returns-4 : tie.Need-returns-4
 returns-4 c = figures-refused _ _ _ (λ w. omega (arith, w .places))
 
-types-known-requires : tie.Need-types-known-requires
-types-known-requires c κs = search needs
+codes-known-requires : tie.Need-codes-known-requires
+codes-known-requires c κs = search needs
 
 returns-5 : tie.Need-returns-5
-returns-5 c = figures-refused _ _ _ (λ w. clash (w .codes) (sym (c .before .types-known .ensures) ∙ not-true _ (c .if5 .taken)))
+returns-5 c = figures-refused _ _ _ (λ w. clash (w .codes) (sym (c .before .codes-known .ensures) ∙ not-true _ (c .if5 .taken)))
 
 centre-within-requires : tie.Need-centre-within-requires
 centre-within-requires c κs = search needs
@@ -67,8 +67,8 @@ returns-8 c = figures-refused _ _ _ (λ w. omega (arith, w .floor-limit))
 returns-9 : tie.Need-returns-9
 returns-9 c =
     let with-centre = c .before .before in
-    let with-types = with-centre .before .before in
-    let f = given with-types in
+    let with-codes = with-centre .before .before in
+    let f = given with-codes in
     let centre = sym (with-centre .before .centre-within .ensures) ∙ not-false _ (with-centre .if6 .left) in
     last f (λ b.
     record {
@@ -76,7 +76,7 @@ returns-9 c =
       channels = omega arith;
       typed = omega arith;
       places = omega arith;
-      codes = sym (with-types .before .types-known .ensures) ∙ not-false _ (with-types .if5 .left);
+      codes = sym (with-codes .before .codes-known .ensures) ∙ not-false _ (with-codes .if5 .left);
       centre-limit = placesWithin-at (centreLimit total) (f .ball .«scaled_centre») (f .n) centre;
       radius-limit = omega arith;
       floor-limit = omega arith;
@@ -91,7 +91,7 @@ figures-within-spec =
     returns-2
     returns-3
     returns-4
-    types-known-requires
+    codes-known-requires
     returns-5
     centre-within-requires
     returns-6

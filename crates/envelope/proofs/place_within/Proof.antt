@@ -3,7 +3,7 @@
 use borrow.Author.Needs.{needs}
 use mir.Syntax.{w64}
 use Rattle.integers.specs.Absolute.{low-test, high-test}
-use Rattle.geometry.specs.Limits.{total, centreLimit}
+use Rattle.limits.specs.Limits.{total, centreLimit}
 use Rattle.envelope.proofs.place_within.Statement.{statement}
 use Rattle.envelope.proofs.place_within.Tie as tie
 

@@ -6,8 +6,8 @@ use borrow.Author.Needs.{needs}
 use borrow.Author.Tests.{le-leb, lt-leb}
 use lib.Dec.{lit<}
 use denote.Ref.{now}
-use Rattle.geometry.specs.Limits.{channelLimit}
-use Rattle.text.specs.declared.number.Plain.the-variants as written
+use Rattle.limits.specs.Limits.{channelLimit}
+use Rattle.number.specs.declared.Plain.the-variants as written
 use Rattle.heading.specs.Heading.{channelCount}
 use Rattle.heading.proofs.HeadingSteps.{counted, counted-read}
 use Rattle.heading.proofs.channel_count.Statement.{statement}

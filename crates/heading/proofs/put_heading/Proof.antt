@@ -10,13 +10,13 @@ use lib.Seq.{length-take-le}
 use mir.Syntax.{w64}
 use mir.Val.{toZ}
 use Rattle.integers.specs.Absolute.{fits64}
-use Rattle.geometry.specs.Limits.{channelLimit}
+use Rattle.limits.specs.Limits.{channelLimit}
 use Rattle.text.specs.Parts.{comma}
-use Rattle.text.specs.Put.{numbersAfter, Put}
-use Rattle.text.specs.PutLaws.{put-none, put-byte, put-then, put-as, take-next, numbers-short}
-use Rattle.text.specs.UnsignedLaws.{Below, below-none, below-more, below-signed, held-signed, held-below}
+use Rattle.printing.specs.Contracts.{numbersAfter, Put}
+use Rattle.printing.specs.ContractLaws.{put-none, put-byte, put-then, put-as, take-next, numbers-short}
+use Rattle.number.specs.UnsignedLaws.{Below, below-none, below-more, below-signed, held-signed, held-below}
 use Rattle.channel.specs.Channel.{channelTypes, tagOf}
-use Rattle.channel.specs.AnswersLaws.{house-short, type-short}
+use Rattle.channel.specs.ContractLaws.{house-short, type-short}
 use Rattle.heading.proofs.PrintSteps.{tagsAfter, tags-first, tags-more, heading-after}
 use Rattle.heading.proofs.put_heading.Statement.{statement}
 use Rattle.heading.proofs.put_heading.Tie as tie
@@ -91,7 +91,7 @@ loop-again : tie.Need-loop-again Inv-loop μ-loop
 loop-again c =
     let at-loop = c .before .before .before .before .before .before in
     let start = at-loop .before .before .before .before .before .before .before .before .before in
-    let more = tag-more (start .args .types .now) (at-loop .loop .i) (omega arith) (omega arith) (at-loop .loop .inv .2) (c .before .before .put-tag .ensures) in
+    let more = tag-more (start .args .codes .now) (at-loop .loop .i) (omega arith) (omega arith) (at-loop .loop .inv .2) (c .before .before .put-tag .ensures) in
     (omega arith, omega arith, more .1)
 
 same-length : tie.Need-same-length Inv-loop μ-loop
@@ -102,12 +102,12 @@ returns c =
     let at-loop = c .before in
     let start = at-loop .before .before .before .before .before .before .before .before .before in
     let all : at-loop .loop .i ≡ start .args .n = omega arith in
-    let codes = take (start .args .n) (start .args .types .now) in
+    let codes = take (start .args .n) (start .args .codes .now) in
     let n : start .args .n ≡ length codes = sym (length-take-le _ _ (omega arith)) in
     let word = start .args .word .now in
     let first = counted (start .args .n) (omega arith) word (at-loop .before .before .before .put-numbers .ensures) in
     put-as (put-then (first .1) (at-loop .loop .inv .2))
-    (ap₂ (λ k j. numbersAfter word (pos k ∷ []) ++ tagsAfter channelTypes (take j (start .args .types .now))) n all
+    (ap₂ (λ k j. numbersAfter word (pos k ∷ []) ++ tagsAfter channelTypes (take j (start .args .codes .now))) n all
     ∙ heading-after channelTypes word codes) refl
 
 pub put-heading-spec : {M : Type 1} → statement M

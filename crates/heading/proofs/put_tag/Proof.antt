@@ -5,10 +5,10 @@ use native.Mathlib.Omega.{arith}
 use borrow.Author.Needs.{needs}
 use lib.ListN.{length}
 use lib.Seq.{length-take-le}
-use Rattle.text.specs.PutLaws.{put-as}
+use Rattle.printing.specs.ContractLaws.{put-as}
 use Rattle.channel.specs.Channel.{channelTypes, tagOf}
-use Rattle.channel.specs.Answers.{tagLimit}
-use Rattle.channel.specs.AnswersLaws.{house-short, type-short, tag-within, tag-taken}
+use Rattle.limits.specs.Limits.{tagLimit}
+use Rattle.channel.specs.ContractLaws.{house-short, type-short, tag-within, tag-taken}
 use Rattle.heading.proofs.put_tag.Statement.{statement}
 use Rattle.heading.proofs.put_tag.Tie as tie
 

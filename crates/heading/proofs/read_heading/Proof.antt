@@ -7,11 +7,11 @@ use borrow.Author.Tests.{not-true, not-false}
 use lib.ListN.{take, drop}
 use lib.Seq.{length-take-le}
 use denote.Ref.{now}
-use Rattle.geometry.specs.Limits.{channelLimit}
+use Rattle.limits.specs.Limits.{channelLimit}
 use Rattle.text.specs.Parts.{comma, cut, partsFrom}
 use Rattle.text.specs.PartsLaws.{parts-none, parts-from, first-part-from}
 use Rattle.channel.specs.Channel.{channelTypes}
-use Rattle.heading.specs.Answers.{headingRead, tagsRead}
+use Rattle.heading.specs.Contracts.{headingRead, tagsRead}
 use Rattle.heading.proofs.HeadingSteps.{count-most, heading-other-word, heading-short, heading-no-count, heading-tags}
 use Rattle.heading.proofs.read_heading.Statement.{statement}
 use Rattle.heading.proofs.read_heading.Tie as tie

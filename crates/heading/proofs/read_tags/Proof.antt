@@ -59,8 +59,8 @@ returns-2 c =
     ∙ tags-unknown (at-loop .loop .inv) (parts-from comma _ _ _ (at-end .before .if1 .left) (at-end .field-end .ensures))
     (sym (at-find .find-tag .ensures) ∙ c .before .if2 .taken)
 
-array-write-types : tie.Need-array-write-types Inv-loop μ-loop
-array-write-types c = omega arith
+array-write-codes : tie.Need-array-write-codes Inv-loop μ-loop
+array-write-codes c = omega arith
 
 add-from : tie.Need-add-from Inv-loop μ-loop
 add-from c = omega arith
@@ -109,7 +109,7 @@ read-tags-spec =
     find-tag-requires
     no-heading-requires-2
     returns-2
-    array-write-types
+    array-write-codes
     add-from
     add-i
     loop-less

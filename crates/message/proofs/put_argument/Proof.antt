@@ -3,10 +3,10 @@ use mathlib.Core.Path.{refl, ap}
 use native.Mathlib.Omega.{arith}
 use lib.IntN.{pos, natAbs}
 use Rattle.integers.specs.Absolute.{back64}
-use Rattle.text.specs.Number.{print}
-use Rattle.text.specs.NumberLaws.{print-short}
-use Rattle.text.specs.Put.{Put}
-use Rattle.text.specs.PutLaws.{put-then, put-as}
+use Rattle.number.specs.Number.{print}
+use Rattle.number.specs.NumberLaws.{print-short}
+use Rattle.printing.specs.Contracts.{Put}
+use Rattle.printing.specs.ContractLaws.{put-then, put-as}
 use Rattle.message.specs.PutLaws.{put-within}
 use borrow.Author.Needs.{needs}
 use Rattle.message.proofs.put_argument.Statement.{statement}

@@ -1,6 +1,6 @@
 -- The program's part, then the name.
 use native.Mathlib.Omega.{arith}
-use Rattle.text.specs.PutLaws.{put-then}
+use Rattle.printing.specs.ContractLaws.{put-then}
 use Rattle.message.specs.PutLaws.{put-within}
 use borrow.Author.Needs.{needs}
 use Rattle.message.proofs.put_file.Statement.{statement}

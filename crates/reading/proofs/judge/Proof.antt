@@ -2,7 +2,7 @@
 use mathlib.Core.Path.{_∙_}
 use borrow.Author.Needs.{needs}
 use denote.Ref.{now}
-use Rattle.geometry.specs.Limits.{total}
+use Rattle.limits.specs.Limits.{total}
 use Rattle.channel.specs.Channel.{channelTypes}
 use Rattle.reading.specs.VerdictLaws.{judged-lent}
 use Rattle.reading.proofs.judge.Statement.{statement}

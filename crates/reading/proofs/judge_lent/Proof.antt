@@ -9,7 +9,7 @@ use borrow.Author.Tests.{not-true, not-false}
 use lib.ListN.{length, take}
 use lib.Seq.{length-take-le}
 use denote.Ref.{now}
-use Rattle.geometry.specs.Limits.{total}
+use Rattle.limits.specs.Limits.{total}
 use Rattle.text.specs.Parts.{textWithin}
 use Rattle.text.specs.PartsLaws.{text-within}
 use Rattle.channel.specs.Channel.{channelTypes}
@@ -26,7 +26,7 @@ use Rattle.reading.proofs.judge_lent.Tie as tie
 -- the figures that are lent
 abbrev figures : tie.Start → Figures
 figures c =
-    lentFigures (c .args .n) (now (c .args .types)) (now (c .args .centre)) (c .args .scaled-squared-radius) (c .args .scaled-lower-bound) (c .args .moves)
+    lentFigures (c .args .n) (now (c .args .codes)) (now (c .args .centre)) (c .args .scaled-squared-radius) (c .args .scaled-lower-bound) (c .args .moves)
 
 figures-within-requires : tie.Need-figures-within-requires
 figures-within-requires c κs = search needs

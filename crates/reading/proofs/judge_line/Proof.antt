@@ -6,7 +6,7 @@ use borrow.Author.Needs.{needs}
 use lib.ListN.{length, take}
 use lib.Seq.{length-take-le}
 use denote.Ref.{now}
-use Rattle.geometry.specs.Limits.{total}
+use Rattle.limits.specs.Limits.{total}
 use Rattle.geometry.specs.Places.{centreOf}
 use Rattle.channel.specs.Channel.{channelTypes}
 use Rattle.channel.specs.ChannelLaws.{house-sound}
@@ -23,7 +23,7 @@ use Rattle.reading.proofs.judge_line.Tie as tie
 
 -- the figures that the line is judged by
 abbrev figures : tie.Start → Figures
-figures c = lentFigures (c .args .n) (now (c .args .types)) (now (c .args .centre)) (c .args .scaled-squared-radius) 0 0
+figures c = lentFigures (c .args .n) (now (c .args .codes)) (now (c .args .centre)) (c .args .scaled-squared-radius) 0 0
 
 slice-aggregate-read-line : tie.Need-slice-aggregate-read-line
 slice-aggregate-read-line c = search needs
@@ -35,10 +35,10 @@ read-line-requires c κs =
 
 -- as many codes as channels
 count : (c : tie.After-read-line)
-    → let args = c .before .before .before .before .args in length (take (args .n) (now (args .types))) ≡ args .n
+    → let args = c .before .before .before .before .args in length (take (args .n) (now (args .codes))) ≡ args .n
 count c =
     let start = c .before .before .before .before in
-    length-take-le (start .args .n) (now (start .args .types)) (start .pre .typed)
+    length-take-le (start .args .n) (now (start .args .codes)) (start .pre .typed)
 
 -- the verdict, by what the line is told to be
 decided : (c : tie.After-read-line) (told : Line) → c .read-line .result ≡ told

@@ -10,14 +10,14 @@ use lib.Seq.{length-take-le}
 use denote.Ref.{now}
 use mir.Syntax.{w64}
 use mir.Val.{SFits}
-use Rattle.geometry.specs.Limits.{total, rowLimit, channelLimit}
+use Rattle.limits.specs.Limits.{total, rowLimit, channelLimit}
 use Rattle.text.specs.Parts.{same}
 use Rattle.record.proofs.ReadSteps.{sign-cast, codes-differ, radius-below, floor-below, Signs, disagreeing, agreeing}
 use Rattle.record.proofs.agreed.Statement.{statement}
 use Rattle.record.proofs.agreed.Tie as tie
 
 -- the places of the arrays, and the two signed numbers fit their type
-type-places : (c : tie.Start) → length (c .args .stated .types) ≡ channelLimit
+type-places : (c : tie.Start) → length (c .args .stated .codes) ≡ channelLimit
 type-places c = search needs
 
 weight-places : (c : tie.Start) → length (c .args .stated .weights) ≡ rowLimit
@@ -29,11 +29,11 @@ radius-fits c = search needs
 floor-fits : (c : tie.After-struct-told) → SFits w64 (c .before .before .before .before .before .before .before .args .stated .floor)
 floor-fits c = search needs
 
-array-share-prefix-types : tie.Need-array-share-prefix-types
-array-share-prefix-types c = omega (arith, type-places (c .before .before), c .before .before .pre .channels)
+array-share-prefix-codes : tie.Need-array-share-prefix-codes
+array-share-prefix-codes c = omega (arith, type-places (c .before .before), c .before .before .pre .channels)
 
 slice-aggregate-same-bytes : tie.Need-slice-aggregate-same-bytes
-slice-aggregate-same-bytes c = sym (length-take-le _ _ (array-share-prefix-types (c .before)))
+slice-aggregate-same-bytes c = sym (length-take-le _ _ (array-share-prefix-codes (c .before)))
 
 same-bytes-requires : tie.Need-same-bytes-requires
 same-bytes-requires c κs = search needs
@@ -51,7 +51,7 @@ returns c =
 
 -- past the first test n and the tags are those given
 same-codes : (c : tie.Else1) → let args = c .before .before .before .before .before .args in
-    same (now (args .codes)) (take (args .stated .n) (args .stated .types)) ≡ true
+    same (now (args .codes)) (take (args .stated .n) (args .stated .codes)) ≡ true
 same-codes c = sym (c .before .same-bytes .ensures) ∙ not-false _ (c .if1 .left)
 
 not-read-requires-2 : tie.Need-not-read-requires-2
@@ -129,7 +129,7 @@ pub agreed-spec : {M : Type 1} → statement M
 agreed-spec =
     tie.close
     (tie.spec
-    array-share-prefix-types
+    array-share-prefix-codes
     slice-aggregate-same-bytes
     same-bytes-requires
     not-read-requires

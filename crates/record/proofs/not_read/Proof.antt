@@ -1,9 +1,9 @@
 -- Every figure and weight is 0, and the outcome is the refusal with this number at this line.
 use mathlib.Core.Path.{ap}
 use borrow.Author.Needs.{needs}
-use Rattle.geometry.specs.Limits.{rowLimit}
+use Rattle.limits.specs.Limits.{rowLimit}
 use Rattle.lists.specs.Padded.{padded}
-use Rattle.record.specs.Answers.{notRead}
+use Rattle.record.specs.Contracts.{notRead}
 use Rattle.record.proofs.not_read.Statement.{statement}
 use Rattle.record.proofs.not_read.Tie as tie
 

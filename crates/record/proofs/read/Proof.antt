@@ -7,11 +7,11 @@ use borrow.Author.Tests.{not-true, not-false}
 use lib.ListN.{length, take}
 use lib.Seq.{length-take-le}
 use denote.Ref.{now}
-use Rattle.geometry.specs.Limits.{total, rowLimit}
+use Rattle.limits.specs.Limits.{total, rowLimit}
 use Rattle.text.specs.Parts.{textWithin}
 use Rattle.channel.specs.Channel.{channelTypes}
 use Rattle.channel.specs.ChannelLaws.{house-sound}
-use Rattle.record.specs.Answers.{givenWithin}
+use Rattle.record.specs.Contracts.{givenWithin}
 use Rattle.record.specs.HeldLaws.{holding-total}
 use Rattle.record.specs.ReadLaws.{given-within, read-limits, read-length, read-form}
 use Rattle.record.proofs.ReadSteps.{read-faulty, read-channels, read-sound}
@@ -29,12 +29,12 @@ returns c =
     let test = c .before .before in
     let args = test .before .before .before .args in
     c .not-read .ensures
-    ∙ sym (read-limits total rowLimit channelTypes (now (args .rows)) (args .m) (args .n) (now (args .types)) (now (args .text))
+    ∙ sym (read-limits total rowLimit channelTypes (now (args .rows)) (args .m) (args .n) (now (args .codes)) (now (args .text))
     (sym (test .given-within .ensures) ∙ not-true _ (c .before .if1 .taken)))
 
 -- past the first test the rows and codes are within their limits
 within : (c : tie.Else1) → let args = c .before .before .before .before .args in
-    givenWithin rowLimit channelTypes (now (args .rows)) (args .m) (args .n) (now (args .types)) ≡ true
+    givenWithin rowLimit channelTypes (now (args .rows)) (args .m) (args .n) (now (args .codes)) ≡ true
 within c = sym (c .before .given-within .ensures) ∙ not-false _ (c .if1 .left)
 
 text-within-requires : tie.Need-text-within-requires
@@ -48,7 +48,7 @@ returns-2 c =
     let test = c .before .before in
     let args = test .before .before .before .before .before .args in
     c .not-read2 .ensures
-    ∙ sym (read-length total rowLimit channelTypes (now (args .rows)) (args .m) (args .n) (now (args .types)) (now (args .text)) (within (test .before))
+    ∙ sym (read-length total rowLimit channelTypes (now (args .rows)) (args .m) (args .n) (now (args .codes)) (now (args .text)) (within (test .before))
     (sym (test .text-within .ensures) ∙ not-true _ (c .before .if2 .taken)))
 
 -- past the second test so is the text
@@ -68,16 +68,16 @@ returns-3 c =
     let args = past-given .before .before .before .before .args in
     c .not-read3 .ensures
     ∙ read-faulty channelTypes (now (args .text)) (at-form .read-form .result) (at-form .read-form .ensures) total (now (args .rows)) (args .m)
-    (take (args .n) (now (args .types))) (c .before .if3 .taken)
-    ∙ sym (read-form total rowLimit channelTypes (now (args .rows)) (args .m) (args .n) (now (args .types)) (now (args .text)) (within past-given)
+    (take (args .n) (now (args .codes))) (c .before .if3 .taken)
+    ∙ sym (read-form total rowLimit channelTypes (now (args .rows)) (args .m) (args .n) (now (args .codes)) (now (args .text)) (within past-given)
     (fitting (at-form .before)))
 
 -- there are n codes
-count : (c : tie.Else1) → let args = c .before .before .before .before .args in length (take (args .n) (now (args .types))) ≡ args .n
+count : (c : tie.Else1) → let args = c .before .before .before .before .args in length (take (args .n) (now (args .codes))) ≡ args .n
 count c =
     let args = c .before .before .before .before .args in
-    length-take-le (args .n) (now (args .types))
-    (given-within rowLimit channelTypes (now (args .rows)) (args .m) (args .n) (now (args .types)) (within c) .1)
+    length-take-le (args .n) (now (args .codes))
+    (given-within rowLimit channelTypes (now (args .rows)) (args .m) (args .n) (now (args .codes)) (within c) .1)
 
 slice-aggregate-agreed : tie.Need-slice-aggregate-agreed
 slice-aggregate-agreed c = sym (count (c .before .before .before .before .before .before))
@@ -88,7 +88,7 @@ agreed-requires c κs =
     let past-given = at-form .before .before .before in
     let args = past-given .before .before .before .before .args in
     record {
-      within = given-within rowLimit channelTypes (now (args .rows)) (args .m) (args .n) (now (args .types)) (within past-given) .0;
+      within = given-within rowLimit channelTypes (now (args .rows)) (args .m) (args .n) (now (args .codes)) (within past-given) .0;
       count = count past-given;
       channels = read-channels channelTypes (now (args .text)) (at-form .read-form .result) (at-form .read-form .ensures) house-sound;
     }
@@ -100,8 +100,8 @@ returns-4 c =
     let args = past-given .before .before .before .before .args in
     c .agreed .ensures
     ∙ read-sound channelTypes (now (args .text)) (at-form .read-form .result) (at-form .read-form .ensures) total (now (args .rows)) (args .m)
-    (take (args .n) (now (args .types))) house-sound holding-total (c .before .before .if3 .left)
-    ∙ sym (read-form total rowLimit channelTypes (now (args .rows)) (args .m) (args .n) (now (args .types)) (now (args .text)) (within past-given)
+    (take (args .n) (now (args .codes))) house-sound holding-total (c .before .before .if3 .left)
+    ∙ sym (read-form total rowLimit channelTypes (now (args .rows)) (args .m) (args .n) (now (args .codes)) (now (args .text)) (within past-given)
     (fitting (at-form .before)))
 
 pub read-spec : {M : Type 1} → statement M

@@ -10,21 +10,18 @@ use borrow.Author.Tests.{not-true, not-false}
 use lib.ListN.{length}
 use lib.Seq.{length-take-le}
 use denote.Ref.{now}
-use Rattle.lists.specs.Filled.{filled}
+use Rattle.lent.specs.Filled.{filled}
 use Rattle.refusal.specs.Outcome.{numberOf}
-use Rattle.geometry.specs.Limits.{total, rowLimit, rowsWithin}
+use Rattle.geometry.specs.Table.{rowsWithin}
+use Rattle.limits.specs.Limits.{total, rowLimit}
 use Rattle.channel.specs.Channel.{channelTypes}
 use Rattle.envelope.specs.Figures.{figuresWithin}
 use Rattle.envelope.specs.Agreement.{agrees}
 use Rattle.record_print.specs.Printed.{recordText}
-use Rattle.record.specs.Answers.{textWritten}
+use Rattle.lent.specs.Contracts.{textWritten}
 use Rattle.record.specs.WriteLaws.{within-printing, outside-figures, outside-rows, refused-writing, writing-agreed}
-use Rattle.record.proofs.WriteSteps.{
-  lent-within,
-  printed-text,
-  printed-fits,
-  buffer-left,
-}
+use Rattle.record.proofs.WriteSteps.{lent-within, printed-text, printed-fits}
+use Rattle.lent.proofs.ContractLaws.{buffer-left}
 use Rattle.record.proofs.write.Statement.{statement}
 use Rattle.record.proofs.write.Tie as tie
 

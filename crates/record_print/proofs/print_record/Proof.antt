@@ -3,9 +3,9 @@ use Prim.Native.Nat.{_≤_}
 use mathlib.Core.Path.{_∙_}
 use native.Mathlib.Omega.{arith}
 use borrow.Author.Needs.{needs}
-use Rattle.text.specs.Put.{Put}
+use Rattle.printing.specs.Contracts.{Put}
 use Rattle.channel.specs.Channel.{channelTypes}
-use Rattle.channel.specs.AnswersLaws.{house-short}
+use Rattle.channel.specs.ContractLaws.{house-short}
 use Rattle.heading.specs.Heading.{printHeading}
 use Rattle.envelope.specs.Figures.{channelCodes}
 use Rattle.record_form.specs.Lines.{recordWord, printCentre, printResult}

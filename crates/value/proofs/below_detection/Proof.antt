@@ -13,11 +13,11 @@ use mir.Val.{toZ}
 use mir.Facts.{toZ-pos}
 use Rattle.integers.specs.Absolute.{back32}
 use Rattle.integers.specs.Reading.{back}
-use Rattle.text.specs.declared.number.Plain.{Plain}
-use Rattle.text.specs.declared.number.Plain.the-variants.{Number}
+use Rattle.number.specs.declared.Plain.{Plain}
+use Rattle.number.specs.declared.Plain.the-variants.{Number}
 use Rattle.channel.specs.declared.Range.{Range}
-use Rattle.value.specs.Ranged.{RangeWithin, belowUnder}
-use Rattle.value.specs.RangedLaws.{underRange, below-low, above-high, far-away, in-range}
+use Rattle.value.specs.Contracts.{RangeWithin, belowUnder}
+use Rattle.value.specs.ContractLaws.{underRange, below-low, above-high, far-away, in-range}
 use Rattle.value.specs.declared.Value.the-variants.{OutOfRange, Reads}
 use Rattle.value.proofs.below_detection.Statement.{statement}
 use Rattle.value.proofs.below_detection.Tie as tie

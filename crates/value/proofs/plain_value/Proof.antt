@@ -14,8 +14,8 @@ use mir.Facts.{toZ-ofZ, toZ-pos}
 use Rattle.integers.specs.Absolute.{abs-neg, fits32, back32}
 use Rattle.integers.specs.Reading.{back}
 use Rattle.channel.specs.declared.Range.{Range}
-use Rattle.value.specs.Ranged.{signed, plainUnder}
-use Rattle.value.specs.RangedLaws.{underRange, below-low, above-high, far-away, in-range, signed-abs}
+use Rattle.value.specs.Contracts.{signed, plainUnder}
+use Rattle.value.specs.ContractLaws.{underRange, below-low, above-high, far-away, in-range, signed-abs}
 use Rattle.value.specs.declared.Value.the-variants.{Reads}
 use Rattle.value.proofs.plain_value.Statement.{statement}
 use Rattle.value.proofs.plain_value.Tie as tie

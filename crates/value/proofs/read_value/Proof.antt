@@ -10,15 +10,15 @@ use native.Mathlib.Omega.{arith}
 use borrow.Author.Tests.{eq-eqb, ne-eqb}
 use lib.ListN.{length, getD, take, drop, length-drop}
 use lib.Seq.{take-all}
-use Rattle.text.specs.Number.{plain}
-use Rattle.text.specs.Saturated.{plainRead}
+use Rattle.number.specs.Number.{plain}
+use Rattle.number.specs.Contracts.{plainRead}
 use Rattle.channel.specs.Channel.{channelTypes, typeOf}
 use Rattle.channel.specs.ChannelLaws.{house-sound, range-within}
-use Rattle.channel.specs.Answers.{rangeOf}
+use Rattle.channel.specs.Contracts.{rangeOf}
 use Rattle.channel.specs.declared.Range.{Range}
 use Rattle.value.specs.Value.{number, below, lessThan, valueOf, valueUnder, valueRead}
-use Rattle.value.specs.Ranged.{RangeWithin, plainUnder, belowUnder}
-use Rattle.value.specs.RangedLaws.{plain-read, below-read}
+use Rattle.value.specs.Contracts.{RangeWithin, plainUnder, belowUnder}
+use Rattle.value.specs.ContractLaws.{plain-read, below-read}
 use Rattle.value.specs.declared.Value.the-variants.{Malformed}
 use Rattle.value.proofs.read_value.Statement.{statement}
 use Rattle.value.proofs.read_value.Tie as tie

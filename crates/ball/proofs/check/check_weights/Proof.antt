@@ -3,7 +3,7 @@
 use mathlib.Core.Path.{sym, _∙_, ap}
 use native.Mathlib.Omega.{arith}
 use borrow.Author.Needs.{needs}
-use Rattle.geometry.specs.Asked.{WeightsOf}
+use Rattle.geometry.specs.Contracts.{WeightsOf}
 use Rattle.ball.specs.Check.{notChecked}
 use Rattle.ball.specs.DrawLaws.{checking-places, checking-sum}
 use Rattle.geometry.specs.TableLaws.{within-table}

@@ -3,7 +3,8 @@ use mathlib.Core.Path.{_≡_, sym, _∙_, ap}
 use mathlib.Core.Bool.{true}
 use borrow.Author.Needs.{needs}
 use borrow.Author.Tests.{not-true, not-false}
-use Rattle.geometry.specs.Limits.{rowLimit, rowsWithin}
+use Rattle.geometry.specs.Table.{rowsWithin}
+use Rattle.limits.specs.Limits.{rowLimit}
 use Rattle.ball.specs.Draw.{notDrawn}
 use Rattle.ball.specs.Demand.{draw-promise}
 use Rattle.ball.specs.DrawLaws.{drawing-limits, drawing-budget, drawing-drawn}

@@ -13,7 +13,7 @@ use mir.ValLaws.{toZ-pos}
 use Rattle.integers.specs.Tests.{clash}
 use Rattle.integers.specs.Absolute.{abs-neg, abs-nonneg, fits32, back32, back64}
 use Rattle.integers.specs.Reading.{Bounded, back, number-cast, sign-read, opposite-fits, opposite-read, natural-read}
-use Rattle.geometry.specs.Limits.{total, coordinateLimit}
+use Rattle.limits.specs.Limits.{total, coordinateLimit}
 use Rattle.chart.specs.Panel.{nearestMagnitude, nearestStep}
 use Rattle.chart.proofs.panel.nearest_step.Statement.{statement}
 use Rattle.chart.proofs.panel.nearest_step.Tie as tie

@@ -5,7 +5,7 @@ use borrow.Author.Needs.{needs}
 use borrow.Author.Tests.{not-true, not-false}
 use denote.Ref.{now}
 use Rattle.refusal.specs.declared.Outcome.the-variants.{Accepted}
-use Rattle.geometry.specs.Limits.{total}
+use Rattle.limits.specs.Limits.{total}
 use Rattle.channel.specs.Channel.{channelTypes}
 use Rattle.envelope.specs.Figures.{figuresWithin, lentFigures}
 use Rattle.envelope.specs.FigureLaws.{within-figures, within-centre}
@@ -17,7 +17,7 @@ use Rattle.chart.proofs.panel.panel_lent.Tie as tie
 -- the figures that are lent
 abbrev figures : tie.Start → Figures
 figures c =
-    lentFigures (c .args .n) (now (c .args .types)) (now (c .args .centre)) (c .args .scaled-squared-radius) (c .args .scaled-lower-bound) (c .args .moves)
+    lentFigures (c .args .n) (now (c .args .codes)) (now (c .args .centre)) (c .args .scaled-squared-radius) (c .args .scaled-lower-bound) (c .args .moves)
 
 figures-within-requires : tie.Need-figures-within-requires
 figures-within-requires c κs = search needs

@@ -3,7 +3,7 @@ use mathlib.Core.Path.{ap}
 use lib.IntN.{pos}
 use lib.ListN.{replicate}
 use borrow.Author.Needs.{needs}
-use Rattle.geometry.specs.Limits.{channelLimit}
+use Rattle.limits.specs.Limits.{channelLimit}
 use Rattle.chart.proofs.panel.refused_panel.Statement.{statement}
 use Rattle.chart.proofs.panel.refused_panel.Tie as tie
 

@@ -8,7 +8,7 @@ use native.Mathlib.Omega.{arith}
 use lib.IntN.{ℤ}
 use mir.Syntax.{w32}
 use Rattle.integers.specs.Reading.{passed}
-use Rattle.geometry.specs.Limits.{total}
+use Rattle.limits.specs.Limits.{total}
 use Rattle.geometry.specs.Places.{tabulate, centreOf, centreList}
 use Rattle.geometry.specs.PlacesLaws.{centreList-stored}
 use Rattle.geometry.specs.TableLaws.{centre-held}

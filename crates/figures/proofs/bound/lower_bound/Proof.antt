@@ -9,10 +9,11 @@ use lib.IntN.{ℤ}
 use Rattle.geometry.specs.Figures.{squaredLength, scaledCentre, weightedSquaredLength, scaledLowerBound}
 use Rattle.geometry.specs.FigureLaws.{squaredLength-cong, centre-within, centre-length-most}
 use Rattle.geometry.specs.Move.{weightOf}
-use Rattle.geometry.specs.Limits.{total, coordinate}
+use Rattle.geometry.specs.Table.{coordinate}
+use Rattle.limits.specs.Limits.{total}
 use Rattle.geometry.specs.Places.{centreList, centreOf, weightsTotal}
 use Rattle.geometry.specs.PlacesLaws.{centreList-at}
-use Rattle.geometry.specs.Asked.{Table, WeightsOf}
+use Rattle.geometry.specs.Contracts.{Table, WeightsOf}
 use Rattle.figures.proofs.bound.lower_bound.Statement.{statement}
 use Rattle.figures.proofs.bound.lower_bound.Tie as tie
 

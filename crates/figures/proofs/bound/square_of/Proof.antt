@@ -2,7 +2,7 @@
 -- back as it is.
 use mir.Syntax.{w32, w64}
 use Rattle.integers.specs.Reading.{back, Reads, held, kept, fits, product, square-cast, square-is}
-use Rattle.geometry.specs.Limits.{coordinateLimit}
+use Rattle.limits.specs.Limits.{coordinateLimit}
 use Rattle.figures.proofs.bound.square_of.Statement.{statement}
 use Rattle.figures.proofs.bound.square_of.Tie as tie
 

@@ -2,7 +2,7 @@
 -- i64 and is read back as it is.
 use mir.Syntax.{w64}
 use Rattle.integers.specs.Reading.{back, Reads, held, fits, product, square-cast, square-is}
-use Rattle.geometry.specs.Limits.{centreLimit, total}
+use Rattle.limits.specs.Limits.{centreLimit, total}
 use Rattle.figures.proofs.bound.square_of_centre.Statement.{statement}
 use Rattle.figures.proofs.bound.square_of_centre.Tie as tie
 

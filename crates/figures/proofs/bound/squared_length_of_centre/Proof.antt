@@ -8,7 +8,7 @@ use Rattle.geometry.specs.Places.{centreOf}
 use Rattle.integers.specs.Partial.{Partial, partial-none, partial-more, partial-all}
 use Rattle.geometry.specs.TableLaws.{centre-held}
 use Rattle.integers.specs.Reading.{passed, given}
-use Rattle.geometry.specs.Limits.{centreLimit, total}
+use Rattle.limits.specs.Limits.{centreLimit, total}
 use Rattle.figures.proofs.bound.squared_length_of_centre.Statement.{statement}
 use Rattle.figures.proofs.bound.squared_length_of_centre.Tie as tie
 

@@ -8,9 +8,10 @@ use native.Mathlib.Omega.{arith}
 use Rattle.integers.specs.Sum.{sumℕ}
 use Rattle.geometry.specs.Figures.{squaredLength, weightedSquaredLength}
 use Rattle.geometry.specs.Move.{weightOf}
-use Rattle.geometry.specs.Limits.{total, coordinate, lengthLimit}
+use Rattle.geometry.specs.Table.{coordinate}
+use Rattle.limits.specs.Limits.{total, lengthLimit}
 use Rattle.integers.specs.Reading.{Bounded}
-use Rattle.geometry.specs.Asked.{WeightsOf}
+use Rattle.geometry.specs.Contracts.{WeightsOf}
 use Rattle.geometry.specs.TableLaws.{table-row, weights-passed, weights-next}
 use Rattle.integers.specs.Partial.{Partial, partial-none, partial-more, partial-all}
 use Rattle.integers.specs.SumLaws.{sumℕ-next}

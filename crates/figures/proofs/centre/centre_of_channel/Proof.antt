@@ -14,10 +14,11 @@ use mir.Val.{toZ}
 use Rattle.integers.specs.Sum.{sumℤ, sumℕ}
 use Rattle.geometry.specs.Figures.{scaledCentre}
 use Rattle.geometry.specs.Move.{weightOf}
-use Rattle.geometry.specs.Limits.{coordinate, coordinateLimit}
-use Rattle.geometry.specs.Asked.{Table, WeightsOf}
+use Rattle.geometry.specs.Table.{coordinate}
+use Rattle.limits.specs.Limits.{coordinateLimit}
+use Rattle.geometry.specs.Contracts.{Table, WeightsOf}
 use Rattle.geometry.specs.TableLaws.{table-row, weight-most, row-held, weights-next}
-use Rattle.figures.specs.Given.{Weighted}
+use Rattle.figures.specs.Contracts.{Weighted}
 use Rattle.integers.specs.Reading.{back, Reads, kept, fits, addition, passed}
 use Rattle.integers.specs.SumLaws.{sumℤ-next, sumℕ-next}
 use Rattle.figures.proofs.centre.centre_of_channel.Statement.{statement}

@@ -8,7 +8,7 @@ use mir.Syntax.{w64}
 use Rattle.geometry.specs.Figures.{scaledCentre}
 use Rattle.geometry.specs.FigureLaws.{centre-at-most}
 use Rattle.geometry.specs.Move.{weightOf}
-use Rattle.geometry.specs.Limits.{coordinate}
+use Rattle.geometry.specs.Table.{coordinate}
 use Rattle.geometry.specs.Places.{tabulate, centreList}
 use Rattle.geometry.specs.PlacesLaws.{centreList-stored}
 use Rattle.figures.proofs.centre.scaled_centre.Statement.{statement}

@@ -8,7 +8,7 @@ use native.Mathlib.Omega.{arith}
 use lib.IntN.{pos, natAbs, _*ℤ_}
 use mir.Syntax.{w32, w64}
 use Rattle.integers.specs.Reading.{back, Reads, held, number, kept, fits, product}
-use Rattle.geometry.specs.Limits.{coordinateLimit}
+use Rattle.limits.specs.Limits.{coordinateLimit}
 use Rattle.figures.proofs.centre.weighted.Statement.{statement}
 use Rattle.figures.proofs.centre.weighted.Tie as tie
 

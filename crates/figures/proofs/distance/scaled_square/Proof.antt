@@ -5,7 +5,7 @@ use native.Mathlib.Nat.{le-refl}
 use lib.IntN.{pos, _-ℤ_, _*ℤ_}
 use mir.Syntax.{w32, w64}
 use Prim.Native.Nat.{_*_}
-use Rattle.geometry.specs.Limits.{total, centreLimit}
+use Rattle.limits.specs.Limits.{total, centreLimit}
 use Rattle.integers.specs.Reading.{back, Reads, held, number, kept, fits, difference, product, square-cast, square-is}
 use Rattle.figures.proofs.distance.scaled_square.Statement.{statement}
 use Rattle.figures.proofs.distance.scaled_square.Tie as tie

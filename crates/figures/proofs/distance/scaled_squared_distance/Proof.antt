@@ -5,7 +5,8 @@ use native.Mathlib.Omega.{arith}
 use lib.IntN.{pos, _-ℤ_, _*ℤ_}
 use Rattle.integers.specs.Sum.{square}
 use Rattle.geometry.specs.Figures.{squaredLength, scaledSquaredDistance}
-use Rattle.geometry.specs.Limits.{total, coordinate, centreLimit}
+use Rattle.geometry.specs.Table.{coordinate}
+use Rattle.limits.specs.Limits.{total, centreLimit}
 use Rattle.geometry.specs.Places.{centreOf}
 use Rattle.integers.specs.Partial.{Partial, partial-none, partial-more, partial-all}
 use Rattle.geometry.specs.TableLaws.{row-held, centre-held}

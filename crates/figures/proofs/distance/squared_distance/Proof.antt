@@ -5,7 +5,8 @@ use native.Mathlib.Omega.{arith}
 use lib.IntN.{_-ℤ_}
 use Rattle.integers.specs.Sum.{square}
 use Rattle.geometry.specs.Figures.{squaredLength, squaredDistance}
-use Rattle.geometry.specs.Limits.{coordinate, coordinateLimit}
+use Rattle.geometry.specs.Table.{coordinate}
+use Rattle.limits.specs.Limits.{coordinateLimit}
 use Rattle.integers.specs.Partial.{Partial, partial-none, partial-more, partial-all}
 use Rattle.geometry.specs.TableLaws.{row-held}
 use Rattle.integers.specs.Reading.{passed, given₂}

@@ -1,7 +1,7 @@
 -- The test decides which bytes are printed.
 use mathlib.Core.Path.{refl, sym, _∙_}
 use native.Mathlib.Omega.{arith}
-use Rattle.text.specs.PutLaws.{put-as}
+use Rattle.printing.specs.ContractLaws.{put-as}
 use Rattle.message.specs.NameLaws.{byte-shown, byte-hidden}
 use Rattle.message.specs.PutLaws.{put-within}
 use borrow.Author.Needs.{needs}

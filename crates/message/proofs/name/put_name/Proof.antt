@@ -1,7 +1,7 @@
 -- The dots are printed where the name has more bytes than are told.
 use mathlib.Core.Path.{refl}
 use native.Mathlib.Omega.{arith}
-use Rattle.text.specs.PutLaws.{put-then, put-as}
+use Rattle.printing.specs.ContractLaws.{put-then, put-as}
 use Rattle.message.specs.NameLaws.{name-whole, name-cut}
 use Rattle.message.specs.PutLaws.{put-within}
 use borrow.Author.Needs.{needs}

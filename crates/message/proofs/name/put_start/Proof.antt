@@ -4,8 +4,8 @@ use mathlib.Core.Path.{_≡_, refl, sym, ap, _∙_}
 use mathlib.Core.List.{List, _++_}
 use native.Mathlib.Omega.{arith}
 use lib.ListN.{length, getD, take}
-use Rattle.text.specs.Put.{Put}
-use Rattle.text.specs.PutLaws.{put-none, put-then, put-as, take-next}
+use Rattle.printing.specs.Contracts.{Put}
+use Rattle.printing.specs.ContractLaws.{put-none, put-then, put-as, take-next}
 use Rattle.message.specs.Name.{nameLimit, escapedByte, escaped, byteRoom}
 use Rattle.message.specs.NameLaws.{escaped-none, escaped-more, start-taken}
 use Rattle.message.specs.PutLaws.{put-within}

@@ -8,7 +8,7 @@ use lib.Dec.{ltb}
 use Rattle.geometry.specs.Select.{farthest}
 use Rattle.geometry.specs.SelectLaws.{farthest-one}
 use Rattle.geometry.specs.TableLaws.{table-row}
-use Rattle.moves.specs.Given.{score}
+use Rattle.moves.specs.Contracts.{score}
 use Rattle.moves.proofs.Laws.{Pass, pass-new, pass-old, pass-end, far-new, far-old}
 use Rattle.moves.proofs.select.farthest_row.Statement.{statement}
 use Rattle.moves.proofs.select.farthest_row.Tie as tie

@@ -8,7 +8,8 @@ use native.Mathlib.Omega.{arith}
 use borrow.Author.Needs.{needs}
 use lib.ListN.{length, getD, set}
 use lib.Seq.{getD-set-same, getD-set-other}
-use Rattle.geometry.specs.Limits.{total, coordinate}
+use Rattle.geometry.specs.Table.{coordinate}
+use Rattle.limits.specs.Limits.{total}
 use Rattle.geometry.specs.Move.{weightOf, nearRow, moveWeight, moved}
 use Rattle.geometry.specs.TableLaws.{weight-most}
 use Rattle.geometry.specs.MoveLaws.{transfer-most}

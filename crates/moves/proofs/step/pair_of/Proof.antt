@@ -10,14 +10,15 @@ use lib.IntN.{ℤ}
 use Rattle.geometry.specs.Figures.{scaledCentre, squaredDistance, scaledSquaredDistance}
 use Rattle.geometry.specs.Select.{farthest, nearest}
 use Rattle.geometry.specs.Move.{scaledSquaredDistanceOf, farRow, nearRow, difference, separation, weightOf}
-use Rattle.geometry.specs.Limits.{separationLimit, total, coordinate}
+use Rattle.geometry.specs.Table.{coordinate}
+use Rattle.limits.specs.Limits.{separationLimit, total}
 use Rattle.geometry.specs.Places.{centreList, centreOf}
 use Rattle.integers.specs.Reading.{Bounded}
-use Rattle.geometry.specs.Asked.{CentreWithin, Table, WeightsOf}
+use Rattle.geometry.specs.Contracts.{CentreWithin, Table, WeightsOf}
 use Rattle.geometry.specs.FigureLaws.{centre-within, distance-centreList}
 use Rattle.geometry.specs.SelectLaws.{farthest-cong, farthest-mostℕ, nearest-cong}
 use Rattle.geometry.specs.TableLaws.{table-row}
-use Rattle.moves.specs.Given.{Found, Paired, score}
+use Rattle.moves.specs.Contracts.{Found, Paired, score}
 use Rattle.moves.specs.declared.Selected.{Selected}
 use Rattle.moves.proofs.step.pair_of.Statement.{statement}
 use Rattle.moves.proofs.step.pair_of.Tie as tie

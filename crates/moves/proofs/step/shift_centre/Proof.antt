@@ -8,9 +8,9 @@ use lib.ListN.{set}
 use mir.Syntax.{w64}
 use mir.Facts.{toZ-ofZ}
 use lib.IntN.{ℤ, pos, _+ℤ_, _-ℤ_, _*ℤ_}
-use Rattle.geometry.specs.Limits.{coordinate}
+use Rattle.geometry.specs.Table.{coordinate}
 use Rattle.geometry.specs.Places.{tabulate, centreList, centreOf}
-use Rattle.moves.specs.Given.{shiftCentre}
+use Rattle.moves.specs.Contracts.{shiftCentre}
 use Rattle.integers.specs.Reading.{passed}
 use Rattle.geometry.specs.TableLaws.{row-held, centre-held}
 use Rattle.geometry.specs.PlacesLaws.{centreList-more}

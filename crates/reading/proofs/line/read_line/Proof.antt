@@ -33,8 +33,8 @@ returns c =
     let at-label = c .before in
     let at-end = at-label .before .before in
     let args = at-end .before .before .before .args in
-    line-malformed channelTypes (take (args .n) (now (args .types))) (now (args .line))
-    (fields-no-label channelTypes (take (args .n) (now (args .types))) (now (args .line)) _ (first-part-from comma _ _ (at-end .field-end .ensures))
+    line-malformed channelTypes (take (args .n) (now (args .codes))) (now (args .line))
+    (fields-no-label channelTypes (take (args .n) (now (args .codes))) (now (args .line)) _ (first-part-from comma _ _ (at-end .field-end .ensures))
     (sym (at-label .is-label .ensures) ∙ not-true _ (c .if1 .taken)))
 
 add-read-pairs : tie.Need-add-read-pairs
@@ -46,14 +46,14 @@ read-pairs-requires c κs = search needs
 -- what the fields say, by what the pairs are told to be
 fields : (c : tie.After-read-pairs) (told : Line) → c .read-pairs .result ≡ told
     → let args = c .before .before .before .before .before .before .before .before .args in
-    FieldsRead channelTypes (take (args .n) (now (args .types))) (now (args .line)) (now (args .places)) (c .read-pairs .last .1 .1 .1 .1 .0) told
+    FieldsRead channelTypes (take (args .n) (now (args .codes))) (now (args .line)) (now (args .places)) (c .read-pairs .last .1 .1 .1 .1 .0) told
 fields c told is =
     let past-label = c .before .before in
     let at-label = past-label .before in
     let at-end = at-label .before .before in
     let args = at-end .before .before .before .args in
     rw is at (
-    fields-pairs channelTypes (take (args .n) (now (args .types))) (now (args .line)) _ (first-part-from comma _ _ (at-end .field-end .ensures))
+    fields-pairs channelTypes (take (args .n) (now (args .codes))) (now (args .line)) _ (first-part-from comma _ _ (at-end .field-end .ensures))
     (sym (at-label .is-label .ensures) ∙ not-false _ (past-label .if1 .left)) (c .read-pairs .ensures)
     )
 

@@ -18,8 +18,7 @@ use Rattle.text.specs.Parts.{comma, partsFrom}
 use Rattle.text.specs.PartsLaws.{parts-none, parts-some, last-part}
 use Rattle.channel.specs.Channel.{channelTypes}
 use Rattle.value.proofs.ValuesSteps.{read-malformed, read-told, values-outside, values-within}
-use Rattle.reading.proofs.LineSteps.{two-fields, PairsSoFar, pairs-none, pairs-next, value-here}
-use Rattle.reading.proofs.LineSteps.{pairs-malformed, pairs-few, pairs-many, pairs-done}
+use Rattle.reading.proofs.LineSteps.{two-fields, PairsSoFar, pairs-none, pairs-next, value-here, pairs-malformed, pairs-few, pairs-many, pairs-done}
 use Rattle.reading.proofs.line.read_pairs.Statement.{statement}
 use Rattle.reading.proofs.line.read_pairs.Tie as tie
 
@@ -33,12 +32,12 @@ abbrev μ-loop : tie.MeasureT-loop
 loop-holds : tie.Need-loop-holds Inv-loop μ-loop
 loop-holds c =
     let args = c .before .before .args in
-    pairs-none channelTypes (take (args .n) (now (args .types))) (partsFrom comma (now (args .line)) (args .at)) (now (args .places))
+    pairs-none channelTypes (take (args .n) (now (args .codes))) (partsFrom comma (now (args .line)) (args .at)) (now (args .places))
 
 -- one code for each of the n channels
 codes : (c : tie.At-loop Inv-loop μ-loop)
-    → let args = c .before .before .before .args in length (take (args .n) (now (args .types))) ≡ args .n
-codes c = let args = c .before .before .before .args in length-take-le (args .n) (now (args .types)) (c .before .before .before .pre .0)
+    → let args = c .before .before .before .args in length (take (args .n) (now (args .codes))) ≡ args .n
+codes c = let args = c .before .before .before .args in length-take-le (args .n) (now (args .codes)) (c .before .before .before .pre .0)
 
 same-length : tie.Need-same-length Inv-loop μ-loop
 same-length c = c .before .before .loop .inv .values .same-length
@@ -142,10 +141,10 @@ loop-again c =
     let at-loop = at-tag-end .before .before .before in
     let args = at-loop .before .before .before .args in
     let turn = at-tag-end .before .before .loop-test .taken in
-    let within : at-loop .loop .i < length (take (args .n) (now (args .types))) = omega (arith, codes at-loop) in
+    let within : at-loop .loop .i < length (take (args .n) (now (args .codes))) = omega (arith, codes at-loop) in
     let fields =
     two-fields _ _ (at-tag-end .before .if1 .left) (at-tag-end .field-end .ensures) (at-more .if2 .left) (at-value-end .field-end2 .ensures) in
-    let code = getD-take (args .n) (now (args .types)) (at-loop .loop .i) 0 turn in
+    let code = getD-take (args .n) (now (args .codes)) (at-loop .loop .i) 0 turn in
     pairs-next (at-loop .loop .inv) within fields code (ap (λ b. b && at-loop .loop .tags-agree) (at-tag .is-tag .ensures))
     (⊎-elim
     (λ w.

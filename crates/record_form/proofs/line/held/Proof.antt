@@ -8,7 +8,7 @@ use lib.IntN.{pos, _-ℤ_, +ℤ-idl}
 use mir.Syntax.{w64}
 use mir.Val.{SFits, toZ}
 use mir.Facts.{toZ-ofZ, toZ-pos}
-use Rattle.record_form.specs.Answers.{heldLimit, heldSigned}
+use Rattle.record_form.specs.Contracts.{heldLimit, heldSigned}
 use Rattle.record_form.proofs.LineSteps.{signed-fits}
 use Rattle.record_form.proofs.line.held.Statement.{statement}
 use Rattle.record_form.proofs.line.held.Tie as tie

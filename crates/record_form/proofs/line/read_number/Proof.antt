@@ -8,9 +8,9 @@ use Rattle.integers.specs.Reading.{back}
 use mir.Syntax.{w64}
 use mir.Facts.{toZ-ofZ}
 use denote.Ref.{now}
-use Rattle.text.specs.Saturated.{magnitudeLimit}
+use Rattle.number.specs.Contracts.{magnitudeLimit}
 use Rattle.record_form.specs.Lines.{recordNumber}
-use Rattle.record_form.specs.Answers.{heldSigned, numberRead}
+use Rattle.record_form.specs.Contracts.{heldSigned, numberRead}
 use Rattle.record_form.specs.declared.line.Number.the-variants.{Malformed, Held}
 use Rattle.record_form.proofs.LineSteps.{numberOf, number-read, signed-fits}
 use Rattle.record_form.proofs.line.read_number.Statement.{statement}

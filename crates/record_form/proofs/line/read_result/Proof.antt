@@ -17,7 +17,7 @@ use mir.Syntax.{w32, w64}
 use Rattle.integers.specs.Reading.{back, number-cast}
 use Rattle.text.specs.Parts.{same}
 use Rattle.record_form.specs.Lines.{settledLetter, budgetLetter, resultLine}
-use Rattle.record_form.specs.Answers.{resultRead}
+use Rattle.record_form.specs.Contracts.{resultRead}
 use Rattle.record_form.proofs.ResultSteps.{ending-settled, ending-budget, ResultHeld, result-no-numbers, result-short, result-below, result-above, result-no-letter, result-held, result-read}
 use Rattle.record_form.proofs.line.read_result.Statement.{statement}
 use Rattle.record_form.proofs.line.read_result.Tie as tie

@@ -14,9 +14,9 @@ use mir.Syntax.{w32, w64}
 use mir.Val.{toZ}
 use mir.Facts.{toZ-pos}
 use Rattle.integers.specs.Reading.{back, number-cast}
-use Rattle.geometry.specs.Limits.{rowLimit}
+use Rattle.limits.specs.Limits.{rowLimit}
 use Rattle.record_form.specs.Lines.{weightLine}
-use Rattle.record_form.specs.Answers.{heldWeight, weightRead}
+use Rattle.record_form.specs.Contracts.{heldWeight, weightRead}
 use Rattle.record_form.proofs.WeightSteps.{WeightHeld, WeightNumbers, weight-numbers, weight-no-end, weight-early, weight-late, weight-empty, weight-held, weight-most, weight-small}
 use Rattle.record_form.proofs.line.read_weight.Statement.{statement}
 use Rattle.record_form.proofs.line.read_weight.Tie as tie

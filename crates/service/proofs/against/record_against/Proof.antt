@@ -4,7 +4,7 @@ use native.Mathlib.Omega.{arith}
 use borrow.Author.Needs.{needs}
 use lib.Seq.{length-take-le}
 use denote.Ref.{now}
-use Rattle.geometry.specs.Limits.{total, rowLimit}
+use Rattle.limits.specs.Limits.{total, rowLimit}
 use Rattle.channel.specs.Channel.{channelTypes}
 use Rattle.service.specs.ProgramLaws.{against-faulty}
 use Rattle.service.proofs.ReadSteps.{TableRead, table-read, rows-read, refused-read, record-read}
@@ -32,11 +32,11 @@ array-share-prefix-table c = read-of (c .before .before .before .before .before)
 slice-aggregate-read-2 : tie.Need-slice-aggregate-read-2
 slice-aggregate-read-2 c = sym (length-take-le _ _ (array-share-prefix-table (c .before)))
 
-array-share-prefix-types : tie.Need-array-share-prefix-types
-array-share-prefix-types c = read-of (c .before .before .before .before .before .before) .typed
+array-share-prefix-codes : tie.Need-array-share-prefix-codes
+array-share-prefix-codes c = read-of (c .before .before .before .before .before .before) .typed
 
 slice-aggregate-read-3 : tie.Need-slice-aggregate-read-3
-slice-aggregate-read-3 c = sym (length-take-le _ _ (array-share-prefix-types (c .before)))
+slice-aggregate-read-3 c = sym (length-take-le _ _ (array-share-prefix-codes (c .before)))
 
 read-requires-2 : tie.Need-read-requires-2
 read-requires-2 c κs = search needs
@@ -74,7 +74,7 @@ record-against-spec =
     enum-told
     array-share-prefix-table
     slice-aggregate-read-2
-    array-share-prefix-types
+    array-share-prefix-codes
     slice-aggregate-read-3
     read-requires-2
     enum-known-outcome

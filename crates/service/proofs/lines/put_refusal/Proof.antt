@@ -2,7 +2,7 @@
 use mathlib.Core.List.{[], _∷_}
 use native.Mathlib.Omega.{arith}
 use borrow.Author.Needs.{needs}
-use Rattle.text.specs.UnsignedLaws.{held-below}
+use Rattle.number.specs.UnsignedLaws.{held-below}
 use Rattle.service.specs.SizeLaws.{refusal-room}
 use Rattle.service.proofs.LineSteps.{two-below, refusal-put}
 use Rattle.service.proofs.lines.put_refusal.Statement.{statement}

@@ -6,8 +6,8 @@ use native.Mathlib.Omega.{arith}
 use borrow.Author.Needs.{needs}
 use lib.IntN.{pos}
 use Rattle.integers.specs.Absolute.{fits64}
-use Rattle.text.specs.PutLaws.{put-as}
-use Rattle.text.specs.UnsignedLaws.{held-below}
+use Rattle.printing.specs.ContractLaws.{put-as}
+use Rattle.number.specs.UnsignedLaws.{held-below}
 use Rattle.reading.specs.Verdict.{verdictExcess}
 use Rattle.service.specs.Lines.{printVerdict}
 use Rattle.service.proofs.LineSteps.{one-below, alarm-put}

@@ -9,8 +9,8 @@ use lib.ListN.{length, length-set}
 use Rattle.integers.specs.Absolute.{fits-abs}
 use Rattle.integers.specs.Reading.{Reads, back, held, fits, kept}
 use Rattle.text.specs.Parts.{comma}
-use Rattle.text.specs.Number.{print}
-use Rattle.text.specs.PutLaws.{put-as}
+use Rattle.number.specs.Number.{print}
+use Rattle.printing.specs.ContractLaws.{put-as}
 use Rattle.service.proofs.PanelSteps.{tag-end, StepPut, step-put}
 use Rattle.service.proofs.panel.put_step.Statement.{statement}
 use Rattle.service.proofs.panel.put_step.Tie as tie

@@ -7,8 +7,8 @@ use borrow.Author.Needs.{sfits-of}
 use lib.IntN.{ℤ}
 use lib.ListN.{getD}
 use mir.Facts.{toZ-ofZ}
-use Rattle.text.specs.Put.{printNumbers}
-use Rattle.text.specs.PutLaws.{put-as}
+use Rattle.printing.specs.Contracts.{printNumbers}
+use Rattle.printing.specs.ContractLaws.{put-as}
 use Rattle.channel.specs.Channel.{channelTypes, tagOf}
 use Rattle.service.proofs.PanelSteps.{Steps, steps-start, steps-next, steps-done}
 use Rattle.service.proofs.panel.put_steps.Statement.{statement}
@@ -51,7 +51,7 @@ loop-again c =
     let step = toZ-ofZ (sfits-of (at-put .before .put-step-arg2 .given)) in
     steps-next _ _ _ (start .pre .1 .0) (start .pre .1 .1 .0) (omega arith) (at-loop .loop .inv) (at-put .put-step .ensures .0)
     (put-as (at-put .put-step .ensures .1)
-    (ap (λ (z : ℤ). printNumbers (tagOf channelTypes (getD (start .args .types .now) (at-loop .loop .i) 0)) (z ∷ [])) step) refl)
+    (ap (λ (z : ℤ). printNumbers (tagOf channelTypes (getD (start .args .codes .now) (at-loop .loop .i) 0)) (z ∷ [])) step) refl)
 
 same-length : tie.Need-same-length Inv-loop μ-loop
 same-length c = c .before .loop .inv .put .same-length

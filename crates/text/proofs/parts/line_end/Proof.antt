@@ -38,7 +38,8 @@ use denote.Triple.Spec.{Meets, tripleOf}
 use denote.Triple.Table.{entered, cited}
 use denote.Triple.Walked.{says, needs, Stays, stay-none, stay-none-slice, walkOf, goes-none, goes-none-slice, Walks, ends-at, walked, walk-meets}
 use denote.Exit.{yes}
-use Rattle.text.specs.Parts.{lineEnd, PartEnd}
+use Rattle.text.specs.Parts.{lineEnd}
+use Rattle.text.specs.Contracts.{PartEnd}
 use Rattle.text.specs.declared.reader.Reader.{Reader}
 use Rattle.text.proofs.reader.Reader as T
 use Rattle.text.proofs.reader.Reader.Laws as T′

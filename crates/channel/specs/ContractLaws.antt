@@ -1,0 +1,78 @@
+-- Laws of tags in three places.
+--     ShortTags types   every tag of the table has at most three bytes
+--     everyTag, every-tag, tag-at   what a test of every tag of a list says of the tag of each code, and at each place
+--     house-short       document 01's table has such tags
+--     house-tag         so has the type at each place of its list
+--     type-short        and the tag of each code of a table with short tags
+--     tag-within        what holds a tag in three places counts at most three
+--     tag-taken         the first of the three places hold the tag
+use Prim.Native.Nat.{ℕ, zero, suc, _≤_}
+use mathlib.Core.Path.{_≡_, refl, sym, ap, subst, _∙_}
+use mathlib.Core.Bool.{Bool, true, false, cond, _&&_}
+use mathlib.Core.List.{List, [], _∷_}
+use native.Mathlib.Omega.{arith}
+use borrow.Author.Tests.{leb-true}
+use lib.Dec.{eqb, leb}
+use lib.ListN.{length, getD, take}
+use Rattle.integers.specs.Tests.{both}
+use Rattle.lists.specs.Padded.{padded-take}
+use Rattle.channel.specs.Channel.{ChannelType, noType, Types, typeOf, tagOf, typeIn, listed, houseTypes, channelTypes}
+use Rattle.channel.specs.Contracts.{tagPlaces}
+use Rattle.limits.specs.Limits.{tagLimit}
+use Rattle.channel.specs.declared.Tag.{Tag}
+
+pub record ShortTags (types : Types) : Type 0 where
+  pub short : (code : ℕ) → length (tagOf types code) ≤ tagLimit
+
+-- ---- what a test of every tag of a list says
+
+unfoldable pub everyTag : (List ℕ → Bool) → List ChannelType → Bool
+everyTag test [] = true
+everyTag test (t ∷ list) = test (t .tag) && everyTag test list
+
+module _ (test : List ℕ → Bool) (none : test [] ≡ true) where
+  pub tag-at : (list : List ChannelType) → everyTag test list ≡ true → (at : ℕ) → test (getD list at noType .tag) ≡ true
+  unfolding everyTag
+  tag-at [] h at = none
+  tag-at (t ∷ list) h zero = both (test (t .tag)) (everyTag test list) h .0
+  tag-at (t ∷ list) h (suc at) = tag-at list (both (test (t .tag)) (everyTag test list) h .1) at
+
+  tag-in : (list : List ChannelType) → everyTag test list ≡ true → (code : ℕ) → test (typeIn list code .tag) ≡ true
+  unfolding everyTag typeIn
+  tag-in [] h code = none
+  tag-in (t ∷ list) h code = go (eqb (t .code) code) (tag-in list (both (test (t .tag)) (everyTag test list) h .1) code)
+    where
+      go : (b : Bool) → test (typeIn list code .tag) ≡ true → test (cond b t (typeIn list code) .tag) ≡ true
+      go true r = both (test (t .tag)) (everyTag test list) h .0
+      go false r = r
+
+  pub every-tag : (list : List ChannelType) → everyTag test list ≡ true → (code : ℕ) → test (tagOf (listed list) code) ≡ true
+  unfolding typeOf
+  every-tag = tag-in
+
+-- ---- document 01's tags
+
+abbrev isShort : List ℕ → Bool
+isShort tag = leb (length tag) tagLimit
+
+house-list : everyTag isShort houseTypes ≡ true
+unfolding everyTag houseTypes
+house-list = refl
+
+pub house-short : ShortTags channelTypes
+house-short = record { short = λ code. leb-true (length (tagOf channelTypes code)) tagLimit (every-tag isShort refl houseTypes house-list code) }
+
+pub house-tag : (at : ℕ) → length (getD houseTypes at noType .tag) ≤ tagLimit
+house-tag at = leb-true (length (getD houseTypes at noType .tag)) tagLimit (tag-at isShort refl houseTypes house-list at)
+
+pub type-short : (types : Types) → ShortTags types → (code : ℕ) → length (tagOf types code) ≤ tagLimit
+type-short types h = h .short
+
+-- ---- a tag in three places
+
+module _ (r : Tag) (tag : List ℕ) (e : r ≡ tagPlaces tag) (short : length tag ≤ tagLimit) where
+  pub tag-within : r .length ≤ tagLimit
+  tag-within = subst (λ (t : Tag). t .length ≤ tagLimit) (sym e) short
+
+  pub tag-taken : take (r .length) (r .bytes) ≡ tag
+  tag-taken = ap (λ (t : Tag). take (t .length) (t .bytes)) e ∙ padded-take tagLimit tag short

@@ -1,0 +1,38 @@
+-- What the proof of the exported panel uses.
+--     panel-accepted     a panel of the number 0 is accepted, and each of its channels has a place
+use Prim.Native.Nat.{ℕ, _≤_}
+use mathlib.Core.Path.{_≡_, refl}
+use mathlib.Core.Bool.{Bool, true, false}
+use mathlib.Core.List.{List}
+use lib.Dec.{leb}
+use lib.IntN.{ℤ}
+use Rattle.integers.specs.Tests.{nonzero}
+use Rattle.refusal.specs.Number.{outside-limits}
+use Rattle.refusal.specs.Outcome.{numberOf, choose}
+use Rattle.refusal.specs.declared.Outcome.the-variants.{Accepted}
+use Rattle.limits.specs.Limits.{channelLimit}
+use Rattle.channel.specs.Channel.{Types}
+use Rattle.envelope.specs.Figures.{figuresWithin}
+use Rattle.envelope.specs.FigureLaws.{within-figures}
+use Rattle.chart.specs.Panel.{refusedPanel, panelOf, panelShown}
+use Rattle.chart.specs.declared.panel.PanelShown.{PanelShown}
+use Rattle.cundarivo.specs.Given.{figuresGiven}
+use Rattle.cundarivo.specs.ChartNumbers.{panelGiven}
+use Rattle.cundarivo.specs.declared.given.FiguresGiven.{FiguresGiven}
+
+-- a panel that is shown only where a test holds has the number 0 only there
+shown-where : {P : Type 0} (t : Bool) (shown : PanelShown)
+    → (t ≡ true → numberOf (shown .outcome) ≡ 0 → (shown .outcome ≡ Accepted) × P)
+    → let r = choose t (λ _. shown) (λ _. refusedPanel outside-limits) in
+    numberOf (r .outcome) ≡ 0 → (r .outcome ≡ Accepted) × P
+shown-where true shown only z = only refl z
+shown-where false shown only z = nonzero z
+
+module _ (D : ℕ) (types : Types) (given : FiguresGiven) (codes : List ℕ) (centre : List ℤ) where
+  pub panel-accepted : let shown = panelGiven D types given codes centre in
+      numberOf (shown .outcome) ≡ 0 → (shown .outcome ≡ Accepted) × (given .n ≤ channelLimit)
+  unfolding panelGiven panelShown
+  panel-accepted =
+      let figures = figuresGiven given codes centre in
+      shown-where (leb (given .settled) 1) _
+      (λ _. shown-where (figuresWithin D types figures) (panelOf D figures) (λ within _. (refl, within-figures D types figures within .channels)))

@@ -1,0 +1,23 @@
+-- The answer of the call, in numbers.
+use borrow.Author.Needs.{needs}
+use Rattle.cundarivo.proofs.RecordLaws.{numbered}
+use Rattle.cundarivo.proofs.programs.cundarivo_program_draw.Statement.{statement}
+use Rattle.cundarivo.proofs.programs.cundarivo_program_draw.Tie as tie
+
+draw-requires : tie.Need-draw-requires
+draw-requires c κs = search needs
+
+written-in-numbers-requires : tie.Need-written-in-numbers-requires
+written-in-numbers-requires c κs = search needs
+
+same-length : tie.Need-same-length
+same-length c = search needs
+
+returns : tie.Need-returns
+returns c =
+    let printed = c .before .before .before .draw .ensures in
+    numbered _ _ _ (c .written-in-numbers .ensures) (printed .0) (printed .1 .0)
+
+pub cundarivo-program-draw-spec : {M : Type 1} → statement M
+cundarivo-program-draw-spec =
+    tie.close (tie.spec draw-requires written-in-numbers-requires same-length returns)

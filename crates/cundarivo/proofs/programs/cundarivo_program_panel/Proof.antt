@@ -1,0 +1,23 @@
+-- The answer of the call, in numbers.
+use borrow.Author.Needs.{needs}
+use Rattle.cundarivo.proofs.RecordLaws.{numbered}
+use Rattle.cundarivo.proofs.programs.cundarivo_program_panel.Statement.{statement}
+use Rattle.cundarivo.proofs.programs.cundarivo_program_panel.Tie as tie
+
+panel-requires : tie.Need-panel-requires
+panel-requires c κs = search needs
+
+written-in-numbers-requires : tie.Need-written-in-numbers-requires
+written-in-numbers-requires c κs = search needs
+
+same-length : tie.Need-same-length
+same-length c = search needs
+
+returns : tie.Need-returns
+returns c =
+    let printed = c .before .before .before .panel .ensures in
+    numbered _ _ _ (c .written-in-numbers .ensures) (printed .0) (printed .1 .0)
+
+pub cundarivo-program-panel-spec : {M : Type 1} → statement M
+cundarivo-program-panel-spec =
+    tie.close (tie.spec panel-requires written-in-numbers-requires same-length returns)

@@ -1,0 +1,28 @@
+-- The number by which the code tells labels apart: the digits 1 to 37 in base 38.
+--     labelDigit b      which of the 37 bytes b is, from 1; 0 for any other byte
+--     keyFrom l k       the number of the bytes l after those of k, 0 where some byte is not of a label
+--     labelKey l        the number by which the code tells labels apart, 0 where l is no label
+use Prim.Native.Nat.{ℕ, zero, suc, _+_, _-_, _*_}
+use mathlib.Core.Bool.{cond}
+use mathlib.Core.List.{List, [], _∷_}
+use lib.Dec.{eqb, leb}
+use lib.ListN.{length}
+use Rattle.number.specs.Number.{hyphen, isDigit}
+use Rattle.label.specs.Label.{isLetter}
+use Rattle.limits.specs.Limits.{labelLimit}
+
+abbrev pub labelDigit : ℕ → ℕ
+labelDigit b = cond (isLetter b) (b - 64) (cond (isDigit b) (b - 21) (cond (eqb b hyphen) 37 0))
+
+-- the key with one more digit, 0 where there is none
+abbrev pub keyAfter : ℕ → (ℕ → ℕ) → ℕ → ℕ
+keyAfter zero further k = 0
+keyAfter (suc d) further k = further (k * 38 + suc d)
+
+unfoldable pub keyFrom : List ℕ → ℕ → ℕ
+keyFrom [] k = k
+keyFrom (b ∷ l) k = keyAfter (labelDigit b) (keyFrom l) k
+
+unfoldable pub labelKey : List ℕ → ℕ
+unfolding keyFrom
+labelKey l = cond (leb (length l) labelLimit) (keyFrom l 0) 0

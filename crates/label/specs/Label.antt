@@ -1,0 +1,26 @@
+-- Document 01, "Texts": a label is 1 to 12 bytes of A-Z, 0-9 and hyphen.
+--     isLetter b        the byte is A to Z
+--     isLabelByte b     the byte may stand in a label
+--     labelBytes l      every byte of l may stand in a label
+--     isLabel l         l is a label
+use Prim.Native.Nat.{ℕ}
+use mathlib.Core.Bool.{Bool, true, _&&_, _||_}
+use mathlib.Core.List.{List, [], _∷_}
+use lib.Dec.{eqb, leb}
+use lib.ListN.{length}
+use Rattle.limits.specs.Limits.{labelLimit}
+use Rattle.number.specs.Number.{hyphen, isDigit}
+
+abbrev pub isLetter : ℕ → Bool
+isLetter b = leb 65 b && leb b 90
+
+abbrev pub isLabelByte : ℕ → Bool
+isLabelByte b = isLetter b || (isDigit b || eqb b hyphen)
+
+unfoldable pub labelBytes : List ℕ → Bool
+labelBytes [] = true
+labelBytes (b ∷ l) = isLabelByte b && labelBytes l
+
+unfoldable pub isLabel : List ℕ → Bool
+unfolding labelBytes
+isLabel l = (leb 1 (length l) && leb (length l) labelLimit) && labelBytes l

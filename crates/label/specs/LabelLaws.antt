@@ -1,0 +1,268 @@
+-- Laws of labels and their keys.
+--     digit-at                         the digit of a byte, by the three tests
+--     digit-most                       a digit is at most 37
+--     key-long, key-short              the key of a field that is too long for a label, and of any other
+--     key-stop, key-further, key-done  the key from an index on, by the digit of the byte there, and at the end
+--     digit-below, digit-fits          one digit more is one power of 38 more; up to 12 digits are below 38 ^ 12
+--     key-label                        the key is 0 where the field is no label, and only there
+--     label-short                      a label has at most 12 bytes
+--     label-empty, label-long          a field of no bytes, or of more than 12, is no label
+--     label-within                     any other is one by its bytes
+--     bytes-stop, bytes-further, bytes-done  whether the bytes from an index on may stand in a label, by the digit of the byte there, and at the end
+--     key-injective                    labels with the same key are the same
+--     label-free                       a label has no byte that may not stand in one
+--     no-digit, no-hyphen              a byte that stands in no label is no digit and no hyphen
+use Prim.Native.Nat.{ℕ, zero, suc, _+_, _-_, _*_, _/_, _%_, _^_, _≤_, _<_}
+use mathlib.Core.Path.{_≡_, refl, sym, ap, ap₂, subst, _∙_}
+use mathlib.Core.Bool.{Bool, true, false, not, cond, _&&_, _||_}
+use mathlib.Core.List.{List, [], _∷_}
+use native.Mathlib.Nat.{add-zero, add-suc, pow-suc, pow-le-pow-right, one-le-pow}
+use native.Mathlib.Numerals.{add-one}
+use native.Mathlib.Omega.{arith}
+use borrow.Author.Tests.{leb-true, eqb-true, le-leb, lt-leb, ne-eqb}
+use lib.Dec.{eqb, leb}
+use lib.ListN.{length, getD, drop, drop-of-length-le}
+use lib.Seq.{drop-cons}
+use Rattle.text.specs.Parts.{free}
+use Rattle.integers.specs.Tests.{both, clash, neither}
+use Rattle.number.specs.Number.{hyphen, isDigit}
+use Rattle.label.specs.Label.{isLetter, isLabelByte, labelBytes, isLabel}
+use Rattle.limits.specs.Limits.{labelLimit}
+use Rattle.label.specs.Key.{labelDigit, keyAfter, keyFrom, labelKey}
+
+-- ---- digits
+
+pub digit-at : (b : ℕ) {letter digit dash : Bool} → isLetter b ≡ letter → isDigit b ≡ digit → eqb b hyphen ≡ dash
+    → labelDigit b ≡ cond letter (b - 64) (cond digit (b - 21) (cond dash 37 0))
+digit-at b p q r =
+    ap₂ (λ x y. cond x (b - 64) y) p (ap₂ (λ x y. cond x (b - 21) y) q (ap (λ x. cond x 37 0) r))
+
+-- the byte of a digit
+byteOf : ℕ → ℕ
+byteOf d = cond (leb d 26) (d + 64) (cond (leb d 36) (d + 21) 45)
+
+-- d is the digit of the byte b, which stands in labels or does not
+record Read (b d : ℕ) (labelled : Bool) : Type 0 where
+  positive : leb 1 d ≡ labelled
+  most : d ≤ 37
+  back : labelled ≡ true → byteOf d ≡ b
+
+digit-read : (b : ℕ) → Read b (labelDigit b) (isLabelByte b)
+unfolding byteOf
+digit-read b = go (isLetter b) (isDigit b) (eqb b hyphen) refl refl refl
+  where
+    go : (x y z : Bool) → isLetter b ≡ x → isDigit b ≡ y → eqb b hyphen ≡ z
+        → Read b (cond x (b - 64) (cond y (b - 21) (cond z 37 0))) (x || (y || z))
+    go true y z p q r =
+        let t = both (leb 65 b) (leb b 90) p in
+        let low = leb-true 65 b (t .0) in
+        let high = leb-true b 90 (t .1) in
+        record {
+          positive = le-leb 1 (b - 64) (omega arith);
+          most = omega arith;
+          back = λ h. ap (λ t. cond t (b - 64 + 64) (cond (leb (b - 64) 36) (b - 64 + 21) 45)) (le-leb (b - 64) 26 (omega arith)) ∙ omega arith;
+        }
+    go false true z p q r =
+        let t = both (leb 48 b) (leb b 57) q in
+        let low = leb-true 48 b (t .0) in
+        let high = leb-true b 57 (t .1) in
+        record {
+          positive = le-leb 1 (b - 21) (omega arith);
+          most = omega arith;
+          back =
+              λ h.
+              ap₂ (λ t u. cond t (b - 21 + 64) (cond u (b - 21 + 21) 45)) (lt-leb (b - 21) 26 (omega arith)) (le-leb (b - 21) 36 (omega arith))
+              ∙ omega arith;
+        }
+    go false false true p q r = record { positive = refl; most = omega arith; back = λ h. sym (eqb-true b 45 r) }
+    go false false false p q r = record { positive = refl; most = omega arith; back = λ h. clash h refl }
+
+pub digit-most : (b : ℕ) → labelDigit b ≤ 37
+digit-most b = digit-read b .most
+
+-- ---- keys
+
+pub key-long : (f : List ℕ) → labelLimit < length f → labelKey f ≡ 0
+unfolding labelKey
+key-long f h = ap (λ t. cond t (keyFrom f 0) 0) (lt-leb (length f) labelLimit h)
+
+pub key-short : (f : List ℕ) → length f ≤ labelLimit → labelKey f ≡ keyFrom f 0
+unfolding labelKey
+key-short f h = ap (λ t. cond t (keyFrom f 0) 0) (le-leb (length f) labelLimit h)
+
+pub key-done : (f : List ℕ) (i k : ℕ) → length f ≤ i → keyFrom (drop i f) k ≡ k
+unfolding keyFrom
+key-done f i k h = ap (λ l. keyFrom l k) (drop-of-length-le f h)
+
+after : (d : ℕ) (further : ℕ → ℕ) (k : ℕ) → (d ≡ 0 → ⊥) → keyAfter d further k ≡ further (k * 38 + d)
+after zero further k h = absurd (h refl)
+after (suc d) further k h = refl
+
+module _ (f : List ℕ) (i k d : ℕ) (h : i < length f) (e : d ≡ labelDigit (getD f i 0)) where
+  key-at : keyFrom (drop i f) k ≡ keyAfter d (keyFrom (drop (i + 1) f)) k
+  unfolding keyFrom
+  key-at = ap (λ l. keyFrom l k) (drop-cons f i 0 h) ∙ ap₂ (λ x j. keyAfter x (keyFrom (drop j f)) k) (sym e) (sym (add-one i))
+
+  pub key-stop : d ≡ 0 → keyFrom (drop i f) k ≡ 0
+  key-stop z = key-at ∙ ap (λ x. keyAfter x (keyFrom (drop (i + 1) f)) k) z
+
+  pub key-further : (d ≡ 0 → ⊥) → keyFrom (drop i f) k ≡ keyFrom (drop (i + 1) f) (k * 38 + d)
+  key-further n = key-at ∙ after d (keyFrom (drop (i + 1) f)) k n
+
+power-most : (i : ℕ) → i ≤ labelLimit → 38 ^ i ≤ 38 ^ 12
+power-most i h = pow-le-pow-right (omega arith) h
+
+pub digit-below : (k i d : ℕ) → k < 38 ^ i → d ≤ 37 → k * 38 + d < 38 ^ (i + 1)
+digit-below k i d h m = omega (arith, ap (λ j. 38 ^ j) (add-one i) ∙ pow-suc 38 i)
+
+pub digit-fits : (k i : ℕ) → k < 38 ^ i → i < labelLimit → k * 38 + 37 < 38 ^ 12
+digit-fits k i h l = omega (arith, power-most (i + 1) (omega arith), digit-below k i 37 h (omega arith))
+
+from-most : (l : List ℕ) (k i : ℕ) → k < 38 ^ i → keyFrom l k < 38 ^ (i + length l)
+unfolding keyFrom
+from-most [] k i h = subst (λ j. k < 38 ^ j) (sym (add-zero i)) h
+from-most (b ∷ l) k i h = go (labelDigit b) (digit-most b) (from-most l)
+  where
+    go : (d : ℕ) → d ≤ 37 → ((k i : ℕ) → k < 38 ^ i → keyFrom l k < 38 ^ (i + length l)) → keyAfter d (keyFrom l) k < 38 ^ (i + suc (length l))
+    go zero m f = one-le-pow (i + suc (length l)) 38 (omega arith)
+    go (suc d) m f =
+        let e : i + 1 + length l ≡ i + suc (length l) = omega arith in
+        subst (λ j. keyFrom l (k * 38 + suc d) < 38 ^ j) e (f (k * 38 + suc d) (i + 1) (digit-below k i (suc d) h m))
+
+-- ---- which keys are 0
+
+after-positive : (l : List ℕ) (k d : ℕ) (t : Bool) → leb 1 d ≡ t → ((k : ℕ) → 1 ≤ k → leb 1 (keyFrom l k) ≡ labelBytes l)
+    → leb 1 (keyAfter d (keyFrom l) k) ≡ (t && labelBytes l)
+after-positive l k zero t h f = ap (λ s. s && labelBytes l) h
+after-positive l k (suc d) t h f =
+    f (k * 38 + suc d) (omega arith) ∙ ap (λ s. s && labelBytes l) (sym (le-leb 1 (suc d) (omega arith)) ∙ h)
+
+from-positive : (l : List ℕ) (k : ℕ) → 1 ≤ k → leb 1 (keyFrom l k) ≡ labelBytes l
+unfolding keyFrom labelBytes
+from-positive [] k h = le-leb 1 k h
+from-positive (b ∷ l) k h = after-positive l k (labelDigit b) (isLabelByte b) (digit-read b .positive) (from-positive l)
+
+pub key-label : (l : List ℕ) → leb 1 (labelKey l) ≡ isLabel l
+unfolding keyFrom labelBytes labelKey isLabel
+key-label [] = refl
+key-label (b ∷ l) =
+    go (leb (length (b ∷ l)) labelLimit)
+    ∙ ap (λ s. (s && leb (length (b ∷ l)) labelLimit) && labelBytes (b ∷ l)) (sym (le-leb 1 (length (b ∷ l)) (omega arith)))
+  where
+    go : (t : Bool) → leb 1 (cond t (keyFrom (b ∷ l) 0) 0) ≡ (t && labelBytes (b ∷ l))
+    go true = after-positive l 0 (labelDigit b) (isLabelByte b) (digit-read b .positive) (from-positive l)
+    go false = refl
+
+-- ---- what a label has
+
+label-parts : (l : List ℕ) → isLabel l ≡ true → (leb (length l) labelLimit ≡ true) × (labelBytes l ≡ true)
+unfolding isLabel
+label-parts l h =
+    let t = both (leb 1 (length l) && leb (length l) labelLimit) (labelBytes l) h in
+    (both (leb 1 (length l)) (leb (length l) labelLimit) (t .0) .1, t .1)
+
+pub label-short : (l : List ℕ) → isLabel l ≡ true → length l ≤ labelLimit
+label-short l e = leb-true (length l) labelLimit (label-parts l e .0)
+
+-- ---- labels by their bytes
+
+module _ (l : List ℕ) where
+  pub label-empty : length l ≡ 0 → isLabel l ≡ false
+  unfolding isLabel
+  label-empty h = ap (λ n. (leb 1 n && leb n labelLimit) && labelBytes l) h
+
+  -- a field that is not empty
+  module _ (some : 1 ≤ length l) where
+    by-limit : (t : Bool) → leb (length l) labelLimit ≡ t → isLabel l ≡ (t && labelBytes l)
+    unfolding isLabel
+    by-limit t h = ap₂ (λ x y. (x && y) && labelBytes l) (le-leb 1 (length l) some) h
+
+    pub label-long : labelLimit < length l → isLabel l ≡ false
+    label-long h = by-limit false (lt-leb (length l) labelLimit h)
+
+    pub label-within : length l ≤ labelLimit → isLabel l ≡ labelBytes l
+    label-within h = by-limit true (le-leb (length l) labelLimit h)
+
+pub bytes-done : (f : List ℕ) (i : ℕ) → length f ≤ i → labelBytes (drop i f) ≡ true
+unfolding labelBytes
+bytes-done f i h = ap labelBytes (drop-of-length-le f h)
+
+module _ (f : List ℕ) (i d : ℕ) (h : i < length f) (e : d ≡ labelDigit (getD f i 0)) where
+  bytes-at : (t : Bool) → leb 1 d ≡ t → labelBytes (drop i f) ≡ (t && labelBytes (drop (i + 1) f))
+  unfolding labelBytes
+  bytes-at t p =
+      ap labelBytes (drop-cons f i 0 h)
+      ∙ ap₂ (λ x j. x && labelBytes (drop j f)) (sym (digit-read (getD f i 0) .positive) ∙ ap (leb 1) (sym e) ∙ p) (sym (add-one i))
+
+  pub bytes-stop : d ≡ 0 → labelBytes (drop i f) ≡ false
+  bytes-stop z = bytes-at false (ap (leb 1) z)
+
+  pub bytes-further : (d ≡ 0 → ⊥) → labelBytes (drop i f) ≡ labelBytes (drop (i + 1) f)
+  bytes-further n = bytes-at true (le-leb 1 d (omega arith))
+
+-- ---- labels by their keys
+
+-- the bytes of the key k in front of l, at most as many as the first number says
+spell : ℕ → ℕ → List ℕ → List ℕ
+spell zero k l = l
+spell (suc n) zero l = l
+spell (suc n) (suc k) l = spell n (suc k / 38) (byteOf (suc k % 38) ∷ l)
+
+spell-zero : (n : ℕ) (l : List ℕ) → spell n 0 l ≡ l
+unfolding spell
+spell-zero zero l = refl
+spell-zero (suc n) l = refl
+
+spell-digit : (n k d b : ℕ) (l : List ℕ) → d ≤ 36 → byteOf (suc d) ≡ b → spell (suc n) (k * 38 + suc d) l ≡ spell n k (b ∷ l)
+unfolding spell
+spell-digit n k d b l h e =
+    let q : suc (k * 38 + d) / 38 ≡ k = omega arith in
+    let r : suc (k * 38 + d) % 38 ≡ suc d = omega arith in
+    ap (λ m. spell (suc n) m l) (add-suc (k * 38) d) ∙ ap₂ (λ x y. spell n x (byteOf y ∷ l)) q r ∙ ap (λ x. spell n k (x ∷ l)) e
+
+spell-from : (l : List ℕ) (k n : ℕ) → labelBytes l ≡ true → spell (n + length l) (keyFrom l k) [] ≡ spell n k l
+unfolding keyFrom labelBytes
+spell-from [] k n h = ap (λ m. spell m k []) (add-zero n)
+spell-from (b ∷ l) k n h =
+    let t = both (isLabelByte b) (labelBytes l) h in
+    go (labelDigit b) (digit-read b) (t .0) (λ k n. spell-from l k n (t .1))
+  where
+    go : (d : ℕ) → Read b d (isLabelByte b) → isLabelByte b ≡ true
+        → ((k n : ℕ) → spell (n + length l) (keyFrom l k) [] ≡ spell n k l)
+        → spell (n + suc (length l)) (keyAfter d (keyFrom l) k) [] ≡ spell n k (b ∷ l)
+    go zero r t f = clash t (sym (r .positive))
+    go (suc d) r t f =
+        let e : n + suc (length l) ≡ suc n + length l = omega arith in
+        ap (λ m. spell m (keyFrom l (k * 38 + suc d)) []) e ∙ f (k * 38 + suc d) (suc n)
+        ∙ spell-digit n k d b l (omega (arith, r .most)) (r .back t)
+
+spell-key : (l : List ℕ) → isLabel l ≡ true → spell 12 (labelKey l) [] ≡ l
+spell-key l h =
+    let m = label-short l h in
+    let e : 12 ≡ 12 - length l + length l = omega arith in
+    ap₂ (λ n k. spell n k []) e (key-short l m) ∙ spell-from l 0 (12 - length l) (label-parts l h .1) ∙ spell-zero (12 - length l) l
+
+pub key-injective : (k l : List ℕ) → isLabel k ≡ true → isLabel l ≡ true → labelKey k ≡ labelKey l → k ≡ l
+key-injective k l h g e = sym (spell-key k h) ∙ ap (λ n. spell 12 n []) e ∙ spell-key l g
+
+-- ---- the bytes of a label
+
+bytes-free : (c : ℕ) (l : List ℕ) → isLabelByte c ≡ false → labelBytes l ≡ true → free c l ≡ true
+unfolding labelBytes free
+bytes-free c [] h e = refl
+bytes-free c (b ∷ l) h e =
+    let t = both (isLabelByte b) (labelBytes l) e in
+    ap₂ (λ x y. not x && y) (ne-eqb b c (λ q. clash (t .0) (ap isLabelByte q ∙ h))) (bytes-free c l h (t .1))
+
+pub label-free : (c : ℕ) (l : List ℕ) → isLabelByte c ≡ false → isLabel l ≡ true → free c l ≡ true
+label-free c l h e = bytes-free c l h (label-parts l e .1)
+
+module _ (c : ℕ) (h : isLabelByte c ≡ false) where
+  apart : (isDigit c ≡ false) × (eqb c hyphen ≡ false)
+  apart = neither (isDigit c) (eqb c hyphen) (neither (isLetter c) (isDigit c || eqb c hyphen) h .1)
+
+  pub no-digit : isDigit c ≡ false
+  no-digit = apart .0
+
+  pub no-hyphen : eqb c hyphen ≡ false
+  no-hyphen = apart .1

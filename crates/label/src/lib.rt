@@ -1,0 +1,58 @@
+// Labels: 1 to 12 bytes of A-Z, 0-9 and hyphen. There are 37 such bytes and 38^12 is below 2^64, so that a label is told from
+// every other one by a number.
+ghost use mathlib.Core.Path.{_≡_};
+ghost use Rattle.label.specs.Label.{isLabel};
+ghost use Rattle.label.specs.Key.{labelDigit, labelKey};
+use limits::LABEL_MOST;
+
+// 1 to 26 for a letter, 27 to 36 for a digit, 37 for a hyphen, 0 for any other byte.
+fn label_digit(byte: u8) -> u64
+    ensures { λ r. ⌜ r ≡ labelDigit byte ⌝ }
+{
+    match byte {
+        65..=90 => (byte - 64) as u64,
+        48..=57 => (byte - 21) as u64,
+        45 => 37,
+        _ => 0,
+    }
+}
+
+// The number of a label, 0 where the field is no label.
+pub fn label_key(field: &[u8]) -> u64
+    ensures { λ r. ⌜ r ≡ labelKey (now (field .entry)) ⌝ }
+{
+    if LABEL_MOST < field.len() {
+        return 0;
+    }
+    let mut key: u64 = 0;
+    let mut i = 0;
+    while i < field.len() {
+        let digit = label_digit(field[i]);
+        if digit == 0 {
+            return 0;
+        }
+        key = key * 38 + digit;
+        i += 1;
+    }
+    key
+}
+
+// Whether a field is a label.
+pub fn is_label(field: &[u8]) -> bool
+    ensures { λ r. ⌜ r ≡ isLabel (now (field .entry)) ⌝ }
+{
+    if field.len() == 0 {
+        return false;
+    }
+    if LABEL_MOST < field.len() {
+        return false;
+    }
+    let mut i = 0;
+    while i < field.len() {
+        if label_digit(field[i]) == 0 {
+            return false;
+        }
+        i += 1;
+    }
+    true
+}

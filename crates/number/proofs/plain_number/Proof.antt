@@ -1,0 +1,101 @@
+-- `number::plain_number` meets its contract: the branch on the first byte is that of `plain`, and each arm turns what `unsigned`
+-- read into what is read of a plain number.
+use Prim.Native.Nat.{ℕ}
+use mathlib.Core.List.{List}
+use mathlib.Core.Path.{_≡_, sym, _∙_, ap}
+use native.Mathlib.Omega.{arith}
+use borrow.Author.Needs.{needs}
+use borrow.Rule.Slice.PartAt.{part-to-end}
+use Rattle.number.specs.Number.{magnitudeOf, plain}
+use Rattle.number.specs.NumberLaws.{plain-empty}
+use Rattle.number.specs.Contracts.{magnitudeRead, plainRead}
+use Rattle.number.specs.ContractLaws.{unsignedRead, signedRead, unsigned-read, signed-read, signed-some}
+use Rattle.number.specs.declared.Magnitude.the-variants.{Saturated}
+use Rattle.number.proofs.plain_number.Statement.{statement}
+use Rattle.number.proofs.plain_number.Tie as tie
+
+-- what is read of the whole field, and of its rest after a hyphen
+unsigned-at : (c : tie.After-unsigned) → plainRead (plain (c .before .before .before .before .before .args .field .now)) ≡ unsignedRead (c .unsigned .result)
+unsigned-at c = unsigned-read _ (omega arith) (c .before .if2 .taken) ∙ ap unsignedRead (sym (c .unsigned .ensures))
+
+signed-at : (c : tie.After-unsigned2) → plainRead (plain (c .before .before .before .before .before .before .args .field .now)) ≡ signedRead (c .unsigned2 .result)
+signed-at c =
+    let field = c .before .before .before .before .before .before .args .field .now in
+    signed-read field (omega arith) (c .before .before .if2 .left)
+    ∙ ap (λ (l : List ℕ). signedRead (magnitudeRead (magnitudeOf l))) (sym (part-to-end field 1))
+    ∙ ap signedRead (sym (c .unsigned2 .ensures))
+
+returns : tie.Need-returns
+returns c = sym (ap plainRead (plain-empty _ (c .if1 .taken)))
+
+shared-slice-read-if2 : tie.Need-shared-slice-read-if2
+shared-slice-read-if2 c = search needs
+
+unsigned-requires : tie.Need-unsigned-requires
+unsigned-requires c κs = search needs
+
+enum-told : tie.Need-enum-told
+enum-told c = search needs
+
+enum-known-whole : tie.Need-enum-known-whole
+enum-known-whole c = search needs
+
+returns-2 : tie.Need-returns-2
+returns-2 c = sym (unsigned-at (c .before .before) ∙ ap unsignedRead (c .enum-told .given .1))
+
+returns-3 : tie.Need-returns-3
+returns-3 c = sym (unsigned-at (c .before .before .before) ∙ ap unsignedRead (c .before .whole .given .1))
+
+sub-unsigned : tie.Need-sub-unsigned
+sub-unsigned c = search needs
+
+part-unsigned-start : tie.Need-part-unsigned-start
+part-unsigned-start c = search needs
+
+part-unsigned-end : tie.Need-part-unsigned-end
+part-unsigned-end c = search needs
+
+unsigned-requires-2 : tie.Need-unsigned-requires-2
+unsigned-requires-2 c κs = search needs
+
+enum-told-2 : tie.Need-enum-told-2
+enum-told-2 c = search needs
+
+enum-known-rest : tie.Need-enum-known-rest
+enum-known-rest c = search needs
+
+returns-4 : tie.Need-returns-4
+returns-4 c = sym (signed-at (c .before .before) ∙ ap signedRead (c .enum-told2 .given .1))
+
+returns-5 : tie.Need-returns-5
+returns-5 c =
+    sym
+    (signed-at (c .before .before .before .before)
+    ∙ ap signedRead (c .before .before .rest .given .1)
+    ∙ ap (λ (k : ℕ). signedRead (Saturated k)) (c .if3 .taken))
+
+returns-6 : tie.Need-returns-6
+returns-6 c =
+    sym
+    (signed-at (c .before .before .before .before) ∙ ap signedRead (c .before .before .rest .given .1) ∙ signed-some _ (c .if3 .left))
+
+pub plain-number-spec : {M : Type 1} → statement M
+plain-number-spec =
+    tie.close
+    (tie.spec
+    returns
+    shared-slice-read-if2
+    unsigned-requires
+    enum-told
+    enum-known-whole
+    returns-2
+    returns-3
+    sub-unsigned
+    part-unsigned-start
+    part-unsigned-end
+    unsigned-requires-2
+    enum-told-2
+    enum-known-rest
+    returns-4
+    returns-5
+    returns-6)

@@ -1,0 +1,23 @@
+-- What is printed into a lent slice from an index on.
+--     numbersAfter word numbers     a word and numbers, each after a comma
+--     printNumbers word numbers     a line of these, with its byte 10
+--     Put w out₀ at out r           the bytes w stand from index at on, up to index r
+use Prim.Native.Nat.{ℕ, _+_}
+use mathlib.Core.Path.{_≡_}
+use mathlib.Core.List.{List, [], _∷_, _++_, map}
+use lib.IntN.{ℤ}
+use lib.ListN.{length, take}
+use Rattle.text.specs.Parts.{comma, lineEnd, join}
+use Rattle.number.specs.Number.{print}
+
+unfoldable pub numbersAfter : List ℕ → List ℤ → List ℕ
+numbersAfter word numbers = join comma (word ∷ map print numbers)
+
+abbrev pub printNumbers : List ℕ → List ℤ → List ℕ
+printNumbers word numbers = numbersAfter word numbers ++ (lineEnd ∷ [])
+
+-- what stood before index at is kept; what stands from index r on is not said
+pub record Put (w out₀ : List ℕ) (at : ℕ) (out : List ℕ) (r : ℕ) : Type 0 where
+  pub next : r ≡ at + length w
+  pub is : take r out ≡ take at out₀ ++ w
+  pub same-length : length out ≡ length out₀

@@ -1,0 +1,3 @@
+-- What is printed into a lent slice, and its laws.
+pub mod Contracts
+pub mod ContractLaws
