@@ -14,7 +14,7 @@
 --     tags-free                 no byte that stands in no label stands in the tags of known codes
 --     range-within, range-zero  every range is within 4,000 of 0, and has 0
 --     code-tag, tag-code        a code has one tag, and a tag one code
-use Prim.Native.Nat.{ℕ, suc, _≤_}
+use Prim.Native.Nat.{ℕ, zero, suc, _≤_}
 use mathlib.Core.Path.{_≡_, refl, sym, ap, subst, _∙_}
 use mathlib.Core.Bool.{Bool, true, false, not, cond, _&&_, _||_, or-true}
 use mathlib.Core.List.{List, [], _∷_, map}
@@ -55,10 +55,10 @@ pub record SoundTypes (types : Types) : Type 0 where
 -- ---- the table of a list
 
 -- no type of the table has the code or the tag of t
-abbrev alone : ChannelType → List ChannelType → Bool
+abbrev pub alone : ChannelType → List ChannelType → Bool
 alone t types = not (knownIn types (t .code)) && eqb (codeIn types (t .tag)) 0
 
-unfoldable soundList : List ChannelType → Bool
+unfoldable pub soundList : List ChannelType → Bool
 soundList [] = true
 soundList (t ∷ types) = (soundType t && alone t types) && soundList types
 
@@ -87,7 +87,7 @@ first t types h =
     }
 
 -- either way 0
-cond-same : (b : Bool) → cond b 0 0 ≡ 0
+cond-same : (b : Bool) → _≡_ {A = ℕ} (cond b 0 0) 0
 cond-same true = refl
 cond-same false = refl
 

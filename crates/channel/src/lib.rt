@@ -3,8 +3,8 @@
 // the functions here.
 ghost use mathlib.Core.Path.{_≡_};
 ghost use Prim.Native.Nat.{_≤_, _<_};
-ghost use mathlib.Core.List.{_++_};
-ghost use lib.ListN.{length, getD, take, drop};
+ghost use lib.ListN.{length, getD, take};
+ghost use Rattle.lent.specs.Filled.{filled};
 ghost use Rattle.text.specs.Parts.{same};
 ghost use Rattle.channel.specs.Channel.{channelTypes, codeOf, tagOf, known, codesKnown, houseTypes, houseCount, typeIn, noType};
 ghost use Rattle.channel.specs.Contracts.{rangeOf, tagIn, tagAt};
@@ -171,10 +171,10 @@ pub fn same_codes(a: &[Code], b: &[Code]) -> bool
     text::parts::same_bytes(a, b)
 }
 
-// Copies the codes to the first places of the lent slice.
-pub fn copy_codes(codes: &[Code], lent: &mut [Code])
-    requires { ⌜ length (now codes) ≤ length (now lent) ⌝ }
-    ensures { λ _. ⌜ now (lent .exit) ≡ now (codes .entry) ++ drop (length (now (codes .entry))) (now (lent .entry)) ⌝ }
+// Copies the first `count` codes of the source to those of the lent slice.
+pub fn fill_codes(lent: &mut [Code], source: &[Code], count: usize)
+    requires { ⌜ (count ≤ length (now lent)) × (count ≤ length (now source)) ⌝ }
+    ensures { λ _. ⌜ now (lent .exit) ≡ filled 0 count (now (source .entry)) (now (lent .entry)) ⌝ }
 {
-    bytes::copy(codes, lent);
+    bytes::copy(&source[..count], lent);
 }

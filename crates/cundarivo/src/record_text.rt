@@ -12,6 +12,7 @@ use crate::given::FiguresGiven;
 use crate::hand_out;
 use ball::Ball;
 use channel::Code;
+use channel::fill_codes;
 use envelope::Envelope;
 use envelope::Figures;
 use lent::TextWritten;
@@ -110,7 +111,7 @@ fn envelope_given(given: FiguresGiven, codes: &[Code], centre: &[i64], weights: 
 {
     let n = given.n;
     let mut kept_codes = [0 as Code; CHANNELS];
-    copy_codes(&codes[..n], &mut kept_codes);
+    fill_codes(&mut kept_codes, codes, n);
     let mut scaled_centre = [0i64; CHANNELS];
     fill_centre(&mut scaled_centre, centre, n);
     let mut kept = [0u32; ROWS];

@@ -10,6 +10,7 @@ ghost use Rattle.reference.specs.Reference.{content};
 ghost use Rattle.reference.specs.Contracts.{referenceRead, valuesIn, labelPart};
 ghost use Rattle.cundarivo.specs.ReferenceText.{referenceAnswer, refusedAnswer, labelAnswer};
 use channel::Code;
+use channel::fill_codes;
 use lent::fill_table;
 use limits::PLACES;
 use reference::read::label_part;
@@ -74,7 +75,7 @@ pub extern "C" fn cundarivo_read_reference(
     }
     fill_table(table, &values, places);
     let read_codes = reference.codes;
-    copy_codes(&read_codes[..n], codes);
+    fill_codes(codes, &read_codes, n);
     let outcome = reference.outcome;
     ReferenceAnswer {
         number: refusal::number_of(outcome),

@@ -4,15 +4,15 @@ use mathlib.Core.Path.{ap, _∙_}
 use Prim.Native.Nat.{ℕ, _≤_}
 use lib.ListN.{length}
 use Rattle.text.specs.Parts.{same}
-use Rattle.channel.specs.Channel.{houseTypes, tagOf}
+use Rattle.channel.specs.Channel.{channelTypes, tagOf}
 use Rattle.limits.specs.Limits.{tagLimit}
 use Rattle.channel.specs.ContractLaws.{house-short, type-short, tag-within, tag-taken}
 use Rattle.channel.proofs.is_tag.Statement.{statement}
 use Rattle.channel.proofs.is_tag.Tie as tie
 
 -- a tag of the table has at most three bytes
-short : (code : ℕ) → length (tagOf houseTypes code) ≤ tagLimit
-short = type-short houseTypes house-short
+short : (code : ℕ) → length (tagOf channelTypes code) ≤ tagLimit
+short = type-short channelTypes house-short
 
 tag-of-requires : tie.Need-tag-of-requires
 tag-of-requires c κs = search needs

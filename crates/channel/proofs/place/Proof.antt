@@ -20,6 +20,9 @@ returns-2 c =
     let code = c .before .before .args .code in
     type-place code (omega arith) ∙ List·getD-eq-default houseTypes noType {n = code - 1} (omega arith)
 
+cast-if2 : tie.Need-cast-if2
+cast-if2 c = search needs
+
 sub-result : tie.Need-sub-result
 sub-result c = search needs
 
@@ -30,4 +33,4 @@ returns-3 : tie.Need-returns-3
 returns-3 c = type-place (c .before .before .args .code) (omega arith)
 
 pub place-spec : {M : Type 1} → statement M
-place-spec = tie.close (tie.spec returns returns-2 sub-result cast-result returns-3)
+place-spec = tie.close (tie.spec returns cast-if2 returns-2 sub-result cast-result returns-3)
