@@ -5,7 +5,6 @@
 --     panelOf D f               the panel: the nearest step of each of the n channels, places past n 0
 --     panelShown D types f      what the panel shows
 use Prim.Native.Nat.{ℕ, suc, _+_, _*_, _/_}
-use mathlib.Core.List.{List}
 use lib.IntN.{ℤ, pos, negsuc, negℤ}
 use lib.ListN.{replicate}
 use Rattle.refusal.specs.Number.{outside-limits}

@@ -10,20 +10,17 @@
 --     tight-within                        2.14: the figures of a ball of which demand 3 holds are within their limits
 --     drawnFigures n codes drawing        the figures of a drawing for n channels of these codes
 --     drawn-within, checked-within        those of an accepted drawing and of an accepted check are within their limits, with known codes
-use Prim.Native.Nat.{ℕ, _+_, _≤_, _<_}
-use mathlib.Core.Path.{_≡_, refl, sym, ap, ap₂, _∙_}
+use Prim.Native.Nat.{ℕ, _≤_, _<_}
+use mathlib.Core.Path.{_≡_, ap, ap₂, _∙_}
 use mathlib.Core.Bool.{true, false, _&&_}
-use mathlib.Core.List.{List, [], _∷_, _++_}
-use native.Mathlib.Nat.{le-trans, not-suc-le-zero}
-use native.Mathlib.Numerals.{add-one}
+use mathlib.Core.List.{List}
+use native.Mathlib.Nat.{le-trans}
 use native.Mathlib.Omega.{arith}
 use borrow.Author.Tests.{leb-true, le-leb}
 use lib.Dec.{leb}
 use lib.IntN.{ℤ, natAbs}
-use lib.ListN.{length, getD, take}
-use lib.Seq.{take-suc, getD-take, length-take-le}
-use Rattle.integers.specs.Tests.{both, clash, refuted, range-in}
-use Rattle.lists.specs.Each.{Each, each-cons, each-head, each-tail, each-append}
+use lib.ListN.{length, take}
+use Rattle.integers.specs.Tests.{both, refuted, range-in}
 use Rattle.refusal.specs.declared.Outcome.the-variants.{Accepted}
 use Rattle.geometry.specs.Table.{coordinate, placesWithin}
 use Rattle.limits.specs.Limits.{total, channelLimit, centreLimit, distanceLimit, budgetLimit}
@@ -40,8 +37,7 @@ use Rattle.ball.specs.Demand.{drawing-accepted, drawing-is, drawing-spent, draw
 use Rattle.ball.specs.declared.Ball.{Ball}
 use Rattle.ball.specs.declared.Checked.{Checked}
 use Rattle.ball.specs.declared.Drawing.{Drawing}
-use Rattle.channel.specs.Channel.{Types, known, codesKnown}
-use Rattle.channel.specs.ChannelLaws.{Known}
+use Rattle.channel.specs.Channel.{Types, codesKnown}
 use Rattle.envelope.specs.Figures.{channelCodes, figuresWithin, codesWithin, figuresKnown, figuresOf}
 use Rattle.envelope.specs.declared.Figures.{Figures}
 
