@@ -13,7 +13,7 @@ use Rattle.refusal.specs.declared.Outcome.the-variants.{Accepted}
 use Rattle.limits.specs.Limits.{channelLimit}
 use Rattle.geometry.specs.Places.{centreOf, centreList}
 use Rattle.channel.specs.Channel.{Types}
-use Rattle.envelope.specs.Figures.{figuresWithin}
+use Rattle.envelope.specs.Figures.{figuresKnown}
 use Rattle.envelope.specs.declared.Figures.{Figures}
 use Rattle.chart.specs.declared.panel.PanelShown.{PanelShown}
 
@@ -34,4 +34,4 @@ panelOf D f =
 
 -- 8 for a figure outside its limits
 unfoldable pub panelShown : ℕ → Types → Figures → PanelShown
-panelShown D types f = choose (figuresWithin D types f) (λ _. panelOf D f) (λ _. refusedPanel outside-limits)
+panelShown D types f = choose (figuresKnown D types f) (λ _. panelOf D f) (λ _. refusedPanel outside-limits)
