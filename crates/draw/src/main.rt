@@ -1,10 +1,10 @@
 // `draw < REFERENCE`: reads a reference text from standard input, and writes to standard output the record of the drawing of its rows,
 // or the refusal.
+use program_draw::OUTPUT_MOST;
 use program_io::arguments::arguments;
+use program_io::streams::TEXT_READ;
 use program_io::streams::read_standard_input;
 use program_io::streams::write_output;
-use service::TEXT_READ;
-use service::draw::OUTPUT_MOST;
 
 const NAME: [u8; 4] = *b"draw";
 
@@ -19,7 +19,7 @@ fn main() {
     }
     let reference_length = reference_read.length;
     let mut output = [0u8; OUTPUT_MOST];
-    let answer = service::draw::draw(&reference[..reference_length], &mut output);
+    let answer = program_draw::draw(&reference[..reference_length], &mut output);
     let length = answer.length;
     write_output(&NAME, &output[..length]);
 }

@@ -1,11 +1,11 @@
 // `judge REFERENCE RECORD < READINGS`: reads a reference text and a record from files and readings from standard input, and writes to
 // standard output the verdict on each reading, or the refusal of a text.
 use program_io::arguments::arguments;
+use program_io::streams::TEXT_READ;
 use program_io::streams::read_file;
 use program_io::streams::read_standard_input;
 use program_io::streams::write_output;
-use service::TEXT_READ;
-use service::judge::OUTPUT_MOST;
+use program_judge::OUTPUT_MOST;
 
 const NAME: [u8; 5] = *b"judge";
 
@@ -32,7 +32,7 @@ fn main() {
     let record_length = record_read.length;
     let readings_length = readings_read.length;
     let mut output = [0u8; OUTPUT_MOST];
-    let answer = service::judge::judge(
+    let answer = program_judge::judge(
         &reference[..reference_length],
         &record[..record_length],
         &readings[..readings_length],

@@ -1,11 +1,11 @@
 // `panel REFERENCE < RECORD`: reads a reference text from a file and a record from standard input, and writes to standard output tag and
 // shown centre of each channel, or the refusal.
 use program_io::arguments::arguments;
+use program_io::streams::TEXT_READ;
 use program_io::streams::read_file;
 use program_io::streams::read_standard_input;
 use program_io::streams::write_output;
-use service::TEXT_READ;
-use service::panel::OUTPUT_MOST;
+use program_panel::OUTPUT_MOST;
 
 const NAME: [u8; 5] = *b"panel";
 
@@ -26,7 +26,7 @@ fn main() {
     let reference_length = reference_read.length;
     let record_length = record_read.length;
     let mut output = [0u8; OUTPUT_MOST];
-    let answer = service::panel::panel(
+    let answer = program_panel::panel(
         &reference[..reference_length],
         &record[..record_length],
         &mut output,

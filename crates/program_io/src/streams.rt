@@ -9,11 +9,15 @@ use crate::descriptor::read_descriptor;
 use libc::ENAMETOOLONG;
 use libc::STDIN_FILENO;
 use libc::STDOUT_FILENO;
+use limits::TEXT_MOST;
 use message::fail_argument;
 use message::fail_file;
 use message::fail_input;
 use message::fail_output;
 use message::tell_missing;
+
+// The most bytes that a program reads of each of its texts, one more than a text may have: what follows them changes no output.
+pub const TEXT_READ: usize = TEXT_MOST + 1;
 
 // Reads the file of this name. What fails is told before the file is closed, while its reason stands.
 fn read_named(program: &[u8], name: &[u8], text: &mut [u8]) -> TextRead

@@ -29,8 +29,12 @@ use Rattle.record_form.specs.Record.{form}
 use Rattle.record.specs.Contracts.{notRead, givenWithin, formAnswer, recordRead}
 use Rattle.record.specs.declared.EnvelopeRead.{EnvelopeRead}
 use Rattle.text.specs.EndedLines.{linesWithEnds}
-use Rattle.service.specs.Lines.{printRefusal, printAccepted, printVerdicts}
-use Rattle.service.specs.Programs.{unlessRefused, contentOutput, drawOutput, contentAgainst, recordAgainst, ofFigures, verifyOutput, shownOutput, panelOutput, readingsOutput, judgeOutput}
+use Rattle.program_lines.specs.Lines.{printRefusal, printAccepted, printVerdicts}
+use Rattle.program_draw.specs.Output.{contentOutput, drawOutput}
+use Rattle.program_judge.specs.Output.{readingsOutput, judgeOutput}
+use Rattle.program_panel.specs.Output.{shownOutput, panelOutput}
+use Rattle.program_record.specs.Against.{unlessRefused, contentAgainst, recordAgainst, ofFigures}
+use Rattle.program_verify.specs.Output.{verifyOutput}
 
 abbrev pub readLimit : ℕ
 readLimit = textLimit + 1

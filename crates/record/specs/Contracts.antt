@@ -11,9 +11,6 @@
 --     ballAnswer D limit rows m codes stated ball    the same for what the reader of the form hands over, if there is this ball
 --     statedAnswer D limit rows m codes stated       the same for what it hands over
 --     Agreeing rows m n codes stated                 what is asked of that
---     notWritten outcome, written length             the answers of writing
---     Part buffer count                              the buffer has so many first places
---     textWritten text places                        what writing a text to so many places answers
 --     recordWritten D limit types rows m e places    what writing to so many places answers
 use Prim.Native.Nat.{ℕ, _≤_}
 use mathlib.Core.Path.{_≡_}
@@ -42,6 +39,7 @@ use Rattle.record_form.specs.Record.{Record, Form, faulty, sound, form}
 use Rattle.record_form.specs.Weights.{weightsOf}
 use Rattle.record_form.specs.declared.form.Stated.{Stated}
 use Rattle.record_print.specs.Printed.{recordText}
+use Rattle.lent.specs.Contracts.{notWritten, textWritten}
 use Rattle.record.specs.declared.EnvelopeRead.{EnvelopeRead}
 use Rattle.lent.specs.declared.TextWritten.{TextWritten}
 

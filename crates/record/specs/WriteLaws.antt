@@ -30,6 +30,7 @@ use Rattle.envelope.specs.Agreement.{agrees}
 use Rattle.envelope.specs.declared.Figures.{Figures}
 use Rattle.envelope.specs.declared.Envelope.{Envelope}
 use Rattle.record_print.specs.Printed.{recordText, Printing}
+use Rattle.lent.specs.ContractLaws.{text-short, text-fits}
 use Rattle.record.specs.Contracts.{recordWritten}
 use Rattle.lent.specs.Contracts.{notWritten, written, textWritten}
 use Rattle.lent.specs.declared.TextWritten.{TextWritten}

@@ -74,7 +74,7 @@ fn a_word_does_not_spare_it_the_start_anew() {
     let repository = Repository::new(WRITES_VARIABLES);
     for (word, line) in [
         ("clean", "FAILED: the variable CUNDARIVO_SEED is set\n"),
-        ("quick", "FAILED: it takes no arguments\n"),
+        ("quick", "FAILED: it takes --changed or no argument\n"),
     ] {
         let mut command = command(root().join("test"));
         command.env_clear().env("CUNDARIVO_SEED", "5").arg(word);

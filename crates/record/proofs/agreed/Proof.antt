@@ -29,14 +29,14 @@ radius-fits c = search needs
 floor-fits : (c : tie.After-struct-told) → SFits w64 (c .before .before .before .before .before .before .before .args .stated .floor)
 floor-fits c = search needs
 
-array-share-prefix-codes : tie.Need-array-share-prefix-codes
-array-share-prefix-codes c = omega (arith, type-places (c .before .before), c .before .before .pre .channels)
+array-share-prefix-stated-codes : tie.Need-array-share-prefix-stated-codes
+array-share-prefix-stated-codes c = omega (arith, type-places (c .before .before), c .before .before .pre .channels)
 
-slice-aggregate-same-bytes : tie.Need-slice-aggregate-same-bytes
-slice-aggregate-same-bytes c = sym (length-take-le _ _ (array-share-prefix-codes (c .before)))
+slice-aggregate-same-codes : tie.Need-slice-aggregate-same-codes
+slice-aggregate-same-codes c = sym (length-take-le _ _ (array-share-prefix-stated-codes (c .before)))
 
-same-bytes-requires : tie.Need-same-bytes-requires
-same-bytes-requires c κs = search needs
+same-codes-requires : tie.Need-same-codes-requires
+same-codes-requires c κs = search needs
 
 not-read-requires : tie.Need-not-read-requires
 not-read-requires c κs = search needs
@@ -47,12 +47,12 @@ returns c =
     let args = test .before .before .before .before .args in
     c .not-read .ensures
     ∙ codes-differ total rowLimit (now (args .rows)) (args .m) (now (args .codes)) (args .stated)
-    (sym (test .same-bytes .ensures) ∙ not-true _ (c .before .if1 .taken))
+    (sym (test .same-codes .ensures) ∙ not-true _ (c .before .if1 .taken))
 
 -- past the first test n and the tags are those given
 same-codes : (c : tie.Else1) → let args = c .before .before .before .before .before .args in
     same (now (args .codes)) (take (args .stated .n) (args .stated .codes)) ≡ true
-same-codes c = sym (c .before .same-bytes .ensures) ∙ not-false _ (c .if1 .left)
+same-codes c = sym (c .before .same-codes .ensures) ∙ not-false _ (c .if1 .left)
 
 not-read-requires-2 : tie.Need-not-read-requires-2
 not-read-requires-2 c κs = search needs
@@ -129,9 +129,9 @@ pub agreed-spec : {M : Type 1} → statement M
 agreed-spec =
     tie.close
     (tie.spec
-    array-share-prefix-codes
-    slice-aggregate-same-bytes
-    same-bytes-requires
+    array-share-prefix-stated-codes
+    slice-aggregate-same-codes
+    same-codes-requires
     not-read-requires
     returns
     not-read-requires-2

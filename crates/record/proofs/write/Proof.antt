@@ -21,7 +21,7 @@ use Rattle.record_print.specs.Printed.{recordText}
 use Rattle.lent.specs.Contracts.{textWritten}
 use Rattle.record.specs.WriteLaws.{within-printing, outside-figures, outside-rows, refused-writing, writing-agreed}
 use Rattle.record.proofs.WriteSteps.{lent-within, printed-text, printed-fits}
-use Rattle.lent.proofs.ContractLaws.{buffer-left}
+use Rattle.lent.specs.ContractLaws.{buffer-left}
 use Rattle.record.proofs.write.Statement.{statement}
 use Rattle.record.proofs.write.Tie as tie
 

@@ -1,0 +1,102 @@
+-- The record of a drawing as draw prints it.
+--     drawn-put     where the rows of a text are drawn, and the record of the drawing is written, that is what draw prints
+use Prim.Native.Nat.{ℕ, _*_, _≤_}
+use mathlib.Core.Path.{_≡_, refl, sym, ap, ap₂, _∙_}
+use mathlib.Core.Bool.{true}
+use mathlib.Core.List.{List, _++_}
+use native.Mathlib.Omega.{arith}
+use lib.IntN.{ℤ}
+use lib.ListN.{length, take, drop, length-append, length-drop}
+use lib.Seq.{take-at, take-length}
+use Rattle.lent.specs.Filled.{filled}
+use Rattle.lists.specs.Padded.{padded}
+use Rattle.refusal.specs.Outcome.{numberOf}
+use Rattle.limits.specs.Limits.{total, rowLimit, channelLimit}
+use Rattle.ball.specs.Draw.{drawing}
+use Rattle.ball.specs.Contracts.{DrawPromise}
+use Rattle.ball.specs.declared.Drawing.{Drawing}
+use Rattle.printing.specs.Contracts.{Put}
+use Rattle.printing.specs.ContractLaws.{put-as}
+use Rattle.channel.specs.Channel.{channelTypes, codesKnown}
+use Rattle.channel.specs.ChannelLaws.{house-sound}
+use Rattle.reference_rows.specs.Rows.{tableOf}
+use Rattle.reference.specs.ReferenceLaws.{accepted-within}
+use Rattle.reference.specs.declared.read.Reference.{Reference}
+use Rattle.channel.specs.CodesLaws.{each-codes}
+use Rattle.envelope.specs.Agreement.{drawnEnvelope}
+use Rattle.envelope.specs.declared.Envelope.{Envelope}
+use Rattle.record_print.specs.Printed.{recordText}
+use Rattle.record.specs.Contracts.{recordWritten}
+use Rattle.lent.specs.Contracts.{written}
+use Rattle.record.specs.HouseLaws.{house-drawn-most, house-drawn-written}
+use Rattle.lent.specs.declared.TextWritten.{TextWritten}
+use Rattle.program_draw.specs.Output.{drawBudget, drawOutput}
+use Rattle.program_draw.specs.OutputLaws.{draw-accepted, draw-record}
+use Rattle.program_draw.specs.Contracts.{drawRoom}
+use Rattle.program_record.proofs.ReadSteps.{RowsRead}
+
+-- a slice whose first places are filled with a text
+filled-put : (text out : List ℕ) → length text ≤ length out → Put text out 0 (filled 0 (length text) text out) (length text)
+unfolding filled
+filled-put text out room =
+    let first : take (length text) text ≡ text = take-length text in
+    let parts : filled 0 (length text) text out ≡ text ++ drop (length text) out = ap (λ (l : List ℕ). l ++ drop (length text) out) first in
+    record {
+      next = omega arith;
+      is = ap (take (length text)) parts ∙ take-at text (drop (length text) out) (length text) refl;
+      same-length = ap length parts ∙ length-append text (drop (length text) out) ∙ omega (arith, length-drop (length text) out);
+    }
+
+module _ {text : List ℕ} {r : Reference} {table : List ℤ} (read : RowsRead text r table) {d : Drawing}
+    (promise : DrawPromise (take (r .m * r .n) table) (r .m) (r .n) drawBudget d) where
+  -- the rows, and how many there are
+  abbrev rows : List ℤ
+  rows = tableOf (read .rows)
+
+  abbrev m : ℕ
+  m = length (read .rows)
+
+  abbrev n : ℕ
+  n = length (read .codes)
+
+  abbrev own : Envelope
+  own = drawnEnvelope n (padded channelLimit (read .codes)) (drawing total rowLimit rows m n drawBudget)
+
+  own-is : drawnEnvelope (r .n) (r .codes) d ≡ own
+  own-is =
+      ap (drawnEnvelope (r .n) (r .codes)) (promise .is ∙ ap (λ (l : List ℤ). drawing total rowLimit l (r .m) (r .n) drawBudget) (read .first))
+      ∙ ap (λ (x : Reference). drawnEnvelope (x .n) (x .codes) (drawing total rowLimit rows (x .m) (x .n) drawBudget)) (read .answer)
+
+  known : codesKnown channelTypes (read .codes) ≡ true
+  known = each-codes channelTypes (read .codes) (accepted-within rowLimit channelTypes text (read .codes) (read .rows) (read .is) .heading .each-known)
+
+  module _ (out : List ℕ) (room : drawRoom ≤ length out) where
+    own-room : length (recordText channelTypes own) ≤ length out
+    own-room =
+        omega (
+          arith,
+          house-drawn-most rows m n (read .codes) refl known drawBudget
+              (draw-accepted total rowLimit channelTypes text (read .codes) (read .rows) (read .is) house-sound),
+          room,
+        )
+
+    own-written : {w : TextWritten} → w ≡ recordWritten total rowLimit channelTypes (take (r .m * r .n) table) (r .m) (drawnEnvelope (r .n) (r .codes) d) (length out)
+        → w ≡ written (length (recordText channelTypes own))
+    own-written e =
+        e
+        ∙ ap₂ (λ (l : List ℤ) (x : Envelope). recordWritten total rowLimit channelTypes l (r .m) x (length out)) (read .first) own-is
+        ∙ ap (λ (x : Reference). recordWritten total rowLimit channelTypes rows (x .m) own (length out)) (read .answer)
+        ∙ house-drawn-written rows m n (read .codes) refl known drawBudget
+        (draw-accepted total rowLimit channelTypes text (read .codes) (read .rows) (read .is) house-sound) (length out) room
+
+    pub drawn-put : {out′ : List ℕ} {w : TextWritten} → w ≡ recordWritten total rowLimit channelTypes (take (r .m * r .n) table) (r .m) (drawnEnvelope (r .n) (r .codes) d) (length out)
+        → out′ ≡ filled (numberOf (w .outcome)) (w .length) (recordText channelTypes (drawnEnvelope (r .n) (r .codes) d)) out
+        → Put (drawOutput total rowLimit channelTypes text) out 0 out′ (w .length)
+    drawn-put {out′ = out′} e f =
+        let answer = own-written e in
+        let record-is = recordText channelTypes own in
+        let after : out′ ≡ filled 0 (length record-is) record-is out =
+        f ∙ ap₂ (λ (x : TextWritten) (y : Envelope). filled (numberOf (x .outcome)) (x .length) (recordText channelTypes y) out) answer own-is in
+        let put : Put record-is out 0 out′ (length record-is) = rw after (filled-put record-is out own-room) in
+        put-as put (sym (draw-record total rowLimit channelTypes text (read .codes) (read .rows) (read .is) house-sound))
+        (ap (λ (x : TextWritten). x .length) (sym answer))

@@ -1,0 +1,2 @@
+-- What the proofs of `draw` use.
+pub mod DrawSteps

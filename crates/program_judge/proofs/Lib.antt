@@ -1,0 +1,2 @@
+-- What the proofs of `judge` use.
+pub mod JudgeSteps

@@ -1,0 +1,2 @@
+-- What the proofs of the programs use of printed lines.
+pub mod LineSteps

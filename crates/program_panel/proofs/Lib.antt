@@ -1,0 +1,2 @@
+-- What the proofs of `panel` use.
+pub mod PanelSteps

@@ -1,0 +1,115 @@
+-- The panel as it is printed, channel by channel.
+--     StepPut, step-put              a tag, a comma and a step, with room for byte 10
+--     Steps types steps out₀ ..      the first channels are printed
+--     steps-start, -next, -done      before the first, after one more, and after the last
+--     Shown f steps, shown           the panel of an accepted record: its figures have their types, and its lines are what is owed
+use Prim.Native.Nat.{ℕ, _+_, _*_, _^_, _≤_, _<_}
+use mathlib.Core.Path.{_≡_, refl, sym, ap, ap₂, _∙_}
+use mathlib.Core.List.{List, [], _∷_, _++_}
+use native.Mathlib.Omega.{arith}
+use lib.IntN.{ℤ, pos, natAbs}
+use lib.ListN.{length, getD, set, take, length-set}
+use lib.Seq.{length-take-le}
+use Rattle.refusal.specs.declared.Outcome.{Outcome}
+use Rattle.refusal.specs.declared.Outcome.the-variants.{Accepted}
+use Rattle.limits.specs.Limits.{total, rowLimit, channelLimit}
+use Rattle.text.specs.Parts.{comma, lineEnd}
+use Rattle.number.specs.Number.{print}
+use Rattle.number.specs.NumberLaws.{print-short}
+use Rattle.printing.specs.Contracts.{numbersAfter, printNumbers, Put}
+use Rattle.printing.specs.ContractLaws.{put-none, put-byte, put-then, put-as, put-ended, take-next, numbers-none, numbers-more}
+use Rattle.channel.specs.Channel.{channelTypes, tagOf}
+use Rattle.channel.specs.ChannelLaws.{house-sound}
+use Rattle.channel.specs.ContractLaws.{house-short, type-short}
+use Rattle.envelope.specs.Figures.{figuresWithin}
+use Rattle.envelope.specs.FigureLaws.{within-figures}
+use Rattle.envelope.specs.declared.Figures.{Figures}
+use Rattle.record.specs.declared.EnvelopeRead.{EnvelopeRead}
+use Rattle.chart.specs.Panel.{panelShown}
+use Rattle.chart.specs.OwnLaws.{figures-shown}
+use Rattle.chart.specs.declared.panel.PanelShown.{PanelShown}
+use Rattle.program_lines.specs.Lines.{printSteps}
+use Rattle.program_panel.specs.Output.{shownOutput}
+use Rattle.program_record.specs.Against.{unlessRefused, recordAgainst}
+use Rattle.program_panel.specs.Contracts.{stepRoom}
+use Rattle.program_panel.specs.OutputLaws.{steps-none, steps-more, steps-first}
+use Rattle.program_record.specs.AgainstLaws.{against-within}
+
+-- where the tag ends
+pub tag-end : (code : ℕ) {out out′ : List ℕ} {at end : ℕ} → at + stepRoom ≤ length out → Put (tagOf channelTypes code) out at out′ end
+    → (end ≤ at + 3) × (end + 29 ≤ length out′)
+tag-end code room f =
+    let short = type-short channelTypes house-short code in
+    (omega (arith, f .next, short), omega (arith, f .next, short, f .same-length))
+
+pub record StepPut (code : ℕ) (step : ℤ) (out : List ℕ) (at : ℕ) (out′ : List ℕ) (r : ℕ) : Type 0 where
+  pub within : r < length out′
+  pub end : r + 1 ≤ at + stepRoom
+  pub line : Put (printNumbers (tagOf channelTypes code) (step ∷ [])) out at (set out′ r lineEnd) (r + 1)
+
+pub step-put : (code : ℕ) (step : ℤ) {out a b : List ℕ} {at end r : ℕ} → at + stepRoom ≤ length out → natAbs step < 10 ^ 10
+    → Put (tagOf channelTypes code) out at a end → Put (print step) (set a end comma) (end + 1) b r → StepPut code step out at b r
+step-put code step {a = a} {b} {at} {end} {r} room small f g =
+    let tag = tagOf channelTypes code in
+    let ends = tag-end code room f in
+    let short = print-short 10 step (omega arith) small in
+    let within : r < length b = omega (arith, g .next, g .same-length, length-set a end comma, ends .1) in
+    let printed = put-then f (put-then (put-byte a end comma (omega (arith, ends .1))) g) in
+    let is : tag ++ (comma ∷ print step) ≡ numbersAfter tag (step ∷ []) =
+    ap (λ (l : List ℕ). l ++ (comma ∷ print step)) (sym (numbers-none tag)) ∙ sym (numbers-more tag [] step) in
+    record { within = within; end = omega (arith, g .next, ends .0); line = put-ended (put-as printed is refl) within }
+
+pub record Steps (types : List ℕ) (steps : List ℤ) (n : ℕ) (out₀ out : List ℕ) (from i : ℕ) : Type 0 where
+  pub within : i ≤ n
+  pub most : from ≤ i * stepRoom
+  pub put : Put (printSteps channelTypes (take i types) (take i steps)) out₀ 0 out from
+
+module _ (types : List ℕ) (steps : List ℤ) (n : ℕ) where
+  pub steps-start : (out : List ℕ) → Steps types steps n out out 0 0
+  steps-start out = record { within = omega arith; most = omega arith; put = put-as (put-none out 0) (sym (steps-none channelTypes [])) refl }
+
+  pub steps-next : {out₀ out out′ : List ℕ} {from i r : ℕ} → n ≤ length types → n ≤ length steps → i < n → Steps types steps n out₀ out from i
+      → r ≤ from + stepRoom → Put (printNumbers (tagOf channelTypes (getD types i 0)) (getD steps i (pos 0) ∷ [])) out from out′ r
+      → Steps types steps n out₀ out′ r (i + 1)
+  steps-next {i = i} typed placed below s room f =
+      record {
+        within = omega arith;
+        most = omega (arith, s .most);
+        put =
+            put-as (put-then (s .put) f)
+            (steps-more channelTypes (take i types) (take i steps) (getD types i 0) (getD steps i (pos 0))
+            (length-take-le i types (omega arith) ∙ sym (length-take-le i steps (omega arith)))
+            ∙ ap₂ (printSteps channelTypes) (take-next types i 0 (omega arith)) (take-next steps i (pos 0) (omega arith))) refl;
+      }
+
+  pub steps-done : {out₀ out : List ℕ} {from i : ℕ} → n ≤ i → Steps types steps n out₀ out from i
+      → Put (printSteps channelTypes (take n types) (take n steps)) out₀ 0 out from
+  steps-done {i = i} h s =
+      let all : i ≡ n = omega (arith, s .within) in
+      put-as (s .put) (ap (λ (k : ℕ). printSteps channelTypes (take k types) (take k steps)) all) refl
+
+pub record Shown (f : Figures) (steps : List ℤ) : Type 0 where
+  pub channels : f .n ≤ channelLimit
+  pub typed : f .n ≤ length (f .codes)
+  pub is : printSteps channelTypes (take (f .n) (f .codes)) (take (f .n) steps) ≡ shownOutput total channelTypes f
+
+pub shown : (read : EnvelopeRead) (reference text : List ℕ) → read ≡ recordAgainst total rowLimit channelTypes reference text → read .outcome ≡ Accepted
+    → (panel : PanelShown) → panel ≡ panelShown total channelTypes (read .envelope .figures) → Shown (read .envelope .figures) (panel .steps)
+shown read reference text is accepted panel panel-is =
+    let f = read .envelope .figures in
+    let same : recordAgainst total rowLimit channelTypes reference text .outcome ≡ Accepted = ap (λ (r : EnvelopeRead). r .outcome) (sym is) ∙ accepted in
+    let within = ap (λ (r : EnvelopeRead). figuresWithin total channelTypes (r .envelope .figures)) is
+    ∙ against-within total rowLimit channelTypes house-sound (omega arith) reference text same in
+    let limits = within-figures total channelTypes f within in
+    let codes = take (f .n) (f .codes) in
+    let count : length codes ≡ f .n = length-take-le (f .n) (f .codes) (limits .typed) in
+    record {
+      channels = limits .channels;
+      typed = limits .typed;
+      is =
+          ap (λ (k : ℕ). printSteps channelTypes codes (take k (panel .steps))) (sym count)
+          ∙ steps-first channelTypes codes (panel .steps)
+          ∙ ap (λ (p : PanelShown). printSteps channelTypes codes (p .steps)) panel-is
+          ∙ ap (λ (o : Outcome). unlessRefused o (λ _. printSteps channelTypes codes (panelShown total channelTypes f .steps)))
+          (sym (figures-shown total channelTypes f within));
+    }

@@ -1,0 +1,38 @@
+-- The output is printed into an array with room for every output, and handed out from there.
+use borrow.Author.Needs.{needs}
+use Rattle.program_lines.proofs.LineSteps.{handed}
+use Rattle.program_panel.proofs.panel.Statement.{statement}
+use Rattle.program_panel.proofs.panel.Tie as tie
+
+slice-aggregate-put-output : tie.Need-slice-aggregate-put-output
+slice-aggregate-put-output c = search needs
+
+put-output-requires : tie.Need-put-output-requires
+put-output-requires c κs = search needs
+
+array-share-prefix-text : tie.Need-array-share-prefix-text
+array-share-prefix-text c = search needs
+
+slice-aggregate-hand-out : tie.Need-slice-aggregate-hand-out
+slice-aggregate-hand-out c = search needs
+
+hand-out-requires : tie.Need-hand-out-requires
+hand-out-requires c κs = search needs
+
+same-length : tie.Need-same-length
+same-length c = search needs
+
+returns : tie.Need-returns
+returns c = handed _ _ _ (c .before .before .before .before .before .before .put-output .ensures) (c .before .before .hand-out .ensures)
+
+pub panel-spec : {M : Type 1} → statement M
+panel-spec =
+    tie.close
+    (tie.spec
+    slice-aggregate-put-output
+    put-output-requires
+    array-share-prefix-text
+    slice-aggregate-hand-out
+    hand-out-requires
+    same-length
+    returns)

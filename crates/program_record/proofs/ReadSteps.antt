@@ -1,0 +1,122 @@
+-- A reference text that is read into a table with room for every text.
+--     TableRead text r table        the answer to the text and the table after it
+--     table-read                    as the call promises it
+--     RowsRead text r table         the rows and codes of an accepted text, where they stand
+--     rows-read                     an accepted text has them
+--     refused-read                  a refused text
+--     record-read                   a record that is read against them
+use Prim.Native.Nat.{ℕ, _*_, _≤_}
+use mathlib.Core.Path.{_≡_, refl, sym, ap, ap₂, _∙_}
+use mathlib.Core.List.{List}
+use native.Mathlib.Nat.{mul-le-mul}
+use native.Mathlib.Omega.{arith}
+use lib.IntN.{ℤ}
+use lib.ListN.{length, take, drop}
+use lib.Seq.{take-at, take-length, length-take-le}
+use Rattle.lent.specs.Filled.{filled}
+use Rattle.lists.specs.Padded.{padded-first}
+use Rattle.refusal.specs.Outcome.{numberOf, lineOf, refusedAt}
+use Rattle.refusal.specs.declared.Refusal.{Refusal}
+use Rattle.refusal.specs.declared.Outcome.the-variants.{Accepted, Refused}
+use Rattle.limits.specs.Limits.{total, rowLimit, channelLimit}
+use Rattle.channel.specs.Channel.{channelTypes}
+use Rattle.reference_rows.specs.Row.{Row}
+use Rattle.reference_rows.specs.Rows.{Content, faulty, sound, tableOf}
+use Rattle.reference.specs.Reference.{content}
+use Rattle.reference.specs.ReferenceLaws.{accepted-rows}
+use Rattle.reference.specs.TableLaws.{table-length}
+use Rattle.reference.specs.Contracts.{answerOf, referenceRead, valuesIn}
+use Rattle.reference.specs.ContractLaws.{answer-types, answer-rows, answer-channels, read-room}
+use Rattle.reference.specs.declared.read.Reference.{Reference}
+use Rattle.record.specs.Contracts.{recordRead}
+use Rattle.program_record.specs.Against.{recordAgainst}
+use Rattle.program_record.specs.AgainstLaws.{against-sound}
+
+abbrev contentIs : List ℕ → Content
+contentIs = content rowLimit channelTypes
+
+pub record TableRead (text : List ℕ) (r : Reference) (table : List ℤ) : Type 0 where
+  pub is : r ≡ answerOf (contentIs text)
+  pub places : r .m * r .n ≤ 2048
+  pub within : r .m * r .n ≤ length table
+  pub channels : r .n ≤ 8
+  pub typed : r .n ≤ length (r .codes)
+  pub values : List ℤ
+  pub table-is : table ≡ filled (numberOf (r .outcome)) (r .m * r .n) (valuesIn (contentIs text)) values
+
+pub table-read : {text : List ℕ} {r : Reference} {table : List ℤ} (values : List ℤ) → r ≡ referenceRead rowLimit channelTypes text 2048
+    → table ≡ filled (numberOf (r .outcome)) (r .m * r .n) (valuesIn (contentIs text)) values → 2048 ≤ length table → TableRead text r table
+table-read {text} {r} {table} values e f long =
+    let is = e ∙ read-room rowLimit channelTypes text 2048 (omega arith) in
+    let rows = ap (λ (x : Reference). x .m) is in
+    let channels : r .n ≤ 8 = omega (arith, ap (λ (x : Reference). x .n) is, answer-channels rowLimit channelTypes text) in
+    let places : r .m * r .n ≤ 2048 = mul-le-mul {n₂ = 256} {m₂ = 8} (omega (arith, rows, answer-rows rowLimit channelTypes text)) channels in
+    record {
+      is = is;
+      places = places;
+      within = omega arith;
+      channels = channels;
+      typed = omega (arith, ap (λ (x : Reference). length (x .codes)) is, answer-types (contentIs text));
+      values = values;
+      table-is = f;
+    }
+
+-- the first places of a table that is filled are the source's
+filled-first : (number count : ℕ) (source lent table : List ℤ) → number ≡ 0 → length source ≡ count → table ≡ filled number count source lent
+    → take count table ≡ source
+unfolding filled
+filled-first number count source lent table accepted long e =
+    ap (take count) (e ∙ ap (λ (k : ℕ). filled k count source lent) accepted)
+    ∙ take-at (take count source) (drop count lent) count (length-take-le count source (omega arith))
+    ∙ ap (λ (k : ℕ). take k source) (sym long) ∙ take-length source
+
+pub record RowsRead (text : List ℕ) (r : Reference) (table : List ℤ) : Type 0 where
+  pub codes : List ℕ
+  pub rows : List Row
+  pub is : contentIs text ≡ sound codes rows
+  pub answer : r ≡ answerOf (sound codes rows)
+  pub first : take (r .m * r .n) table ≡ tableOf rows
+  pub typed : take (r .n) (r .codes) ≡ codes
+
+module _ {text : List ℕ} {r : Reference} {table : List ℤ} (t : TableRead text r table) where
+  pub rows-read : r .outcome ≡ Accepted → RowsRead text r table
+  rows-read accepted = go (contentIs text) refl
+    where
+      go : (c : Content) → contentIs text ≡ c → RowsRead text r table
+      go (faulty number line) is =
+          let refused : refusedAt number line ≡ Accepted = ap (λ (x : Reference). x .outcome) (sym (t .is ∙ ap answerOf is)) ∙ accepted in
+          let z : _≡_ {A = ℕ} 0 1 = cc in
+          absurd (omega arith)
+      go (sound codes rows) is =
+          let answer = t .is ∙ ap answerOf is in
+          record {
+            codes = codes;
+            rows = rows;
+            is = is;
+            answer = answer;
+            first =
+                filled-first (numberOf (r .outcome)) (r .m * r .n) (tableOf rows) (t .values) table (ap numberOf accepted)
+                (table-length rowLimit channelTypes text codes rows is ∙ ap (λ (x : Reference). x .m * x .n) (sym answer))
+                (t .table-is ∙ ap (λ (c : Content). filled (numberOf (r .outcome)) (r .m * r .n) (valuesIn c) (t .values)) is);
+            typed = ap (λ (x : Reference). take (x .n) (x .codes)) answer ∙ padded-first channelLimit (length codes) codes refl (accepted-rows rowLimit channelTypes text codes rows is .3);
+          }
+
+  pub refused-read : (refusal : Refusal) → r .outcome ≡ Refused refusal → contentIs text ≡ faulty (refusal .number) (refusal .line)
+  refused-read refusal refused = go (contentIs text) refl
+    where
+      go : (c : Content) → contentIs text ≡ c → c ≡ faulty (refusal .number) (refusal .line)
+      go (faulty number line) is =
+          let same : refusedAt number line ≡ Refused refusal = ap (λ (x : Reference). x .outcome) (sym (t .is ∙ ap answerOf is)) ∙ refused in
+          ap₂ faulty (ap numberOf same) (ap lineOf same)
+      go (sound codes rows) is =
+          let same : Accepted ≡ Refused refusal = ap (λ (x : Reference). x .outcome) (sym (t .is ∙ ap answerOf is)) ∙ refused in
+          let z : _≡_ {A = ℕ} 0 1 = cc in
+          absurd (omega arith)
+
+pub record-read : {text : List ℕ} {r : Reference} {table : List ℤ} → RowsRead text r table → (record-text : List ℕ)
+    → recordRead total rowLimit channelTypes (take (r .m * r .n) table) (r .m) (r .n) (take (r .n) (r .codes)) record-text
+    ≡ recordAgainst total rowLimit channelTypes text record-text
+record-read {text} {r} {table} read record-text =
+    ap₂ (λ (rows : List ℤ) (codes : List ℕ). recordRead total rowLimit channelTypes rows (r .m) (r .n) codes record-text) (read .first) (read .typed)
+    ∙ ap (λ (x : Reference). recordRead total rowLimit channelTypes (tableOf (read .rows)) (x .m) (x .n) (read .codes) record-text) (read .answer)
+    ∙ sym (against-sound total rowLimit channelTypes text (read .codes) (read .rows) (read .is) record-text)
