@@ -3,7 +3,7 @@
 --     quotient-fraction     fractionOf D z is the quotient of z and D, each as a binary64 number
 --     Exact D z x           x is exactly z/D, negative where z is below 0, and 0 is positive
 --     fraction-exact        where the total is a power of two up to 2^1074 and z is less than 2^53 from 0, fractionOf D z is exact
-use Prim.Native.Nat.{ℕ, zero, suc, _+_, _-_, _*_, _^_, _≤_, _<_}
+use Prim.Native.Nat.{ℕ, suc, _+_, _-_, _*_, _^_, _≤_, _<_}
 use mathlib.Core.Path.{_≡_, refl, sym, ap, ap₂, _∙_, subst}
 use mathlib.Core.Bool.{Bool, true, false, cond}
 use native.Mathlib.Nat.{lt-trans, ne-of-gt, mul-one, zero-mul, mul-assoc, mul-pos, mul-comm}

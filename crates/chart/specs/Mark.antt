@@ -10,7 +10,6 @@
 --     chartMark D types f h v        the mark on the chart
 use Prim.Native.Nat.{ℕ, zero, suc, _-_}
 use mathlib.Core.Bool.{Bool, _&&_}
-use mathlib.Core.List.{List}
 use lib.Dec.{leb}
 use lib.IntN.{ℤ, pos}
 use lib.Ieee.{Float}
@@ -18,7 +17,7 @@ use Rattle.refusal.specs.Number.{outside-limits}
 use Rattle.refusal.specs.Outcome.{choose}
 use Rattle.geometry.specs.Places.{centreOf}
 use Rattle.channel.specs.Channel.{Types}
-use Rattle.envelope.specs.Figures.{figuresWithin}
+use Rattle.envelope.specs.Figures.{figuresKnown}
 use Rattle.envelope.specs.declared.Figures.{Figures}
 use Rattle.chart.specs.Fraction.{positiveZero, fractionOf}
 use Rattle.chart.specs.Root.{ceilingRoot}
@@ -66,6 +65,6 @@ markOf D point (suc k) = Disc point (fractionOf D (pos (ceilingRoot (suc k))))
 -- 8 for a figure or a channel outside its limits
 unfoldable pub chartMark : ℕ → Types → Figures → ℕ → ℕ → Mark
 chartMark D types f h v =
-    choose (figuresWithin D types f && (channelWithin (f .n) h && channelWithin (f .n) v))
+    choose (figuresKnown D types f && (channelWithin (f .n) h && channelWithin (f .n) v))
     (λ _. markOf D (projectedCentre D f h v) (f .ball .«scaled_squared_radius»))
     (λ _. refusedMark outside-limits)

@@ -8,12 +8,10 @@
 --     Shows D M x y mark    what the mark shows of M and of x and y, X of the chart's two channels
 --     accepts, accepted     a chart is accepted exactly when figures and channels are within limits
 --     chart-shows           2.12: an accepted chart shows this, for a total that is a power of two up to 65,536
---     chart-lent            the mark does not depend on the ending of the figures
 use Prim.Native.Nat.{ℕ, zero, suc, _-_, _*_, _^_, _≤_, _<_}
 use mathlib.Core.Path.{_≡_, refl, sym, ap, _∙_, subst}
 use mathlib.Core.Logic.{_≢_}
 use mathlib.Core.Bool.{Bool, true, false, _&&_}
-use mathlib.Core.List.{List}
 use native.Mathlib.Nat.{zero-mul, pow-le-pow-right}
 use native.Mathlib.Omega.{arith}
 use borrow.Author.Tests.{leb-true}
@@ -23,8 +21,8 @@ use Rattle.integers.specs.Tests.{both, nonzero}
 use Rattle.refusal.specs.Number.{outside-limits}
 use Rattle.refusal.specs.Outcome.{choose}
 use Rattle.channel.specs.Channel.{Types}
-use Rattle.envelope.specs.Figures.{figuresWithin, lentFigures}
-use Rattle.envelope.specs.FigureLaws.{within-figures}
+use Rattle.envelope.specs.Figures.{figuresKnown}
+use Rattle.envelope.specs.FigureLaws.{known-within}
 use Rattle.envelope.specs.declared.Figures.{Figures}
 use Rattle.chart.specs.Fraction.{fractionOf}
 use Rattle.chart.specs.FractionLaws.{Exact, fraction-exact}
@@ -53,7 +51,7 @@ module _ (D : ℕ) (types : Types) (f : Figures) (h v : ℕ) where
   chosen b =
       choose b (λ _. markOf D (projectedCentre D f h v) (f .ball .«scaled_squared_radius»)) (λ _. refusedMark outside-limits)
 
-  pub chart-marks : figuresWithin D types f ≡ true → channelWithin (f .n) h ≡ true → channelWithin (f .n) v ≡ true
+  pub chart-marks : figuresKnown D types f ≡ true → channelWithin (f .n) h ≡ true → channelWithin (f .n) v ≡ true
       → chartMark D types f h v ≡ markOf D (projectedCentre D f h v) (f .ball .«scaled_squared_radius»)
   unfolding chartMark chosen
   chart-marks figures first second =
@@ -61,21 +59,21 @@ module _ (D : ℕ) (types : Types) (f : Figures) (h v : ℕ) where
       ∙ ap (λ (b : Bool). chosen (b && channelWithin (f .n) v)) first
       ∙ ap chosen second
 
-  refuses : (figuresWithin D types f && (channelWithin (f .n) h && channelWithin (f .n) v)) ≡ false
+  refuses : (figuresKnown D types f && (channelWithin (f .n) h && channelWithin (f .n) v)) ≡ false
       → chartMark D types f h v ≡ refusedMark outside-limits
   unfolding chartMark chosen
   refuses e = ap chosen e
 
-  pub refuses-figures : figuresWithin D types f ≡ false → chartMark D types f h v ≡ refusedMark outside-limits
+  pub refuses-figures : figuresKnown D types f ≡ false → chartMark D types f h v ≡ refusedMark outside-limits
   refuses-figures e = refuses (ap (λ (b : Bool). b && (channelWithin (f .n) h && channelWithin (f .n) v)) e)
 
   pub refuses-horizontal : channelWithin (f .n) h ≡ false → chartMark D types f h v ≡ refusedMark outside-limits
-  refuses-horizontal e = refuses (and-false (figuresWithin D types f) (ap (λ (b : Bool). b && channelWithin (f .n) v) e))
+  refuses-horizontal e = refuses (and-false (figuresKnown D types f) (ap (λ (b : Bool). b && channelWithin (f .n) v) e))
 
   pub refuses-vertical : channelWithin (f .n) v ≡ false → chartMark D types f h v ≡ refusedMark outside-limits
-  refuses-vertical e = refuses (and-false (figuresWithin D types f) (and-false (channelWithin (f .n) h) e))
+  refuses-vertical e = refuses (and-false (figuresKnown D types f) (and-false (channelWithin (f .n) h) e))
 
-  pub accepts : figuresWithin D types f ≡ true → channelWithin (f .n) h ≡ true → channelWithin (f .n) v ≡ true
+  pub accepts : figuresKnown D types f ≡ true → channelWithin (f .n) h ≡ true → channelWithin (f .n) v ≡ true
       → markNumber (chartMark D types f h v) ≡ 0
   accepts figures first second = ap markNumber (chart-marks figures first second) ∙ mark-number (f .ball .«scaled_squared_radius»)
     where
@@ -84,11 +82,11 @@ module _ (D : ℕ) (types : Types) (f : Figures) (h v : ℕ) where
       mark-number (suc k) = refl
 
   pub accepted : markNumber (chartMark D types f h v) ≡ 0
-      → (figuresWithin D types f ≡ true) × (channelWithin (f .n) h ≡ true) × (channelWithin (f .n) v ≡ true)
-  accepted e = go (figuresWithin D types f) refl (channelWithin (f .n) h) refl (channelWithin (f .n) v) refl
+      → (figuresKnown D types f ≡ true) × (channelWithin (f .n) h ≡ true) × (channelWithin (f .n) v ≡ true)
+  accepted e = go (figuresKnown D types f) refl (channelWithin (f .n) h) refl (channelWithin (f .n) v) refl
     where
-      go : (a : Bool) → figuresWithin D types f ≡ a → (b : Bool) → channelWithin (f .n) h ≡ b → (c : Bool) → channelWithin (f .n) v ≡ c
-          → (figuresWithin D types f ≡ true) × (channelWithin (f .n) h ≡ true) × (channelWithin (f .n) v ≡ true)
+      go : (a : Bool) → figuresKnown D types f ≡ a → (b : Bool) → channelWithin (f .n) h ≡ b → (c : Bool) → channelWithin (f .n) v ≡ c
+          → (figuresKnown D types f ≡ true) × (channelWithin (f .n) h ≡ true) × (channelWithin (f .n) v ≡ true)
       go true x true y true z = (x, y, z)
       go true x true y false z = nonzero (sym (ap markNumber (refuses-vertical z)) ∙ e)
       go true x false y c z = nonzero (sym (ap markNumber (refuses-horizontal y)) ∙ e)
@@ -147,7 +145,7 @@ module _ (D e : ℕ) (power : D ≡ 2 ^ e) (most : e ≤ 16) where
       → Shows D (f .ball .«scaled_squared_radius») (channelCentre f h) (channelCentre f v) (chartMark D types f h v)
   chart-shows types f h v a =
       let within = accepted D types f h v a in
-      let limits = within-figures D types f (within .0) in
+      let limits = known-within D types f (within .0) in
       let M = f .ball .«scaled_squared_radius» in
       let small : (channel : ℕ) → channelWithin (f .n) channel ≡ true → natAbs (channelCentre f channel) < 2 ^ 53 =
       λ channel k.
@@ -156,11 +154,3 @@ module _ (D e : ℕ) (power : D ≡ 2 ^ e) (most : e ≤ 16) where
       subst (Shows D M (channelCentre f h) (channelCentre f v)) (sym (chart-marks D types f h v (within .0) (within .1) (within .2)))
       (mark-shows (channelCentre f h) (channelCentre f v) (small h (within .1)) (small v (within .2)) M
       (omega (arith, total-most, root-most D M (limits .radius-limit))))
-
--- the mark does not ask for the ending
-pub chart-lent : (D : ℕ) (types : Types) (f : Figures) (h v : ℕ)
-    → chartMark D types
-    (lentFigures (f .n) (f .codes) (f .ball .«scaled_centre») (f .ball .«scaled_squared_radius») (f .ball .«scaled_lower_bound») (f .moves)) h v
-    ≡ chartMark D types f h v
-unfolding chartMark figuresWithin
-chart-lent D types f h v = refl

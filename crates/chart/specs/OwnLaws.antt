@@ -15,7 +15,7 @@ use Rattle.limits.specs.Limits.{budgetLimit}
 use Rattle.ball.specs.Draw.{drawing}
 use Rattle.ball.specs.Check.{checking}
 use Rattle.channel.specs.Channel.{Types, codesKnown}
-use Rattle.envelope.specs.Figures.{figuresWithin, figuresOf}
+use Rattle.envelope.specs.Figures.{figuresKnown, figuresOf}
 use Rattle.envelope.specs.FigureLaws.{drawnFigures, drawn-within, checked-within}
 use Rattle.envelope.specs.declared.Figures.{Figures}
 use Rattle.chart.specs.Mark.{markNumber, chartMark}
@@ -25,7 +25,7 @@ use Rattle.chart.specs.PanelLaws.{panel-shows}
 use Rattle.chart.specs.declared.panel.PanelShown.{PanelShown}
 
 module _ (D : ℕ) (types : Types) where
-  module _ (f : Figures) (within : figuresWithin D types f ≡ true) where
+  module _ (f : Figures) (within : figuresKnown D types f ≡ true) where
     pub figures-charted : (h v : ℕ) → 1 ≤ h → h ≤ f .n → 1 ≤ v → v ≤ f .n → markNumber (chartMark D types f h v) ≡ 0
     figures-charted h v h-some h-most v-some v-most =
         accepts D types f h v within (range-in 1 (f .n) h h-some h-most) (range-in 1 (f .n) v v-some v-most)
@@ -39,7 +39,7 @@ module _ (D : ℕ) (types : Types) where
       abbrev drawn : Figures
       drawn = drawnFigures n codes (drawing D limit rows m n budget)
 
-      drawn-limits : figuresWithin D types drawn ≡ true
+      drawn-limits : figuresKnown D types drawn ≡ true
       drawn-limits = drawn-within D types n codes typed known positive limit rows m budget accepted
 
       pub drawn-charted : (h v : ℕ) → 1 ≤ h → h ≤ n → 1 ≤ v → v ≤ n → markNumber (chartMark D types drawn h v) ≡ 0
@@ -52,7 +52,7 @@ module _ (D : ℕ) (types : Types) where
       abbrev checked : Figures
       checked = figuresOf n codes (checking D limit rows m n ws .ball) moves
 
-      checked-limits : figuresWithin D types checked ≡ true
+      checked-limits : figuresKnown D types checked ≡ true
       checked-limits = checked-within D types n codes typed known positive limit rows m ws moves accepted most
 
       pub checked-charted : (h v : ℕ) → 1 ≤ h → h ≤ n → 1 ≤ v → v ≤ n → markNumber (chartMark D types checked h v) ≡ 0

@@ -5,7 +5,6 @@
 --     panelOf D f               the panel: the nearest step of each of the n channels, places past n 0
 --     panelShown D types f      what the panel shows
 use Prim.Native.Nat.{ℕ, suc, _+_, _*_, _/_}
-use mathlib.Core.List.{List}
 use lib.IntN.{ℤ, pos, negsuc, negℤ}
 use lib.ListN.{replicate}
 use Rattle.refusal.specs.Number.{outside-limits}
@@ -14,7 +13,7 @@ use Rattle.refusal.specs.declared.Outcome.the-variants.{Accepted}
 use Rattle.limits.specs.Limits.{channelLimit}
 use Rattle.geometry.specs.Places.{centreOf, centreList}
 use Rattle.channel.specs.Channel.{Types}
-use Rattle.envelope.specs.Figures.{figuresWithin}
+use Rattle.envelope.specs.Figures.{figuresKnown}
 use Rattle.envelope.specs.declared.Figures.{Figures}
 use Rattle.chart.specs.declared.panel.PanelShown.{PanelShown}
 
@@ -35,4 +34,4 @@ panelOf D f =
 
 -- 8 for a figure outside its limits
 unfoldable pub panelShown : ℕ → Types → Figures → PanelShown
-panelShown D types f = choose (figuresWithin D types f) (λ _. panelOf D f) (λ _. refusedPanel outside-limits)
+panelShown D types f = choose (figuresKnown D types f) (λ _. panelOf D f) (λ _. refusedPanel outside-limits)

@@ -9,11 +9,9 @@
 --     panel-shows          others are shown
 --     panel-step           then each of the n places is the step of that place of X
 --     panel-past           the places past n are 0, also where refused
---     panel-lent           the panel does not depend on the ending of the figures
 use Prim.Native.Nat.{ℕ, suc, _+_, _*_, _≤_, _<_}
 use mathlib.Core.Path.{_≡_, refl, _∙_, ap}
 use mathlib.Core.Bool.{Bool, true, false}
-use mathlib.Core.List.{List}
 use native.Mathlib.Omega.{arith}
 use native.Mathlib.Decide.{decLt}
 use native.Mathlib.Nat.{mul-div-le, lt-mul-div-succ, lt-of-mul-lt-mul-left, le-of-mul-le-mul-left, mul-le-mul-left}
@@ -27,8 +25,8 @@ use Rattle.limits.specs.Limits.{channelLimit, coordinateLimit, centreLimit}
 use Rattle.geometry.specs.Places.{centreOf}
 use Rattle.geometry.specs.PlacesLaws.{centreList-at, centreList-past, zeros-at}
 use Rattle.channel.specs.Channel.{Types}
-use Rattle.envelope.specs.Figures.{figuresWithin, lentFigures}
-use Rattle.envelope.specs.FigureLaws.{within-figures}
+use Rattle.envelope.specs.Figures.{figuresKnown}
+use Rattle.envelope.specs.FigureLaws.{known-within}
 use Rattle.envelope.specs.declared.Figures.{Figures}
 use Rattle.chart.specs.Panel.{nearestMagnitude, nearestStep, refusedPanel, panelOf, panelShown}
 use Rattle.chart.specs.declared.panel.PanelShown.{PanelShown}
@@ -131,11 +129,11 @@ module _ (D : ℕ) (positive : 0 < D) where
 -- ---- the call
 
 module _ (D : ℕ) (types : Types) (f : Figures) where
-  pub panel-refuses : figuresWithin D types f ≡ false → panelShown D types f ≡ refusedPanel outside-limits
+  pub panel-refuses : figuresKnown D types f ≡ false → panelShown D types f ≡ refusedPanel outside-limits
   unfolding panelShown
   panel-refuses h = rw h
 
-  pub panel-shows : figuresWithin D types f ≡ true → panelShown D types f ≡ panelOf D f
+  pub panel-shows : figuresKnown D types f ≡ true → panelShown D types f ≡ panelOf D f
   unfolding panelShown
   panel-shows h = rw h
 
@@ -146,19 +144,12 @@ module _ (D : ℕ) (types : Types) (f : Figures) where
   abbrev step : ℕ → ℤ
   step k = nearestStep D (centreOf (f .ball .«scaled_centre») k)
 
-  pub panel-step : figuresWithin D types f ≡ true → (k : ℕ) → k < f .n → place k (panelShown D types f) ≡ step k
-  panel-step h k l = ap (place k) (panel-shows h) ∙ centreList-at (f .n) step k (within-figures D types f h .channels) l
+  pub panel-step : figuresKnown D types f ≡ true → (k : ℕ) → k < f .n → place k (panelShown D types f) ≡ step k
+  panel-step h k l = ap (place k) (panel-shows h) ∙ centreList-at (f .n) step k (known-within D types f h .channels) l
 
   pub panel-past : (k : ℕ) → f .n ≤ k → place k (panelShown D types f) ≡ pos 0
-  panel-past k l = go (figuresWithin D types f) refl
+  panel-past k l = go (figuresKnown D types f) refl
     where
-      go : (b : Bool) → figuresWithin D types f ≡ b → place k (panelShown D types f) ≡ pos 0
+      go : (b : Bool) → figuresKnown D types f ≡ b → place k (panelShown D types f) ≡ pos 0
       go true h = ap (place k) (panel-shows h) ∙ centreList-past (f .n) step k l
       go false h = ap (place k) (panel-refuses h) ∙ zeros-at channelLimit k
-
-  -- the panel does not ask for the ending
-  pub panel-lent : panelShown D types
-      (lentFigures (f .n) (f .codes) (f .ball .«scaled_centre») (f .ball .«scaled_squared_radius») (f .ball .«scaled_lower_bound») (f .moves))
-      ≡ panelShown D types f
-  unfolding panelShown figuresWithin
-  panel-lent = refl

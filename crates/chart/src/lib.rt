@@ -9,7 +9,6 @@ ghost use Rattle.limits.specs.Limits.{total, distanceLimit};
 ghost use Rattle.geometry.specs.Places.{centreOf};
 ghost use Rattle.geometry.specs.Contracts.{CentreWithin};
 ghost use Rattle.channel.specs.Channel.{channelTypes};
-ghost use Rattle.envelope.specs.Figures.{lentFigures};
 ghost use Rattle.chart.specs.Fraction.{fractionOf};
 ghost use Rattle.chart.specs.Mark.{refusedMark, channelWithin, markOf, chartMark};
 
@@ -17,9 +16,8 @@ pub mod panel;
 mod root;
 
 use crate::root::ceiling_root;
-use channel::Code;
 use envelope::Figures;
-use envelope::figures_within;
+use envelope::figures_known;
 use limits::TOTAL;
 use refusal::Refusal;
 
@@ -78,66 +76,32 @@ fn channel_within(n: usize, channel: usize) -> bool
 }
 
 // X of a channel, counted from 1, divided by the total.
-fn centre_fraction(n: usize, centre: &[i64], channel: usize) -> f64
-    requires { ⌜ CentreWithin n (now centre) × ((1 ≤ channel) × (channel ≤ n)) ⌝ }
-    ensures { λ r. ⌜ r ≡ fractionOf total (centreOf (now (centre .entry)) (channel - 1)) ⌝ }
+fn centre_fraction(n: usize, scaled_centre: &[i64], channel: usize) -> f64
+    requires { ⌜ CentreWithin n (now «scaled_centre») × ((1 ≤ channel) × (channel ≤ n)) ⌝ }
+    ensures { λ r. ⌜ r ≡ fractionOf total (centreOf (now («scaled_centre» .entry)) (channel - 1)) ⌝ }
 {
-    fraction(centre[channel - 1])
+    fraction(scaled_centre[channel - 1])
 }
 
-// The mark of an envelope whose types and X are lent, on the chart of two channels counted from 1. Refused: 8.
-pub fn chart_lent(
-    n: usize,
-    codes: &[Code],
-    centre: &[i64],
-    scaled_squared_radius: u64,
-    scaled_lower_bound: u64,
-    moves: u32,
-    horizontal: usize,
-    vertical: usize,
-) -> Mark
-    ensures { λ r.
-        ⌜ r ≡ chartMark total channelTypes (lentFigures n (now (codes .entry)) (now (centre .entry)) «scaled_squared_radius»
-        «scaled_lower_bound» moves) horizontal vertical ⌝ }
+// The mark of an envelope on the chart of two channels counted from 1. Refused: 8.
+pub fn chart(figures: Figures, horizontal: usize, vertical: usize) -> Mark
+    ensures { λ r. ⌜ r ≡ chartMark total channelTypes figures horizontal vertical ⌝ }
 {
-    if !figures_within(
-        n,
-        codes,
-        centre,
-        scaled_squared_radius,
-        scaled_lower_bound,
-        moves,
-    ) {
+    if !figures_known(figures) {
         return refused_mark();
     }
+    let n = figures.n;
     if !channel_within(n, horizontal) {
         return refused_mark();
     }
     if !channel_within(n, vertical) {
         return refused_mark();
     }
-    let point = Point {
-        horizontal: centre_fraction(n, centre, horizontal),
-        vertical: centre_fraction(n, centre, vertical),
-    };
-    mark_of(point, scaled_squared_radius)
-}
-
-// The same for figures as one value.
-pub fn chart(figures: Figures, horizontal: usize, vertical: usize) -> Mark
-    ensures { λ r. ⌜ r ≡ chartMark total channelTypes figures horizontal vertical ⌝ }
-{
-    let codes = figures.codes;
     let ball = figures.ball;
-    let centre = ball.scaled_centre;
-    chart_lent(
-        figures.n,
-        &codes,
-        &centre,
-        ball.scaled_squared_radius,
-        ball.scaled_lower_bound,
-        figures.moves,
-        horizontal,
-        vertical,
-    )
+    let scaled_centre = ball.scaled_centre;
+    let point = Point {
+        horizontal: centre_fraction(n, &scaled_centre, horizontal),
+        vertical: centre_fraction(n, &scaled_centre, vertical),
+    };
+    mark_of(point, ball.scaled_squared_radius)
 }

@@ -8,11 +8,9 @@ ghost use Rattle.limits.specs.Limits.{total, channelLimit, coordinateLimit, cen
 ghost use Rattle.geometry.specs.Places.{centreOf, centreList};
 ghost use Rattle.geometry.specs.Contracts.{CentreWithin};
 ghost use Rattle.channel.specs.Channel.{channelTypes};
-ghost use Rattle.envelope.specs.Figures.{lentFigures};
 ghost use Rattle.chart.specs.Panel.{nearestMagnitude, nearestStep, refusedPanel, panelShown};
-use channel::Code;
 use envelope::Figures;
-use envelope::figures_within;
+use envelope::figures_known;
 use limits::CHANNELS;
 use limits::TOTAL;
 use refusal::Outcome;
@@ -54,63 +52,32 @@ fn nearest_step(x: i64) -> i32
     nearest_magnitude(x as u32) as i32
 }
 
-// The steps of the n channels in their eight places.
-fn steps_of(centre: &[i64], n: usize) -> [i32; CHANNELS]
-    requires { ⌜ (n ≤ channelLimit) × CentreWithin n (now centre) ⌝ }
-    ensures { λ r. ⌜ r ≡ centreList n (λ k. nearestStep total (centreOf (now (centre .entry)) k)) ⌝ }
+// The steps of the n channels in their places, 0 past them.
+fn steps_of(scaled_centre: &[i64], n: usize) -> [i32; CHANNELS]
+    requires { ⌜ (n ≤ channelLimit) × CentreWithin n (now «scaled_centre») ⌝ }
+    ensures { λ r. ⌜ r ≡ centreList n (λ k. nearestStep total (centreOf (now («scaled_centre» .entry)) k)) ⌝ }
 {
     let mut steps = [0i32; CHANNELS];
     let mut k = 0;
     while k < n {
-        steps[k] = nearest_step(centre[k]);
+        steps[k] = nearest_step(scaled_centre[k]);
         k += 1;
     }
     steps
 }
 
-// What the panel shows of an envelope whose types and X are lent. Refused: 8.
-pub fn panel_lent(
-    n: usize,
-    codes: &[Code],
-    centre: &[i64],
-    scaled_squared_radius: u64,
-    scaled_lower_bound: u64,
-    moves: u32,
-) -> PanelShown
-    ensures { λ r.
-        ⌜ r ≡ panelShown total channelTypes (lentFigures n (now (codes .entry)) (now (centre .entry)) «scaled_squared_radius»
-        «scaled_lower_bound» moves) ⌝ }
+// What the panel shows of an envelope. Refused: 8.
+pub fn panel(figures: Figures) -> PanelShown
+    ensures { λ r. ⌜ r ≡ panelShown total channelTypes figures ⌝ }
 {
-    if !figures_within(
-        n,
-        codes,
-        centre,
-        scaled_squared_radius,
-        scaled_lower_bound,
-        moves,
-    ) {
+    if !figures_known(figures) {
         return refused_panel();
     }
-    let steps = steps_of(centre, n);
+    let ball = figures.ball;
+    let scaled_centre = ball.scaled_centre;
+    let steps = steps_of(&scaled_centre, figures.n);
     PanelShown {
         outcome: Outcome::Accepted,
         steps,
     }
-}
-
-// The same for figures as one value.
-pub fn panel(figures: Figures) -> PanelShown
-    ensures { λ r. ⌜ r ≡ panelShown total channelTypes figures ⌝ }
-{
-    let codes = figures.codes;
-    let ball = figures.ball;
-    let centre = ball.scaled_centre;
-    panel_lent(
-        figures.n,
-        &codes,
-        &centre,
-        ball.scaled_squared_radius,
-        ball.scaled_lower_bound,
-        figures.moves,
-    )
 }

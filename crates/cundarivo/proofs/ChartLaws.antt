@@ -12,8 +12,8 @@ use Rattle.refusal.specs.Outcome.{numberOf, choose}
 use Rattle.refusal.specs.declared.Outcome.the-variants.{Accepted}
 use Rattle.limits.specs.Limits.{channelLimit}
 use Rattle.channel.specs.Channel.{Types}
-use Rattle.envelope.specs.Figures.{figuresWithin}
-use Rattle.envelope.specs.FigureLaws.{within-figures}
+use Rattle.envelope.specs.Figures.{figuresKnown}
+use Rattle.envelope.specs.FigureLaws.{known-within}
 use Rattle.chart.specs.Panel.{refusedPanel, panelOf, panelShown}
 use Rattle.chart.specs.declared.panel.PanelShown.{PanelShown}
 use Rattle.cundarivo.specs.Given.{figuresGiven}
@@ -35,4 +35,4 @@ module _ (D : ℕ) (types : Types) (given : FiguresGiven) (codes : List ℕ) (ce
   panel-accepted =
       let figures = figuresGiven given codes centre in
       shown-where (leb (given .settled) 1) _
-      (λ _. shown-where (figuresWithin D types figures) (panelOf D figures) (λ within _. (refl, within-figures D types figures within .channels)))
+      (λ _. shown-where (figuresKnown D types figures) (panelOf D figures) (λ within _. (refl, known-within D types figures within .channels)))

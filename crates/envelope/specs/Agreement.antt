@@ -22,7 +22,7 @@ use Rattle.ball.specs.Check.{checking}
 use Rattle.ball.specs.declared.Ball.{Ball}
 use Rattle.ball.specs.declared.Checked.{Checked}
 use Rattle.ball.specs.declared.Drawing.{Drawing}
-use Rattle.envelope.specs.Figures.{channelCodes, figuresOf}
+use Rattle.envelope.specs.Figures.{channelCodes, figuresOf, envelopeOf}
 use Rattle.envelope.specs.FigureLaws.{drawnFigures}
 use Rattle.envelope.specs.declared.Envelope.{Envelope}
 
@@ -61,12 +61,8 @@ clearedBall n b = withCentre b (centreList n (centreOf (b .«scaled_centre»)))
 
 abbrev pub cleared : Envelope → Envelope
 cleared e =
-    record {
-      figures =
-          figuresOf (e .figures .n) (padded channelLimit (channelCodes (e .figures))) (clearedBall (e .figures .n) (e .figures .ball))
-          (e .figures .moves);
-      weights = e .weights;
-    }
+    let f = e .figures in
+    envelopeOf (figuresOf (f .n) (padded channelLimit (channelCodes f)) (clearedBall (f .n) (f .ball)) (f .moves)) (e .weights)
 
 abbrev pub drawnEnvelope : ℕ → List ℕ → Drawing → Envelope
-drawnEnvelope n codes r = record { figures = drawnFigures n codes r; weights = r .weights }
+drawnEnvelope n codes r = envelopeOf (drawnFigures n codes r) (r .weights)

@@ -10,7 +10,7 @@
 --     agreed-ball                        the ball that agrees is the check's, past its n places too once these are cleared
 --     agrees-cleared                     places past n are not looked at
 --     agreed-tight                       demand 3 holds of figures that agree
---     agreed-within                      2.14: they are within their limits
+--     agreed-within                      2.14: they are within their limits, with known codes
 --     agreed-length                      there is a weight for each row
 --     agreed-weight, agreed-some         each weight is at most D, and some weight is above 0
 --     drawn-agrees, checked-agrees       the figures of an accepted drawing and of an accepted check agree with its weights
@@ -50,8 +50,8 @@ use Rattle.ball.specs.declared.Ball.{Ball}
 use Rattle.ball.specs.declared.Checked.{Checked}
 use Rattle.ball.specs.declared.Drawing.{Drawing}
 use Rattle.channel.specs.Channel.{Types, codesKnown}
-use Rattle.envelope.specs.Figures.{figuresWithin, figuresOf}
-use Rattle.envelope.specs.FigureLaws.{within-figures, figures-within, checked-within}
+use Rattle.envelope.specs.Figures.{figuresKnown, figuresOf, envelopeOf}
+use Rattle.envelope.specs.FigureLaws.{known-within, figures-known, checked-within}
 use Rattle.envelope.specs.Agreement.{allZero, samePlaces, ballAgrees, agrees, clearedBall, cleared, drawnEnvelope, withCentre}
 
 -- ---- weights that are 0, and the same places
@@ -235,22 +235,21 @@ module _ (D limit : ℕ) (rows : List ℤ) (m n : ℕ) where
           subst (Tight D m n (coordinate rows n)) (sym agreed-ball) (checking-tight D limit rows m n (take m ws) (a .accepted) positive)
 
       pub agreed-within : 0 < D → (types : Types) (codes : List ℕ) (moves : ℕ) → n ≤ length codes → n ≤ length (b .«scaled_centre»)
-          → codesKnown types (take n codes) ≡ true → moves ≤ budgetLimit → figuresWithin D types (figuresOf n codes b moves) ≡ true
+          → codesKnown types (take n codes) ≡ true → moves ≤ budgetLimit → figuresKnown D types (figuresOf n codes b moves) ≡ true
       agreed-within positive types codes moves typed places known most =
-          let w = within-figures D types (figuresOf n codes (checked .ball) moves)
+          let w = known-within D types (figuresOf n codes (checked .ball) moves)
           (checked-within D types n codes typed known positive limit rows m (take m ws) moves (a .accepted) most) in
-          figures-within D types (figuresOf n codes b moves)
+          figures-known D types (figuresOf n codes b moves)
           record {
             some-channel = w .some-channel;
             channels = w .channels;
-            typed = typed;
             places = places;
-            codes = known;
             centre-limit = λ k l. omega (arith, ap natAbs (a .places k l), w .centre-limit k l);
             radius-limit = omega (arith, a .radius, w .radius-limit);
             floor-limit = omega (arith, a .floor, w .floor-limit);
             moves-limit = most;
           }
+          record { typed = typed; each-known = known }
 
       pub agreed-length : m ≤ length ws
       agreed-length = omega (arith, limits .1, length-take m ws)
@@ -318,7 +317,7 @@ module _ (D limit : ℕ) (rows : List ℤ) (m n : ℕ) where
     pub drawn-cleared : (codes : List ℕ) → length codes ≡ n
         → let e = drawnEnvelope n (padded channelLimit codes) (drawing D limit rows m n budget) in cleared e ≡ e
     drawn-cleared codes typed =
-        ap₂ (λ (l : List ℕ) (c : Ball). record { figures = figuresOf n l c (r .moves); weights = r .weights })
+        ap₂ (λ (l : List ℕ) (c : Ball). envelopeOf (figuresOf n l c (r .moves)) (r .weights))
         (ap (padded channelLimit) (padded-first channelLimit n codes typed (channels (r .ball) (r .weights) drawn-agreed)))
         (agreed-ball (r .ball) (r .weights) drawn-agreed ∙ ap (λ (k : Checked). k .ball) checks)
 

@@ -1,26 +1,26 @@
 -- Laws of an envelope's figures, for any total D and table of types.
---     Within D types f                    each limit on the figures, as a fact
+--     Within D f                          each limit on the figures, as a fact
 --     within-figures, figures-within      the test of the limits, as the record
 --     figures-refused                     a limit that is not kept
+--     Coded types f                       a known code for each channel, as facts
+--     known-within, known-coded           both tests, as the records
+--     figures-known, known-refused        the records, as both tests; a limit that is not kept
 --     within-centre                       X of figures within their limits, as the numeric functions ask for it at the total that the
 --                                         contracts fix
 --     tight-within                        2.14: the figures of a ball of which demand 3 holds are within their limits
 --     drawnFigures n codes drawing        the figures of a drawing for n channels of these codes
---     drawn-within, checked-within        those of an accepted drawing and of an accepted check are within their limits
-use Prim.Native.Nat.{ℕ, _+_, _≤_, _<_}
-use mathlib.Core.Path.{_≡_, refl, sym, ap, ap₂, _∙_}
+--     drawn-within, checked-within        those of an accepted drawing and of an accepted check are within their limits, with known codes
+use Prim.Native.Nat.{ℕ, _≤_, _<_}
+use mathlib.Core.Path.{_≡_, ap, ap₂, _∙_}
 use mathlib.Core.Bool.{true, false, _&&_}
-use mathlib.Core.List.{List, [], _∷_, _++_}
-use native.Mathlib.Nat.{le-trans, not-suc-le-zero}
-use native.Mathlib.Numerals.{add-one}
+use mathlib.Core.List.{List}
+use native.Mathlib.Nat.{le-trans}
 use native.Mathlib.Omega.{arith}
 use borrow.Author.Tests.{leb-true, le-leb}
 use lib.Dec.{leb}
 use lib.IntN.{ℤ, natAbs}
-use lib.ListN.{length, getD, take}
-use lib.Seq.{take-suc, getD-take, length-take-le}
-use Rattle.integers.specs.Tests.{both, clash, refuted, range-in}
-use Rattle.lists.specs.Each.{Each, each-cons, each-head, each-tail, each-append}
+use lib.ListN.{length, take}
+use Rattle.integers.specs.Tests.{both, refuted, range-in}
 use Rattle.refusal.specs.declared.Outcome.the-variants.{Accepted}
 use Rattle.geometry.specs.Table.{coordinate, placesWithin}
 use Rattle.limits.specs.Limits.{total, channelLimit, centreLimit, distanceLimit, budgetLimit}
@@ -37,77 +37,98 @@ use Rattle.ball.specs.Demand.{drawing-accepted, drawing-is, drawing-spent, draw
 use Rattle.ball.specs.declared.Ball.{Ball}
 use Rattle.ball.specs.declared.Checked.{Checked}
 use Rattle.ball.specs.declared.Drawing.{Drawing}
-use Rattle.channel.specs.Channel.{Types, known, codesKnown}
-use Rattle.channel.specs.ChannelLaws.{Known}
-use Rattle.envelope.specs.Figures.{channelCodes, figuresWithin, figuresOf}
+use Rattle.channel.specs.Channel.{Types, codesKnown}
+use Rattle.envelope.specs.Figures.{channelCodes, figuresWithin, codesWithin, figuresKnown, figuresOf}
 use Rattle.envelope.specs.declared.Figures.{Figures}
 
--- ---- the test of the limits, as a record
+-- ---- the limits, as a record
 
-pub record Within (D : ℕ) (types : Types) (f : Figures) : Type 0 where
+pub record Within (D : ℕ) (f : Figures) : Type 0 where
   pub some-channel : 1 ≤ f .n
   pub channels : f .n ≤ channelLimit
-  pub typed : f .n ≤ length (f .codes)
   pub places : f .n ≤ length (f .ball .«scaled_centre»)
-  pub codes : codesKnown types (channelCodes f) ≡ true
   pub centre-limit : (k : ℕ) → k < f .n → natAbs (centreOf (f .ball .«scaled_centre») k) ≤ centreLimit D
   pub radius-limit : f .ball .«scaled_squared_radius» ≤ distanceLimit D
   pub floor-limit : f .ball .«scaled_lower_bound» ≤ distanceLimit D
   pub moves-limit : f .moves ≤ budgetLimit
 
-module _ (D : ℕ) (types : Types) (f : Figures) where
-  pub within-figures : figuresWithin D types f ≡ true → Within D types f
+module _ (D : ℕ) (f : Figures) where
+  pub within-figures : figuresWithin D f ≡ true → Within D f
   unfolding figuresWithin
   within-figures h =
       let x = f .ball .«scaled_centre» in
       let M = f .ball .«scaled_squared_radius» in
       let L = f .ball .«scaled_lower_bound» in
       let count = leb 1 (f .n) && leb (f .n) channelLimit in
-      let lent = leb (f .n) (length (f .codes)) && leb (f .n) (length x) in
-      let codes = codesKnown types (channelCodes f) in
+      let held = leb (f .n) (length x) in
       let centre = placesWithin (centreLimit D) (f .n) x in
       let distances = leb M (distanceLimit D) && leb L (distanceLimit D) in
       let moves = leb (f .moves) budgetLimit in
-      let first = both count (lent && (codes && (centre && (distances && moves)))) h in
-      let second = both lent (codes && (centre && (distances && moves))) (first .1) in
-      let third = both codes (centre && (distances && moves)) (second .1) in
-      let fourth = both centre (distances && moves) (third .1) in
-      let fifth = both distances moves (fourth .1) in
+      let first = both count (held && (centre && (distances && moves))) h in
+      let second = both held (centre && (distances && moves)) (first .1) in
+      let third = both centre (distances && moves) (second .1) in
+      let fourth = both distances moves (third .1) in
       let counts = both (leb 1 (f .n)) (leb (f .n) channelLimit) (first .0) in
-      let lengths = both (leb (f .n) (length (f .codes))) (leb (f .n) (length x)) (second .0) in
-      let limits = both (leb M (distanceLimit D)) (leb L (distanceLimit D)) (fifth .0) in
+      let limits = both (leb M (distanceLimit D)) (leb L (distanceLimit D)) (fourth .0) in
       record {
         some-channel = leb-true 1 (f .n) (counts .0);
         channels = leb-true (f .n) channelLimit (counts .1);
-        typed = leb-true (f .n) (length (f .codes)) (lengths .0);
-        places = leb-true (f .n) (length x) (lengths .1);
-        codes = third .0;
-        centre-limit = placesWithin-at (centreLimit D) x (f .n) (fourth .0);
+        places = leb-true (f .n) (length x) (second .0);
+        centre-limit = placesWithin-at (centreLimit D) x (f .n) (third .0);
         radius-limit = leb-true M (distanceLimit D) (limits .0);
         floor-limit = leb-true L (distanceLimit D) (limits .1);
-        moves-limit = leb-true (f .moves) budgetLimit (fifth .1);
+        moves-limit = leb-true (f .moves) budgetLimit (fourth .1);
       }
 
-  pub figures-refused : (Within D types f → ⊥) → false ≡ figuresWithin D types f
-  figures-refused h = refuted (figuresWithin D types f) (λ e. h (within-figures e))
+  pub figures-refused : (Within D f → ⊥) → false ≡ figuresWithin D f
+  figures-refused h = refuted (figuresWithin D f) (λ e. h (within-figures e))
 
-  module _ (w : Within D types f) where
-    pub figures-within : figuresWithin D types f ≡ true
-    unfolding figuresWithin
-    figures-within =
-        let limit = distanceLimit D in
-        let x = f .ball .«scaled_centre» in
-        ap₂ _&&_ (range-in 1 channelLimit (f .n) (w .some-channel) (w .channels))
-        (ap₂ _&&_ (ap₂ _&&_ (le-leb (f .n) (length (f .codes)) (w .typed)) (le-leb (f .n) (length x) (w .places)))
-        (ap₂ _&&_ (w .codes)
-        (ap₂ _&&_ (placesWithin-by (centreLimit D) x (f .n) (w .centre-limit))
-        (ap₂ _&&_
-        (ap₂ _&&_ (le-leb (f .ball .«scaled_squared_radius») limit (w .radius-limit))
-        (le-leb (f .ball .«scaled_lower_bound») limit (w .floor-limit)))
-        (le-leb (f .moves) budgetLimit (w .moves-limit))))))
+  pub figures-within : Within D f → figuresWithin D f ≡ true
+  unfolding figuresWithin
+  figures-within w =
+      let limit = distanceLimit D in
+      let x = f .ball .«scaled_centre» in
+      ap₂ _&&_ (range-in 1 channelLimit (f .n) (w .some-channel) (w .channels))
+      (ap₂ _&&_ (le-leb (f .n) (length x) (w .places))
+      (ap₂ _&&_ (placesWithin-by (centreLimit D) x (f .n) (w .centre-limit))
+      (ap₂ _&&_
+      (ap₂ _&&_ (le-leb (f .ball .«scaled_squared_radius») limit (w .radius-limit))
+      (le-leb (f .ball .«scaled_lower_bound») limit (w .floor-limit)))
+      (le-leb (f .moves) budgetLimit (w .moves-limit)))))
+
+-- ---- the codes, as a record
+
+pub record Coded (types : Types) (f : Figures) : Type 0 where
+  pub typed : f .n ≤ length (f .codes)
+  pub each-known : codesKnown types (channelCodes f) ≡ true
+
+-- ---- both
+
+module _ (D : ℕ) (types : Types) (f : Figures) where
+  module _ (h : figuresKnown D types f ≡ true) where
+    tests : (figuresWithin D f ≡ true) × (codesWithin types f ≡ true)
+    unfolding figuresKnown
+    tests = both (figuresWithin D f) (codesWithin types f) h
+
+    pub known-within : Within D f
+    known-within = within-figures D f (tests .0)
+
+    pub known-coded : Coded types f
+    unfolding codesWithin
+    known-coded =
+        let parts = both (leb (f .n) (length (f .codes))) (codesKnown types (channelCodes f)) (tests .1) in
+        record { typed = leb-true (f .n) (length (f .codes)) (parts .0); each-known = parts .1 }
+
+  pub known-refused : (Within D f → ⊥) → false ≡ figuresKnown D types f
+  known-refused h = refuted (figuresKnown D types f) (λ e. h (known-within e))
+
+  pub figures-known : Within D f → Coded types f → figuresKnown D types f ≡ true
+  unfolding figuresKnown codesWithin
+  figures-known w c =
+      ap₂ _&&_ (figures-within D f w) (ap₂ _&&_ (le-leb (f .n) (length (f .codes)) (c .typed)) (c .each-known))
 
 -- what the numeric functions ask of X
-pub within-centre : {types : Types} {f : Figures} → Within total types f → CentreWithin (f .n) (f .ball .«scaled_centre»)
+pub within-centre : {f : Figures} → Within total f → CentreWithin (f .n) (f .ball .«scaled_centre»)
 within-centre w = record { places = w .places; bound = w .centre-limit }
 
 -- ---- 2.14: the figures that are handed out are within their limits
@@ -117,24 +138,23 @@ drawnFigures n codes r = figuresOf n codes (r .ball) (r .moves)
 
 module _ (D : ℕ) (types : Types) (n : ℕ) (codes : List ℕ) (typed : n ≤ length codes) (k : codesKnown types (take n codes) ≡ true) where
   pub tight-within : (m : ℕ) (a : ℕ → ℕ → ℤ) (ball : Ball) (moves : ℕ) → Tight D m n a ball → n ≤ length (ball .«scaled_centre»)
-      → 1 ≤ n → n ≤ channelLimit → moves ≤ budgetLimit → figuresWithin D types (figuresOf n codes ball moves) ≡ true
+      → 1 ≤ n → n ≤ channelLimit → moves ≤ budgetLimit → figuresKnown D types (figuresOf n codes ball moves) ≡ true
   tight-within m a ball moves t places some most b =
-      figures-within D types (figuresOf n codes ball moves)
+      figures-known D types (figuresOf n codes ball moves)
       record {
         some-channel = some;
         channels = most;
-        typed = typed;
         places = places;
-        codes = k;
         centre-limit = λ j _. t .centre-limit j;
         radius-limit = t .radius-limit;
         floor-limit = le-trans (t .floor) (t .radius-limit);
         moves-limit = b;
       }
+      record { typed = typed; each-known = k }
 
   module _ (positive : 0 < D) (limit : ℕ) (rows : List ℤ) (m : ℕ) where
     pub drawn-within : (b : ℕ) → drawing D limit rows m n b .outcome ≡ Accepted
-        → figuresWithin D types (drawnFigures n codes (drawing D limit rows m n b)) ≡ true
+        → figuresKnown D types (drawnFigures n codes (drawing D limit rows m n b)) ≡ true
     unfolding ballOf
     drawn-within b h =
         let r = drawing D limit rows m n b in
@@ -147,7 +167,7 @@ module _ (D : ℕ) (types : Types) (n : ℕ) (codes : List ℕ) (typed : n ≤ l
         (le-trans (drawing-spent D limit rows m n b h .0) (accepted .1))
 
     pub checked-within : (ws : List ℕ) (moves : ℕ) → checking D limit rows m n ws .outcome ≡ Accepted → moves ≤ budgetLimit
-        → figuresWithin D types (figuresOf n codes (checking D limit rows m n ws .ball) moves) ≡ true
+        → figuresKnown D types (figuresOf n codes (checking D limit rows m n ws .ball) moves) ≡ true
     unfolding ballOf
     checked-within ws moves h b =
         let r = checking D limit rows m n ws in

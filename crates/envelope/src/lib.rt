@@ -1,14 +1,15 @@
 // An envelope as it is handed from call to call: its figures, and the weights that they come from. The limits on the figures
-// (document 01, "Turned-back input", 8) are tested by one function, `figures_within`, whoever made the envelope.
+// (document 01, "Turned-back input", 8) are tested by one function, `figures_within`, and their codes by another, `codes_within`,
+// whoever made the envelope.
 ghost use mathlib.Core.Path.{_≡_};
 ghost use Prim.Native.Nat.{_≤_};
 ghost use lib.Dec.{leb};
 ghost use lib.IntN.{natAbs};
-ghost use lib.ListN.{length, take};
+ghost use lib.ListN.{length};
+ghost use Rattle.limits.specs.Limits.{total, rowLimit, centreLimit};
 ghost use Rattle.geometry.specs.Table.{placesWithin};
-ghost use Rattle.limits.specs.Limits.{total, centreLimit};
-ghost use Rattle.channel.specs.Channel.{channelTypes, codesKnown};
-ghost use Rattle.envelope.specs.Figures.{figuresWithin, lentFigures};
+ghost use Rattle.channel.specs.Channel.{channelTypes};
+ghost use Rattle.envelope.specs.Figures.{figuresWithin, codesWithin, figuresKnown, figuresOf, emptyFigures, envelopeOf, emptyEnvelope};
 
 pub mod agreement;
 
@@ -20,7 +21,7 @@ use limits::CHANNELS;
 use limits::DISTANCE_MOST;
 use limits::ROWS;
 
-// An envelope's figures: n channels of these types, X, M, L and the ending (in `ball`), and the moves made. Places past n are
+// An envelope's figures: n channels of these codes, X, M, L and the ending (in `ball`), and the moves made. Places past n are
 // not looked at when the figures are handed in, and are 0 when they are handed out.
 pub struct Figures {
     pub n: usize,
@@ -35,6 +36,45 @@ pub struct Envelope {
     pub weights: [u32; ROWS],
 }
 
+// The figures of a ball for n channels of these codes.
+pub fn filled_figures(n: usize, codes: [Code; CHANNELS], ball: Ball, moves: u32) -> Figures
+    ensures { λ r. ⌜ r ≡ figuresOf n codes ball moves ⌝ }
+{
+    Figures {
+        n,
+        codes,
+        ball,
+        moves,
+    }
+}
+
+// Every figure 0.
+pub fn empty_figures() -> Figures
+    ensures { λ r. ⌜ r ≡ emptyFigures ⌝ }
+{
+    let ball = Ball {
+        scaled_centre: [0i64; CHANNELS],
+        scaled_squared_radius: 0,
+        scaled_lower_bound: 0,
+        settled: false,
+    };
+    filled_figures(0, [0; CHANNELS], ball, 0)
+}
+
+// The envelope with these figures and weights.
+pub fn filled_envelope(figures: Figures, weights: [u32; ROWS]) -> Envelope
+    ensures { λ r. ⌜ r ≡ envelopeOf figures weights ⌝ }
+{
+    Envelope { figures, weights }
+}
+
+// Every figure and weight 0.
+pub fn empty_envelope() -> Envelope
+    ensures { λ r. ⌜ r ≡ emptyEnvelope rowLimit ⌝ }
+{
+    filled_envelope(empty_figures(), [0u32; ROWS])
+}
+
 fn place_within(x: i64) -> bool
     ensures { λ r. ⌜ r ≡ leb (natAbs x) (centreLimit total) ⌝ }
 {
@@ -45,13 +85,13 @@ fn place_within(x: i64) -> bool
 }
 
 // Whether the first n places of X are within their limit.
-fn centre_within(centre: &[i64], n: usize) -> bool
-    requires { ⌜ n ≤ length (now centre) ⌝ }
-    ensures { λ r. ⌜ r ≡ placesWithin (centreLimit total) n (now (centre .entry)) ⌝ }
+fn centre_within(scaled_centre: &[i64], n: usize) -> bool
+    requires { ⌜ n ≤ length (now «scaled_centre») ⌝ }
+    ensures { λ r. ⌜ r ≡ placesWithin (centreLimit total) n (now («scaled_centre» .entry)) ⌝ }
 {
     let mut k = 0;
     while k < n {
-        let x = centre[k];
+        let x = scaled_centre[k];
         if !place_within(x) {
             return false;
         }
@@ -60,42 +100,49 @@ fn centre_within(centre: &[i64], n: usize) -> bool
     true
 }
 
-// Whether there are n types and n places of X, and every figure is within its limits: n, the types, X, M, L and the moves.
-pub fn figures_within(
-    n: usize,
-    codes: &[Code],
-    centre: &[i64],
-    scaled_squared_radius: u64,
-    scaled_lower_bound: u64,
-    moves: u32,
-) -> bool
-    ensures { λ r.
-        ⌜ r ≡ figuresWithin total channelTypes (lentFigures n (now (codes .entry)) (now (centre .entry)) «scaled_squared_radius»
-        «scaled_lower_bound» moves) ⌝ }
+// Whether n, X, M, L and the moves are within their limits.
+pub fn figures_within(figures: Figures) -> bool
+    ensures { λ r. ⌜ r ≡ figuresWithin total figures ⌝ }
 {
+    let n = figures.n;
     if n < 1 {
         return false;
     }
     if CHANNELS < n {
         return false;
     }
-    if codes.len() < n {
+    let ball = figures.ball;
+    let scaled_centre = ball.scaled_centre;
+    if !centre_within(&scaled_centre, n) {
         return false;
     }
-    if centre.len() < n {
+    if DISTANCE_MOST < ball.scaled_squared_radius {
         return false;
     }
-    if !channel::codes_known(codes, n) {
+    if DISTANCE_MOST < ball.scaled_lower_bound {
         return false;
     }
-    if !centre_within(centre, n) {
+    figures.moves <= BUDGET_MOST
+}
+
+// Whether there is a code for each of the n channels, that of a type.
+pub fn codes_within(figures: Figures) -> bool
+    ensures { λ r. ⌜ r ≡ codesWithin channelTypes figures ⌝ }
+{
+    let n = figures.n;
+    if CHANNELS < n {
         return false;
     }
-    if DISTANCE_MOST < scaled_squared_radius {
+    let codes = figures.codes;
+    channel::codes_known(&codes, n)
+}
+
+// Both: what readings, records, charts and panels ask of the figures that they are given.
+pub fn figures_known(figures: Figures) -> bool
+    ensures { λ r. ⌜ r ≡ figuresKnown total channelTypes figures ⌝ }
+{
+    if !figures_within(figures) {
         return false;
     }
-    if DISTANCE_MOST < scaled_lower_bound {
-        return false;
-    }
-    moves <= BUDGET_MOST
+    codes_within(figures)
 }

@@ -47,7 +47,7 @@ use Rattle.heading.specs.Heading.{headingOf, printHeading}
 use Rattle.reference_rows.specs.Row.{Row, rowOf, labelUsed}
 use Rattle.reference_rows.specs.Rows.{Content, faulty, sound, rowLine, lastPart, andRow, rowsFrom, tableOf}
 use Rattle.reference.specs.Reference.{referenceWord, afterHeading, contentOf, content}
-use Rattle.envelope.specs.Figures.{channelCodes, figuresWithin}
+use Rattle.envelope.specs.Figures.{channelCodes, figuresKnown}
 use Rattle.envelope.specs.declared.Figures.{Figures}
 use Rattle.envelope.specs.declared.Envelope.{Envelope}
 use Rattle.reading.specs.Reading.{readingOf}
@@ -165,7 +165,7 @@ OfReading Quiet = Unit {0}
 OfReading (Alarm excess) = Unit {0}
 OfReading (RefusedReading r) = ofReading (r .number) (r .line) ≡ true
 
-module _ (D : ℕ) (types : Types) (f : Figures) (within : figuresWithin D types f ≡ true) where
+module _ (D : ℕ) (types : Types) (f : Figures) (within : figuresKnown D types f ≡ true) where
   module _ (text : List ℕ) (some-text : textWithin text ≡ true) where
     judged-told : OfReading (judged D types f text)
     unfolding judged
@@ -394,7 +394,7 @@ line-told Quiet h more = other-told 81 _ refl
 line-told (Alarm excess) h more = other-told 65 _ refl
 line-told (RefusedReading r) h more = refusal-told (r .number) (r .line) more ∙ ap not h
 
-module _ (D : ℕ) (types : Types) (f : Figures) (within : figuresWithin D types f ≡ true) where
+module _ (D : ℕ) (types : Types) (f : Figures) (within : figuresKnown D types f ≡ true) where
   lines-told : (readings : List (List ℕ)) → 1 ≤ length readings → Each (λ reading. textWithin reading ≡ true) [] readings
       → refusesTexts (printVerdicts D types f readings) ≡ false
   unfolding printVerdicts

@@ -21,8 +21,8 @@ use Rattle.printing.specs.ContractLaws.{put-none, put-byte, put-then, put-as, p
 use Rattle.channel.specs.Channel.{channelTypes, tagOf}
 use Rattle.channel.specs.ChannelLaws.{house-sound}
 use Rattle.channel.specs.ContractLaws.{house-short, type-short}
-use Rattle.envelope.specs.Figures.{figuresWithin}
-use Rattle.envelope.specs.FigureLaws.{within-figures}
+use Rattle.envelope.specs.Figures.{figuresKnown}
+use Rattle.envelope.specs.FigureLaws.{known-within, known-coded}
 use Rattle.envelope.specs.declared.Figures.{Figures}
 use Rattle.record.specs.declared.EnvelopeRead.{EnvelopeRead}
 use Rattle.chart.specs.Panel.{panelShown}
@@ -98,14 +98,14 @@ pub shown : (read : EnvelopeRead) (reference text : List ℕ) → read ≡ recor
 shown read reference text is accepted panel panel-is =
     let f = read .envelope .figures in
     let same : recordAgainst total rowLimit channelTypes reference text .outcome ≡ Accepted = ap (λ (r : EnvelopeRead). r .outcome) (sym is) ∙ accepted in
-    let within = ap (λ (r : EnvelopeRead). figuresWithin total channelTypes (r .envelope .figures)) is
+    let within = ap (λ (r : EnvelopeRead). figuresKnown total channelTypes (r .envelope .figures)) is
     ∙ against-within total rowLimit channelTypes house-sound (omega arith) reference text same in
-    let limits = within-figures total channelTypes f within in
+    let typed = known-coded total channelTypes f within .typed in
     let codes = take (f .n) (f .codes) in
-    let count : length codes ≡ f .n = length-take-le (f .n) (f .codes) (limits .typed) in
+    let count : length codes ≡ f .n = length-take-le (f .n) (f .codes) typed in
     record {
-      channels = limits .channels;
-      typed = limits .typed;
+      channels = known-within total channelTypes f within .channels;
+      typed = typed;
       is =
           ap (λ (k : ℕ). printSteps channelTypes codes (take k (panel .steps))) (sym count)
           ∙ steps-first channelTypes codes (panel .steps)

@@ -30,7 +30,7 @@ use Rattle.value.specs.Value.{Written, number, reads}
 use Rattle.value.specs.ValueLaws.{reads-most}
 use Rattle.value.specs.Values.{valuesInRange}
 use Rattle.value.specs.ValuesLaws.{in-range}
-use Rattle.envelope.specs.Figures.{channelCodes, figuresWithin}
+use Rattle.envelope.specs.Figures.{channelCodes, figuresKnown}
 use Rattle.envelope.specs.declared.Figures.{Figures}
 use Rattle.reading.specs.Reading.{Reading, oneLine, readingLine, readingOf, tagsAgree}
 use Rattle.reading.specs.ReadingLaws.{line-text, text-line}
@@ -192,7 +192,7 @@ module _ (text : List ℕ) (end : ℕ) (last : length text ≡ end + 1) where
           absurd (h (ap (λ l. getD l end 0) (sym whole) ∙ getD-at line lineEnd [] 0 end as-long))
 
 pub judged-text : (D : ℕ) (types : Types) (f : Figures) (text : List ℕ) {within fitting : Bool} {line : Option (List ℕ)}
-    → figuresWithin D types f ≡ within → textWithin text ≡ fitting → oneLine (cut lineEnd text) ≡ line
+    → figuresKnown D types f ≡ within → textWithin text ≡ fitting → oneLine (cut lineEnd text) ≡ line
     → choose within
     (λ _. choose fitting (λ _. judgedReading D types f (readingLine (f .n) line)) (λ _. refusedVerdict text-length 0))
     (λ _. refusedVerdict outside-limits 0)

@@ -5,19 +5,16 @@
 --     lineRead types codes reading             what a line is
 --     lineAlone line                           the line, where there is no byte 10 in it
 --     LineRead                                 what stands before a text's last byte 10, the values in the lent places besides
---     Judging n codes X                        what a line is judged by
-use Prim.Native.Nat.{ℕ, _+_, _≤_}
+use Prim.Native.Nat.{ℕ, _+_}
 use mathlib.Core.Path.{_≡_}
-use mathlib.Core.Bool.{true, cond}
+use mathlib.Core.Bool.{cond}
 use mathlib.Core.List.{List, _++_, map}
 use mathlib.Core.Option.{Option, none, some}
 use lib.Dec.{eqb}
 use lib.IntN.{ℤ}
-use lib.ListN.{length, take, drop}
+use lib.ListN.{length, drop}
 use Rattle.text.specs.Parts.{lineEnd, free}
-use Rattle.limits.specs.Limits.{channelLimit}
-use Rattle.geometry.specs.Contracts.{CentreWithin}
-use Rattle.channel.specs.Channel.{Types, channelTypes, codesKnown}
+use Rattle.channel.specs.Channel.{Types}
 use Rattle.value.specs.Value.{Written, reads}
 use Rattle.value.specs.Values.{valuesOf, valuesInRange}
 use Rattle.reading.specs.Reading.{Reading, tagFields, valueFields, readingLine, tagsAgree}
@@ -54,10 +51,3 @@ pub record LineRead (types : Types) (codes line : List ℕ) (lent₀ lent : List
   pub same-length : length lent ≡ length lent₀
   pub written : (reading : Reading) → readingLine (length codes) (lineAlone line) ≡ some reading → r ≡ Within
       → lent ≡ map reads (reading .values) ++ drop (length codes) lent₀
-
--- n channels of known types, with as many places of X within their limit
-pub record Judging (n : ℕ) (codes : List ℕ) (X : List ℤ) : Type 0 where
-  pub channels : n ≤ channelLimit
-  pub typed : n ≤ length codes
-  pub each-known : codesKnown channelTypes (take n codes) ≡ true
-  pub centre : CentreWithin n X

@@ -45,7 +45,7 @@ use Rattle.reference.specs.Reference.{content}
 use Rattle.reference.specs.Printing.{Within}
 use Rattle.reference.specs.ReferenceLaws.{accepted-within}
 use Rattle.reference.specs.TableLaws.{table-length, table-at, accepted-table}
-use Rattle.envelope.specs.Figures.{channelCodes, figuresWithin, figuresOf}
+use Rattle.envelope.specs.Figures.{channelCodes, figuresKnown, figuresOf}
 use Rattle.envelope.specs.FigureLaws.{drawnFigures, drawn-within, checked-within}
 use Rattle.channel.specs.CodesLaws.{each-codes}
 use Rattle.envelope.specs.declared.Figures.{Figures}
@@ -80,7 +80,7 @@ module _ (D : ℕ) (types : Types) (f : Figures) where
       (either (valuesInRange types (channelCodes f) (reading .values)) _ _
       (verdict-not-8 (distanceOf D f (reading .values)) (f .ball .«scaled_squared_radius»)) (λ e. omega arith)) (λ e. omega arith) h
 
-  pub figures-not-8 : figuresWithin D types f ≡ true → (text : List ℕ) → verdictNumber (judged D types f text) ≡ outside-limits → ⊥
+  pub figures-not-8 : figuresKnown D types f ≡ true → (text : List ℕ) → verdictNumber (judged D types f text) ≡ outside-limits → ⊥
   unfolding judged
   figures-not-8 within text =
       rw within (either (textWithin text) _ _ (reading-not-8 (readingOf (f .n) text)) (λ e. omega arith))
@@ -107,7 +107,7 @@ module _ (D : ℕ) (types : Types) (types-sound : SoundTypes types) (n : ℕ) (c
   abbrev text : List ℕ
   text = printReading (ownReading types (take n codes) label values)
 
-  pub tight-row-quiet : (ball : Ball) (moves : ℕ) → figuresWithin D types (figuresOf n codes ball moves) ≡ true
+  pub tight-row-quiet : (ball : Ball) (moves : ℕ) → figuresKnown D types (figuresOf n codes ball moves) ≡ true
       → (m : ℕ) (a : ℕ → ℕ → ℤ) → Tight D m n a ball → (i : ℕ) → i < m → ((j : ℕ) → j < n → pointOf values j ≡ a i j)
       → judged D types (figuresOf n codes ball moves) text ≡ Quiet
   tight-row-quiet ball moves within m a t i l e =
@@ -181,7 +181,7 @@ module _ (D : ℕ) (positive : 0 < D) (limit : ℕ) (types : Types) (types-sound
   reference-checked-not-8 = checked-not-8 D types n held all-typed all-known positive limit table m
 
   module _ (i : ℕ) (l : i < m) where
-    pub reference-row-quiet : (ball : Ball) (moves : ℕ) → figuresWithin D types (figuresOf n held ball moves) ≡ true
+    pub reference-row-quiet : (ball : Ball) (moves : ℕ) → figuresKnown D types (figuresOf n held ball moves) ≡ true
         → Tight D m n (coordinate table n) ball → judged D types (figuresOf n held ball moves) (rowText i) ≡ Quiet
     reference-row-quiet ball moves within t =
         let row = getD rows i noRow in

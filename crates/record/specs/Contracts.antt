@@ -32,7 +32,7 @@ use Rattle.ball.specs.Ball.{noBall}
 use Rattle.ball.specs.declared.Ball.{Ball}
 use Rattle.text.specs.Parts.{textWithin, same}
 use Rattle.channel.specs.Channel.{Types, codesKnown}
-use Rattle.envelope.specs.Figures.{figuresWithin, figuresOf}
+use Rattle.envelope.specs.Figures.{figuresKnown, figuresOf}
 use Rattle.envelope.specs.Agreement.{agrees}
 use Rattle.envelope.specs.declared.Envelope.{Envelope}
 use Rattle.record_form.specs.Record.{Record, Form, faulty, sound, form}
@@ -114,7 +114,7 @@ pub record Agreeing (rows : List ℤ) (m n : ℕ) (codes : List ℕ) (s : Stated
 -- 8, 12, 13
 unfoldable pub recordWritten : ℕ → ℕ → Types → List ℤ → ℕ → Envelope → ℕ → TextWritten
 recordWritten D limit types rows m e places =
-    choose (figuresWithin D types (e .figures) && rowsWithin limit rows m (e .figures .n))
+    choose (figuresKnown D types (e .figures) && rowsWithin limit rows m (e .figures .n))
     (λ _. choose (agrees D limit rows m (e .figures .n) (e .figures .ball) (e .weights))
     (λ _. textWritten (recordText types e) places)
     (λ _. notWritten (refused disagreement)))

@@ -29,8 +29,8 @@ use Rattle.number.specs.UnsignedLaws.{Below}
 use Rattle.channel.specs.Channel.{channelTypes, codesKnown}
 use Rattle.channel.specs.ChannelLaws.{house-sound}
 use Rattle.channel.specs.ContractLaws.{house-short}
-use Rattle.envelope.specs.Figures.{figuresWithin}
-use Rattle.envelope.specs.FigureLaws.{within-figures}
+use Rattle.envelope.specs.Figures.{figuresKnown}
+use Rattle.envelope.specs.FigureLaws.{known-within, known-coded}
 use Rattle.envelope.specs.Agreement.{cleared, drawnEnvelope}
 use Rattle.envelope.specs.AgreementLaws.{agrees-agreed, agreed-weight}
 use Rattle.envelope.specs.declared.Envelope.{Envelope}
@@ -52,11 +52,11 @@ pub record Arrays (e : Envelope) : Type 0 where
 holding : (e : Envelope) → Arrays e → Holds rowLimit e
 holding e arrays = record { places = arrays .rows; short = λ i h. omega (arith, arrays .fitting i h) }
 
-pub house-room : (e : Envelope) → Arrays e → figuresWithin total channelTypes (e .figures) ≡ true
+pub house-room : (e : Envelope) → Arrays e → figuresKnown total channelTypes (e .figures) ≡ true
     → length (recordText channelTypes e) ≤ recordRoom rowLimit
 unfolding recordText
 house-room e arrays kept =
-    let figures = within-figures total channelTypes (e .figures) kept in
+    let figures = known-within total channelTypes (e .figures) kept in
     omega (
       arith,
       arrays .rows,
@@ -64,7 +64,7 @@ house-room e arrays kept =
           (omega (arith, figures .moves-limit)) (λ i h. omega (arith, arrays .fitting i h)),
     )
 
-pub house-text : (e : Envelope) → Arrays e → figuresWithin total channelTypes (e .figures) ≡ true → length (recordText channelTypes e) ≤ textLimit
+pub house-text : (e : Envelope) → Arrays e → figuresKnown total channelTypes (e .figures) ≡ true → length (recordText channelTypes e) ≤ textLimit
 house-text e arrays kept = omega (arith, house-room e arrays kept)
 
 -- ---- the most bytes of a record
@@ -76,7 +76,7 @@ module _ (rows : List ℤ) (m : ℕ) (e : Envelope) where
   house-most writing =
       let f = e .figures in
       let ball = f .ball in
-      let figures = within-figures total channelTypes f (writing .figures-kept) in
+      let figures = known-within total channelTypes f (writing .figures-kept) in
       let few = within-limits rowLimit rows m (f .n) (writing .rows-kept) .rows-most in
       let agreed = agrees-agreed total rowLimit rows m (f .n) ball (e .weights) (writing .agreeing) in
       omega (
@@ -84,7 +84,7 @@ module _ (rows : List ℤ) (m : ℕ) (e : Envelope) where
         few,
         figures .channels,
         record-length channelTypes (recordOf f (e .weights)),
-        heading-short f channelTypes house-short (omega (arith, figures .channels)) (figures .typed),
+        heading-short f channelTypes house-short (omega (arith, figures .channels)) (known-coded total channelTypes f (writing .figures-kept) .typed),
         centre-short 9 (f .n) (ball .«scaled_centre») (omega arith) (figures .places) (λ k h. omega (arith, figures .centre-limit k h)),
         result-short 19 7 (ball .«scaled_squared_radius») (ball .«scaled_lower_bound») (f .moves) (omega arith) (omega arith)
             (omega (arith, figures .radius-limit)) (omega (arith, figures .floor-limit)) (omega (arith, figures .moves-limit)) (ball .settled),
@@ -116,7 +116,7 @@ module _ (rows : List ℤ) (m : ℕ) (e : Envelope) (arrays : Arrays e) (places 
   house-unread h =
       disagreement-unread total rowLimit channelTypes house-sound (omega arith) (omega arith) (omega arith) rows m e (holding e arrays) places h
 
-  pub house-refused : figuresWithin total channelTypes (e .figures) ≡ true → rowsWithin rowLimit rows m (e .figures .n) ≡ true
+  pub house-refused : figuresKnown total channelTypes (e .figures) ≡ true → rowsWithin rowLimit rows m (e .figures .n) ≡ true
       → (readBack .outcome ≡ Accepted → ⊥) → recordWritten total rowLimit channelTypes rows m e places ≡ notWritten (refused disagreement)
   house-refused kept rows-kept unread =
       unread-disagreement total rowLimit channelTypes house-sound (omega arith) (omega arith) (omega arith) rows m e (holding e arrays) places kept

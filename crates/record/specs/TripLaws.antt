@@ -39,8 +39,8 @@ use Rattle.number.specs.Contracts.{magnitudeLimit}
 use Rattle.channel.specs.Channel.{Types, codesKnown}
 use Rattle.channel.specs.ChannelLaws.{SoundTypes}
 use Rattle.heading.specs.Heading.{CodesWithin}
-use Rattle.envelope.specs.Figures.{channelCodes, figuresWithin, figuresOf}
-use Rattle.envelope.specs.FigureLaws.{Within as FiguresWithin, within-figures, figures-within, figures-refused}
+use Rattle.envelope.specs.Figures.{channelCodes, figuresKnown, figuresOf}
+use Rattle.envelope.specs.FigureLaws.{Within as FiguresWithin, Coded, known-within, known-coded, figures-known, known-refused}
 use Rattle.channel.specs.CodesLaws.{codes-each, each-codes}
 use Rattle.envelope.specs.Agreement.{agrees, withCentre, clearedBall, cleared}
 use Rattle.envelope.specs.AgreementLaws.{agrees-agreed, agrees-cleared, agreed-within, agreed-tight, agreed-some}
@@ -181,7 +181,7 @@ module _ (D limit : ℕ) (types : Types) (types-sound : SoundTypes types) where
           let own : recordText types e ≡ text = ap (printRecord types) accepted-record ∙ printed .1 in
           (own, λ places room. writing-written D limit types rows m e places accepted-writing (omega (arith, ap length own, room)) ∙ ap (λ (l : List ℕ). written (length l)) own)
 
-      pub accepted-within : figuresWithin D types (e .figures) ≡ true
+      pub accepted-within : figuresKnown D types (e .figures) ≡ true
       accepted-within = accepted-writing .figures-kept
 
       pub accepted-tight : Tight D m n (coordinate rows n) (e .figures .ball)
@@ -205,12 +205,15 @@ distance-most D h =
     let twice : 2 * centreLimit D ≤ 2 * centreLimit total = omega arith in
     mul-le-mul (mul-le-mul (le-refl channelLimit) twice) twice
 
-module _ (D limit : ℕ) (types : Types) (e : Envelope) (D-most : D ≤ total) (kept : figuresWithin D types (e .figures) ≡ true) (holds : Holds limit e) where
-  figures : FiguresWithin D types (e .figures)
-  figures = within-figures D types (e .figures) kept
+module _ (D limit : ℕ) (types : Types) (e : Envelope) (D-most : D ≤ total) (kept : figuresKnown D types (e .figures) ≡ true) (holds : Holds limit e) where
+  figures : FiguresWithin D (e .figures)
+  figures = known-within D types (e .figures) kept
+
+  known-codes : Coded types (e .figures)
+  known-codes = known-coded D types (e .figures) kept
 
   coded : length (channelCodes (e .figures)) ≡ e .figures .n
-  coded = length-take-le (e .figures .n) (e .figures .codes) (figures .typed)
+  coded = length-take-le (e .figures .n) (e .figures .codes) (known-codes .typed)
 
   placed : length (take (e .figures .n) (e .figures .ball .«scaled_centre»)) ≡ e .figures .n
   placed = length-take-le (e .figures .n) (e .figures .ball .«scaled_centre») (figures .places)
@@ -220,7 +223,7 @@ module _ (D limit : ℕ) (types : Types) (e : Envelope) (D-most : D ≤ total) (
       record {
         some-channel = omega (arith, coded, figures .some-channel);
         channels = omega (arith, coded, figures .channels);
-        each-known = codes-each types (channelCodes (e .figures)) (figures .codes);
+        each-known = codes-each types (channelCodes (e .figures)) (known-codes .each-known);
       }
 
   pub record-within : 1 ≤ length (listed 1 (e .weights)) → Within limit types (recordOf (e .figures) (e .weights))
@@ -252,16 +255,16 @@ module _ (D limit : ℕ) (types : Types) (types-sound : SoundTypes types) (posit
     ws = e .weights
 
     -- what a written record is read against is within limits
-    read-given : figuresWithin D types (e .figures) ≡ true → rowsWithin limit rows m n ≡ true → givenWithin limit types rows m n (e .figures .codes) ≡ true
+    read-given : figuresKnown D types (e .figures) ≡ true → rowsWithin limit rows m n ≡ true → givenWithin limit types rows m n (e .figures .codes) ≡ true
     read-given kept rows-kept =
-        let figures = within-figures D types (e .figures) kept in
-        ap₂ _&&_ rows-kept (ap₂ _&&_ (le-leb n (length (e .figures .codes)) (figures .typed)) (figures .codes))
+        let known = known-coded D types (e .figures) kept in
+        ap₂ _&&_ rows-kept (ap₂ _&&_ (le-leb n (length (e .figures .codes)) (known .typed)) (known .each-known))
 
     -- the ball that the envelope's own record states
-    own-states : figuresWithin D types (e .figures) ≡ true → ballOfRecord (recordOf (e .figures) ws) ≡ some (clearedBall n b)
+    own-states : figuresKnown D types (e .figures) ≡ true → ballOfRecord (recordOf (e .figures) ws) ≡ some (clearedBall n b)
     own-states kept =
-        let figures = within-figures D types (e .figures) kept in
-        ap (λ (k : ℕ). some (withCentre b (centreList k (centreOf (take n (b .«scaled_centre»)))))) (length-take-le n (e .figures .codes) (figures .typed))
+        let figures = known-within D types (e .figures) kept in
+        ap (λ (k : ℕ). some (withCentre b (centreList k (centreOf (take n (b .«scaled_centre»)))))) (length-take-le n (e .figures .codes) (known-coded D types (e .figures) kept .typed))
         ∙ ap (λ (X : List ℤ). some (withCentre b X)) (put-back (b .«scaled_centre») n (figures .channels))
 
     module _ (w : Writing D limit types rows m e) where
@@ -274,8 +277,8 @@ module _ (D limit : ℕ) (types : Types) (types-sound : SoundTypes types) (posit
           → Accepting D limit types rows m n (e .figures .codes) (recordText types e) (cleared e)
       unfolding recordText printRecord
       written-accepting room =
-          let figures = within-figures D types (e .figures) (w .figures-kept) in
-          let coded = length-take-le n (e .figures .codes) (figures .typed) in
+          let figures = known-within D types (e .figures) (w .figures-kept) in
+          let coded = length-take-le n (e .figures .codes) (known-coded D types (e .figures) (w .figures-kept) .typed) in
           let weights-are = listed-placed limit ws (holds .places) in
           record {
             given = read-given (w .figures-kept) (w .rows-kept);
@@ -302,7 +305,7 @@ module _ (D limit : ℕ) (types : Types) (types-sound : SoundTypes types) (posit
     -- ---- 12
 
     -- an accepted text of an envelope within limits states that envelope's record
-    read-own : figuresWithin D types (e .figures) ≡ true → (x : Envelope)
+    read-own : figuresKnown D types (e .figures) ≡ true → (x : Envelope)
         → (a : Accepting D limit types rows m n (e .figures .codes) (recordText types e) x) → recordOf (e .figures) ws ≡ a .stated
     unfolding recordText
     read-own kept x a =
@@ -317,14 +320,14 @@ module _ (D limit : ℕ) (types : Types) (types-sound : SoundTypes types) (posit
         same h = cc
 
     -- what such a text states agrees with the rows only where the envelope does
-    own-agrees : figuresWithin D types (e .figures) ≡ true → (x : Envelope)
+    own-agrees : figuresKnown D types (e .figures) ≡ true → (x : Envelope)
         → Accepting D limit types rows m n (e .figures .codes) (recordText types e) x → agrees D limit rows m n b ws ≡ true
     own-agrees kept x a =
-        let figures = within-figures D types (e .figures) kept in
+        let figures = known-within D types (e .figures) kept in
         let own = read-own kept x a in
         let ball-is = inside (sym (own-states kept) ∙ ap ballOfRecord own ∙ a .states) in
         let weights-are = sym (listed-placed limit ws (holds .places)) ∙ ap (λ (r : Record). weightsOf limit (r .weights)) own in
-        let coded = length-take-le n (e .figures .codes) (figures .typed) in
+        let coded = length-take-le n (e .figures .codes) (known-coded D types (e .figures) kept .typed) in
         sym (agrees-cleared D limit rows m n b ws (figures .channels))
         ∙ ap₂ (agrees D limit rows m n) ball-is weights-are
         ∙ ap (λ (k : ℕ). agrees D limit rows m k (a .ball) (weightsOf limit (a .stated .weights))) (sym coded)
@@ -340,7 +343,7 @@ module _ (D limit : ℕ) (types : Types) (types-sound : SoundTypes types) (posit
         let a = accepted-read D limit types rows m n (e .figures .codes) (recordText types e) accepted in
         clash (own-agrees (found .0) _ a) (found .2)
 
-    pub unread-disagreement : (places : ℕ) → figuresWithin D types (e .figures) ≡ true → rowsWithin limit rows m n ≡ true
+    pub unread-disagreement : (places : ℕ) → figuresKnown D types (e .figures) ≡ true → rowsWithin limit rows m n ≡ true
         → length (recordText types e) ≤ textLimit
         → (recordRead D limit types rows m n (e .figures .codes) (recordText types e) .outcome ≡ Accepted → ⊥)
         → recordWritten D limit types rows m e places ≡ notWritten (refused disagreement)
@@ -379,9 +382,9 @@ module _ (D limit : ℕ) (types : Types) (e : Envelope) (typed : length (e .figu
         recordWith codes centre =
             record { codes = codes; centre = centre; result = recordOf (e .figures) (e .weights) .result; weights = listed 1 (e .weights) }
 
-    figures-kept : figuresWithin D types (cleared e .figures) ≡ figuresWithin D types (e .figures)
+    figures-kept : figuresKnown D types (cleared e .figures) ≡ figuresKnown D types (e .figures)
     figures-kept =
-        test-same (figuresWithin D types (cleared e .figures)) (figuresWithin D types (e .figures))
+        test-same (figuresKnown D types (cleared e .figures)) (figuresKnown D types (e .figures))
         (other (cleared e .figures .codes) (e .figures .codes) (cleared e .figures .ball .«scaled_centre») X (omega arith) (omega arith) (sym codes-kept)
         (λ k h. sym (places-kept-at k h)))
         (other (e .figures .codes) (cleared e .figures .codes) X (cleared e .figures .ball .«scaled_centre»)
@@ -393,22 +396,22 @@ module _ (D limit : ℕ) (types : Types) (e : Envelope) (typed : length (e .figu
         -- only the first n codes and places are looked at
         other : (codes codes' : List ℕ) (x x' : List ℤ) → count ≤ length codes' → count ≤ length x' → take count codes' ≡ take count codes
             → ((k : ℕ) → k < count → centreOf x' k ≡ centreOf x k)
-            → figuresWithin D types (figuresOf count codes (withCentre (e .figures .ball) x) (e .figures .moves)) ≡ true
-            → figuresWithin D types (figuresOf count codes' (withCentre (e .figures .ball) x') (e .figures .moves)) ≡ true
+            → figuresKnown D types (figuresOf count codes (withCentre (e .figures .ball) x) (e .figures .moves)) ≡ true
+            → figuresKnown D types (figuresOf count codes' (withCentre (e .figures .ball) x') (e .figures .moves)) ≡ true
         other codes codes' x x' long wide same-codes same-places h =
-            let w = within-figures D types (figuresOf count codes (withCentre (e .figures .ball) x) (e .figures .moves)) h in
-            figures-within D types (figuresOf count codes' (withCentre (e .figures .ball) x') (e .figures .moves))
+            let given = figuresOf count codes (withCentre (e .figures .ball) x) (e .figures .moves) in
+            let w = known-within D types given h in
+            figures-known D types (figuresOf count codes' (withCentre (e .figures .ball) x') (e .figures .moves))
             record {
               some-channel = w .some-channel;
               channels = most;
-              typed = long;
               places = wide;
-              codes = ap (codesKnown types) same-codes ∙ w .codes;
               centre-limit = λ k l. omega (arith, ap natAbs (same-places k l), w .centre-limit k l);
               radius-limit = w .radius-limit;
               floor-limit = w .floor-limit;
               moves-limit = w .moves-limit;
             }
+            record { typed = long; each-known = ap (codesKnown types) same-codes ∙ known-coded D types given h .each-known }
 
   pub written-cleared : (rows : List ℤ) (m places : ℕ) → recordWritten D limit types rows m (cleared e) places ≡ recordWritten D limit types rows m e places
   unfolding recordWritten
@@ -418,4 +421,4 @@ module _ (D limit : ℕ) (types : Types) (e : Envelope) (typed : length (e .figu
       go (yes most) =
           rw (figures-kept most, agrees-cleared D limit rows m count (e .figures .ball) (e .weights) most, cleared-text most)
       go (no more) =
-          rw (sym (figures-refused D types (e .figures) (λ w. more (w .channels))), sym (figures-refused D types (cleared e .figures) (λ w. more (w .channels))))
+          rw (sym (known-refused D types (e .figures) (λ w. more (w .channels))), sym (known-refused D types (cleared e .figures) (λ w. more (w .channels))))

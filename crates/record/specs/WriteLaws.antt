@@ -24,8 +24,8 @@ use Rattle.refusal.specs.declared.Outcome.the-variants.{Accepted}
 use Rattle.geometry.specs.Table.{rowsWithin}
 use Rattle.limits.specs.Limits.{total, rowLimit}
 use Rattle.channel.specs.Channel.{Types}
-use Rattle.envelope.specs.Figures.{figuresWithin}
-use Rattle.envelope.specs.FigureLaws.{within-figures}
+use Rattle.envelope.specs.Figures.{figuresKnown}
+use Rattle.envelope.specs.FigureLaws.{known-within, known-coded}
 use Rattle.envelope.specs.Agreement.{agrees}
 use Rattle.envelope.specs.declared.Figures.{Figures}
 use Rattle.envelope.specs.declared.Envelope.{Envelope}
@@ -35,13 +35,13 @@ use Rattle.record.specs.Contracts.{recordWritten}
 use Rattle.lent.specs.Contracts.{notWritten, written, textWritten}
 use Rattle.lent.specs.declared.TextWritten.{TextWritten}
 
-pub within-printing : (types : Types) (f : Figures) (weights : List ℕ) → figuresWithin total types f ≡ true → length weights ≡ rowLimit
+pub within-printing : (types : Types) (f : Figures) (weights : List ℕ) → figuresKnown total types f ≡ true → length weights ≡ rowLimit
     → Printing f weights
 within-printing types f weights h count =
-    let within = within-figures total types f h in
+    let within = known-within total types f h in
     record {
       channels = within .channels;
-      typed = within .typed;
+      typed = known-coded total types f h .typed;
       places = within .places;
       centre-small = λ k l. omega (arith, within .centre-limit k l);
       radius-small = omega (arith, within .radius-limit);
@@ -50,17 +50,17 @@ within-printing types f weights h count =
     }
 
 pub record Writing (D limit : ℕ) (types : Types) (rows : List ℤ) (m : ℕ) (e : Envelope) : Type 0 where
-  pub figures-kept : figuresWithin D types (e .figures) ≡ true
+  pub figures-kept : figuresKnown D types (e .figures) ≡ true
   pub rows-kept : rowsWithin limit rows m (e .figures .n) ≡ true
   pub agreeing : agrees D limit rows m (e .figures .n) (e .figures .ball) (e .weights) ≡ true
 
 module _ (D limit : ℕ) (types : Types) (rows : List ℤ) (m : ℕ) (e : Envelope) where
   module _ (places : ℕ) where
-    pub outside-figures : figuresWithin D types (e .figures) ≡ false → recordWritten D limit types rows m e places ≡ notWritten (refused outside-limits)
+    pub outside-figures : figuresKnown D types (e .figures) ≡ false → recordWritten D limit types rows m e places ≡ notWritten (refused outside-limits)
     unfolding recordWritten
     outside-figures h = rw (h, recordWritten)
 
-    module _ (figures : figuresWithin D types (e .figures) ≡ true) where
+    module _ (figures : figuresKnown D types (e .figures) ≡ true) where
       pub outside-rows : rowsWithin limit rows m (e .figures .n) ≡ false
           → recordWritten D limit types rows m e places ≡ notWritten (refused outside-limits)
       unfolding recordWritten
@@ -86,17 +86,17 @@ module _ (D limit : ℕ) (types : Types) (rows : List ℤ) (m : ℕ) (e : Envelo
 
     -- what holds of each answer holds of the call
     module _ (P : TextWritten → Type 0) (outside : P (notWritten (refused outside-limits)))
-        (disagreed : figuresWithin D types (e .figures) ≡ true → rowsWithin limit rows m (e .figures .n) ≡ true
+        (disagreed : figuresKnown D types (e .figures) ≡ true → rowsWithin limit rows m (e .figures .n) ≡ true
         → agrees D limit rows m (e .figures .n) (e .figures .ball) (e .weights) ≡ false → P (notWritten (refused disagreement)))
         (short : Writing D limit types rows m e → places < length (recordText types e) → P (notWritten (refused buffer-short)))
         (whole : Writing D limit types rows m e → length (recordText types e) ≤ places → P (written (length (recordText types e)))) where
       pub each-written : P (recordWritten D limit types rows m e places)
       unfolding recordWritten
       each-written =
-          go (figuresWithin D types (e .figures)) (rowsWithin limit rows m (e .figures .n))
+          go (figuresKnown D types (e .figures)) (rowsWithin limit rows m (e .figures .n))
           (agrees D limit rows m (e .figures .n) (e .figures .ball) (e .weights)) (leb (length (recordText types e)) places) refl refl refl refl
         where
-          go : (f r a l : Bool) → figuresWithin D types (e .figures) ≡ f → rowsWithin limit rows m (e .figures .n) ≡ r
+          go : (f r a l : Bool) → figuresKnown D types (e .figures) ≡ f → rowsWithin limit rows m (e .figures .n) ≡ r
               → agrees D limit rows m (e .figures .n) (e .figures .ball) (e .weights) ≡ a → leb (length (recordText types e)) places ≡ l
               → P (choose (f && r) (λ _. choose a (λ _. choose l (λ _. written (length (recordText types e)))
               (λ _. notWritten (refused buffer-short))) (λ _. notWritten (refused disagreement))) (λ _. notWritten (refused outside-limits)))
@@ -114,11 +114,11 @@ module _ (D limit : ℕ) (types : Types) (rows : List ℤ) (m : ℕ) (e : Envelo
         nonzero (λ f r a. nonzero) (λ w l. nonzero) (λ w l k. w) (ap numberOf h)
 
     pub writing-refused : numberOf (recordWritten D limit types rows m e places .outcome) ≡ disagreement
-        → (figuresWithin D types (e .figures) ≡ true) × (rowsWithin limit rows m (e .figures .n) ≡ true)
+        → (figuresKnown D types (e .figures) ≡ true) × (rowsWithin limit rows m (e .figures .n) ≡ true)
         × (agrees D limit rows m (e .figures .n) (e .figures .ball) (e .weights) ≡ false)
     writing-refused =
         each-written
         (λ (a : TextWritten). numberOf (a .outcome) ≡ disagreement
-        → (figuresWithin D types (e .figures) ≡ true) × (rowsWithin limit rows m (e .figures .n) ≡ true)
+        → (figuresKnown D types (e .figures) ≡ true) × (rowsWithin limit rows m (e .figures .n) ≡ true)
         × (agrees D limit rows m (e .figures .n) (e .figures .ball) (e .weights) ≡ false))
         (λ h. absurd (omega arith)) (λ f r a h. (f, r, a)) (λ w l h. absurd (omega arith)) (λ w l h. absurd (omega arith))

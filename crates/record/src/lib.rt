@@ -16,7 +16,7 @@ use channel::same_codes;
 use envelope::Envelope;
 use envelope::Figures;
 use envelope::agreement::agrees;
-use envelope::figures_within;
+use envelope::figures_known;
 use figures::table::rows_within;
 use lent::TextWritten;
 use lent::hand_out;
@@ -148,18 +148,9 @@ pub fn write(envelope: Envelope, rows: &[i32], m: usize, buffer: &mut [u8]) -> T
 {
     let figures = envelope.figures;
     let weights = envelope.weights;
-    let codes = figures.codes;
     let ball = figures.ball;
-    let centre = ball.scaled_centre;
     let n = figures.n;
-    if !figures_within(
-        n,
-        &codes,
-        &centre,
-        ball.scaled_squared_radius,
-        ball.scaled_lower_bound,
-        figures.moves,
-    ) {
+    if !figures_known(figures) {
         return not_written(refusal::OUTSIDE_LIMITS);
     }
     if !rows_within(rows, m, n) {

@@ -16,7 +16,7 @@ use Rattle.geometry.specs.Move.{scaledSquaredDistanceOf, farRow, nearRow, diffe
 use Rattle.geometry.specs.Table.{coordinate, placesWithin, rowsWithin}
 use Rattle.limits.specs.Limits.{total, rowLimit}
 use Rattle.geometry.specs.Places.{tabulate, centreList}
-use Rattle.ball.specs.Ball.{ballOf}
+use Rattle.ball.specs.Ball.{ballOf, noBall}
 use Rattle.ball.specs.Draw.{run, start, runFrom, drawing}
 use Rattle.ball.specs.declared.Drawing.{Drawing}
 use Rattle.text.specs.Parts.{join}
@@ -25,8 +25,8 @@ use Rattle.number.specs.Number.{decimal, printMagnitude, print}
 use Rattle.printing.specs.Contracts.{numbersAfter}
 use Rattle.channel.specs.Channel.{channelTypes, houseTypes, typeIn, knownIn, typeOf, known, codesKnown}
 use Rattle.heading.specs.Heading.{printHeading}
-use Rattle.envelope.specs.Figures.{figuresWithin, lentFigures}
-use Rattle.envelope.specs.Agreement.{drawnEnvelope}
+use Rattle.envelope.specs.Figures.{figuresWithin, codesWithin, figuresKnown, figuresOf}
+use Rattle.envelope.specs.Agreement.{withCentre, drawnEnvelope}
 use Rattle.record_form.specs.Lines.{printCentre, printResult, printWeight}
 use Rattle.record_form.specs.Record.{printRecord}
 use Rattle.record_form.specs.Weights.{listed}
@@ -69,7 +69,7 @@ right-triangle = numbers (0 ∷ 0 ∷ 6 ∷ 0 ∷ 0 ∷ 8 ∷ [])
 -- the refusal's number, 0 where there is none, and what the panel shows of one channel, of type TMP, with this X
 shown : ℤ → List ℤ
 shown x =
-    let panel = panelShown total channelTypes (lentFigures 1 (5 ∷ []) (x ∷ []) 0 0 0) in
+    let panel = panelShown total channelTypes (figuresOf 1 (5 ∷ []) (withCentre noBall (x ∷ [])) 0) in
     pos (numberOf (panel .outcome)) ∷ take 1 (panel .steps)
 
 -- `ENV`, 2, `TOC`, `CND`; `C`, 196608, 262144; `R`, 107374182400, 107374182400, 2, `S`; `W`, 2, 32768; `W`, 3, 32768
@@ -132,5 +132,5 @@ trials =
     ∷ []
 
 pub trials-agree : map (λ (t : Trial). t .computed) trials ≡ map (λ (t : Trial). t .stated) trials
-unfolding trials numbers flag draw outline whole differenceUnder transferUnder right-triangle shown exampleRecord join printLines decimal printMagnitude print numbersAfter houseTypes typeIn knownIn typeOf printHeading printCentre printResult printWeight printRecord listed recordText sumℤ sumℕ square squaredLength squaredDistance scaledCentre scaledSquaredDistance largest scaledSquaredRadius weightedSquaredLength scaledLowerBound farthest replaces nearest scaledSquaredDistanceOf farRow nearRow difference separation settled transfer moveWeight moved coordinate placesWithin rowsWithin tabulate centreList ballOf run start runFrom drawing known codesKnown figuresWithin panelShown
+unfolding trials numbers flag draw outline whole differenceUnder transferUnder right-triangle shown exampleRecord join printLines decimal printMagnitude print numbersAfter houseTypes typeIn knownIn typeOf printHeading printCentre printResult printWeight printRecord listed recordText sumℤ sumℕ square squaredLength squaredDistance scaledCentre scaledSquaredDistance largest scaledSquaredRadius weightedSquaredLength scaledLowerBound farthest replaces nearest scaledSquaredDistanceOf farRow nearRow difference separation settled transfer moveWeight moved coordinate placesWithin rowsWithin tabulate centreList ballOf run start runFrom drawing known codesKnown figuresWithin codesWithin figuresKnown panelShown
 trials-agree = refl

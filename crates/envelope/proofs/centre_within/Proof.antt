@@ -10,13 +10,13 @@ use Rattle.envelope.proofs.centre_within.Statement.{statement}
 use Rattle.envelope.proofs.centre_within.Tie as tie
 
 abbrev Inv-loop : tie.InvT-loop
-Inv-loop centre n k₀ k = PlacesSoFar (centreLimit total) centre n k
+Inv-loop scaled-centre n k₀ k = PlacesSoFar (centreLimit total) scaled-centre n k
 
 abbrev μ-loop : tie.MeasureT-loop
-μ-loop centre n k₀ k = n - k
+μ-loop scaled-centre n k₀ k = n - k
 
 loop-holds : tie.Need-loop-holds Inv-loop μ-loop
-loop-holds c = places-none (centreLimit total) (c .args .centre .now) (c .args .n)
+loop-holds c = places-none (centreLimit total) (c .args .scaled-centre .now) (c .args .n)
 
 mul-x : tie.Need-mul-x Inv-loop μ-loop
 mul-x c = omega arith
@@ -32,7 +32,7 @@ returns c =
     let s = c .before .before .before .before .before .args in
     let l = c .before .before .before .before .loop in
     let t = c .before .place-within in
-    places-fail (centreLimit total) (s .centre .now) (s .n) w64 (l .k)
+    places-fail (centreLimit total) (s .scaled-centre .now) (s .n) w64 (l .k)
     (omega arith) (sfits-of (c .before .before .x .given)) (t .result) (t .ensures) (c .if1 .taken)
 
 add-k : tie.Need-add-k Inv-loop μ-loop
@@ -46,14 +46,14 @@ loop-again c =
     let s = c .before .before .before .before .before .args in
     let l = c .before .before .before .before .loop in
     let t = c .before .place-within in
-    places-next (centreLimit total) (s .centre .now) (s .n) w64 (l .k)
+    places-next (centreLimit total) (s .scaled-centre .now) (s .n) w64 (l .k)
     (omega arith) (sfits-of (c .before .before .x .given)) (t .result) (t .ensures) (l .inv) (c .if1 .left)
 
 returns-2 : tie.Need-returns-2 Inv-loop μ-loop
 returns-2 c =
     let s = c .before .before .args in
     let l = c .before .loop in
-    places-done (centreLimit total) (s .centre .now) (s .n) (l .k) (l .inv) (omega arith)
+    places-done (centreLimit total) (s .scaled-centre .now) (s .n) (l .k) (l .inv) (omega arith)
 
 pub centre-within-spec : {M : Type 1} → statement M
 centre-within-spec =

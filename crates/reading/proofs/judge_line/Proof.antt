@@ -1,18 +1,20 @@
--- n is at most 8, there are n types and n places of X, which are within their limit. What the line is decides the verdict; the values
--- of a line within stand in the first n of the eight places, as the one row whose s is compared with M.
+-- The figures are within their limits and their codes known. What the line is decides the verdict; the values of a line within stand
+-- in the first n of the channels' places, as the one row whose s is compared with M.
 use mathlib.Core.Path.{_≡_, sym, ap, _∙_}
+use mathlib.Core.Option.{Option}
 use native.Mathlib.Omega.{arith}
 use borrow.Author.Needs.{needs}
-use lib.ListN.{length, take}
+use lib.ListN.{length}
 use lib.Seq.{length-take-le}
 use denote.Ref.{now}
 use Rattle.limits.specs.Limits.{total}
 use Rattle.geometry.specs.Places.{centreOf}
 use Rattle.channel.specs.Channel.{channelTypes}
 use Rattle.channel.specs.ChannelLaws.{house-sound}
-use Rattle.envelope.specs.Figures.{lentFigures}
+use Rattle.envelope.specs.Figures.{channelCodes}
+use Rattle.envelope.specs.FigureLaws.{Within as FiguresWithin, Coded, known-within, known-coded, within-centre}
 use Rattle.envelope.specs.declared.Figures.{Figures}
-use Rattle.reading.specs.Reading.{readingLine}
+use Rattle.reading.specs.Reading.{Reading, readingLine}
 use Rattle.reading.specs.Verdict.{verdictOf, judgedReading}
 use Rattle.reading.specs.Contracts.{lineAlone}
 use Rattle.reading.specs.declared.line.Line.{Line}
@@ -21,38 +23,49 @@ use Rattle.reading.proofs.VerdictSteps.{lineVerdict, byDistance, judged
 use Rattle.reading.proofs.judge_line.Statement.{statement}
 use Rattle.reading.proofs.judge_line.Tie as tie
 
--- the figures that the line is judged by
-abbrev figures : tie.Start → Figures
-figures c = lentFigures (c .args .n) (now (c .args .codes)) (now (c .args .centre)) (c .args .scaled-squared-radius) 0 0
+-- where the line is read, and the figures that it is judged by
+abbrev start-of : tie.After-read-line → tie.Start
+start-of c = c .before .before .before .before .before .before .before
+
+abbrev figures : tie.After-read-line → Figures
+figures c = start-of c .args .figures
+
+limits : (c : tie.Start) → FiguresWithin total (c .args .figures)
+limits c = known-within total channelTypes (c .args .figures) (c .pre)
+
+coded : (c : tie.Start) → Coded channelTypes (c .args .figures)
+coded c = known-coded total channelTypes (c .args .figures) (c .pre)
 
 slice-aggregate-read-line : tie.Need-slice-aggregate-read-line
 slice-aggregate-read-line c = search needs
 
+slice-aggregate-read-line-2 : tie.Need-slice-aggregate-read-line-2
+slice-aggregate-read-line-2 c = search needs
+
 read-line-requires : tie.Need-read-line-requires
 read-line-requires c κs =
-    let judging = c .before .before .before .pre in
-    (judging .each-known, (judging .typed, omega (arith, judging .channels)))
+    let start = c .before .before .before .before .before .before in
+    (coded start .each-known, (coded start .typed, omega (arith, limits start .channels)))
 
 -- as many codes as channels
-count : (c : tie.After-read-line)
-    → let args = c .before .before .before .before .args in length (take (args .n) (now (args .codes))) ≡ args .n
-count c =
-    let start = c .before .before .before .before in
-    length-take-le (start .args .n) (now (start .args .codes)) (start .pre .typed)
+count : (c : tie.After-read-line) → length (channelCodes (figures c)) ≡ figures c .n
+count c = length-take-le (figures c .n) (figures c .codes) (coded (start-of c) .typed)
+
+-- the reading that the line is
+abbrev reading : tie.After-read-line → Option Reading
+reading c = readingLine (figures c .n) (lineAlone (now (start-of c .args .line)))
 
 -- the verdict, by what the line is told to be
 decided : (c : tie.After-read-line) (told : Line) → c .read-line .result ≡ told
-    → let start = c .before .before .before .before in
-    let reading = readingLine (start .args .n) (lineAlone (now (start .args .line))) in
-    lineVerdict told (byDistance total (figures start) reading) ≡ judgedReading total channelTypes (figures start) reading
-decided c = judged-line total channelTypes (figures (c .before .before .before .before)) (c .read-line .ensures) (count c)
+    → lineVerdict told (byDistance total (figures c) (reading c)) ≡ judgedReading total channelTypes (figures c) (reading c)
+decided c = judged-line total channelTypes (figures c) (c .read-line .ensures) (count c)
 
 -- the places of a line within
 point : (c : tie.After-read-line) → c .read-line .result ≡ Within
-    → let args = c .before .before .before .before .args in PointRead (now (args .line)) (c .read-line .last .1 .1 .1 .0) (args .n)
+    → PointRead (now (start-of c .args .line)) (c .read-line .last .1 .1 .1 .0) (figures c .n)
 point c is =
-    let start = c .before .before .before .before in
-    point-read (rw is at (c .read-line .ensures)) house-sound (start .args .n) (count c) (omega (arith, start .pre .channels)) (start .pre .channels)
+    let most = limits (start-of c) .channels in
+    point-read (rw is at (c .read-line .ensures)) house-sound (figures c .n) (count c) (omega (arith, most)) most
 
 enum-told : tie.Need-enum-told
 enum-told c = search needs
@@ -78,11 +91,14 @@ enum-told-4 c = search needs
 slice-aggregate-scaled-squared-distance : tie.Need-slice-aggregate-scaled-squared-distance
 slice-aggregate-scaled-squared-distance c = search needs
 
+slice-aggregate-scaled-squared-distance-2 : tie.Need-slice-aggregate-scaled-squared-distance-2
+slice-aggregate-scaled-squared-distance-2 c = search needs
+
 scaled-squared-distance-requires : tie.Need-scaled-squared-distance-requires
 scaled-squared-distance-requires c κs =
-    let told = c .before in
+    let told = c .before .before in
     let at-read = told .before .before .before in
-    (point at-read (told .enum-told4 .given .1) .row, at-read .before .before .before .before .pre .centre)
+    (point at-read (told .enum-told4 .given .1) .row, within-centre (limits (start-of at-read)))
 
 verdict-of-requires : tie.Need-verdict-of-requires
 verdict-of-requires c κs = search needs
@@ -105,14 +121,14 @@ returns-3 c =
 returns-4 : tie.Need-returns-4
 returns-4 c =
     let at-distance = c .before in
-    let told = at-distance .before .before in
+    let told = at-distance .before .before .before in
     let at-read = told .before .before .before in
-    let start = at-read .before .before .before .before in
+    let ball = figures at-read .ball in
     let within = point at-read (told .enum-told4 .given .1) in
     c .verdict-of .ensures
-    ∙ ap (λ s. verdictOf s (start .args .scaled-squared-radius))
-    (at-distance .scaled-squared-distance .ensures .is ∙ within .distance total (centreOf (now (start .args .centre))))
-    ∙ ap (byDistance total (figures start)) (sym (within .is))
+    ∙ ap (λ s. verdictOf s (ball .«scaled_squared_radius»))
+    (at-distance .scaled-squared-distance .ensures .is ∙ within .distance total (centreOf (ball .«scaled_centre»)))
+    ∙ ap (byDistance total (figures at-read)) (sym (within .is))
     ∙ decided at-read Within (told .enum-told4 .given .1)
 
 pub judge-line-spec : {M : Type 1} → statement M
@@ -120,6 +136,7 @@ judge-line-spec =
     tie.close
     (tie.spec
     slice-aggregate-read-line
+    slice-aggregate-read-line-2
     read-line-requires
     enum-told
     refused-requires
@@ -129,6 +146,7 @@ judge-line-spec =
     refused-requires-3
     enum-told-4
     slice-aggregate-scaled-squared-distance
+    slice-aggregate-scaled-squared-distance-2
     scaled-squared-distance-requires
     verdict-of-requires
     returns

@@ -12,10 +12,10 @@ sub-excess : tie.Need-sub-excess
 sub-excess c = omega (arith, leb-false)
 
 returns : tie.Need-returns
-returns c = let args = c .before .args in sym (ap (λ t. cond t Quiet (Alarm (args .distance - args .radius))) (c .if1 .taken))
+returns c = let args = c .before .args in sym (ap (λ t. cond t Quiet (Alarm (args .scaled-squared-distance - args .scaled-squared-radius))) (c .if1 .taken))
 
 returns-2 : tie.Need-returns-2
-returns-2 c = let args = c .before .args in sym (ap (λ t. cond t Quiet (Alarm (args .distance - args .radius))) (c .if1 .left))
+returns-2 c = let args = c .before .args in sym (ap (λ t. cond t Quiet (Alarm (args .scaled-squared-distance - args .scaled-squared-radius))) (c .if1 .left))
 
 pub verdict-of-spec : {M : Type 1} → statement M
 verdict-of-spec = tie.close (tie.spec sub-excess returns returns-2)

@@ -15,24 +15,23 @@ use Rattle.refusal.specs.Outcome.{numberOf}
 use Rattle.geometry.specs.Table.{rowsWithin}
 use Rattle.limits.specs.Limits.{total, rowLimit}
 use Rattle.channel.specs.Channel.{channelTypes}
-use Rattle.envelope.specs.Figures.{figuresWithin}
+use Rattle.envelope.specs.Figures.{figuresKnown}
 use Rattle.envelope.specs.Agreement.{agrees}
 use Rattle.record_print.specs.Printed.{recordText}
 use Rattle.lent.specs.Contracts.{textWritten}
 use Rattle.record.specs.WriteLaws.{within-printing, outside-figures, outside-rows, refused-writing, writing-agreed}
-use Rattle.record.proofs.WriteSteps.{lent-within, printed-text, printed-fits}
+use Rattle.record.proofs.WriteSteps.{printed-text, printed-fits}
 use Rattle.lent.specs.ContractLaws.{buffer-left}
 use Rattle.record.proofs.write.Statement.{statement}
 use Rattle.record.proofs.write.Tie as tie
 
-abbrev start-of : tie.After-figures-within → tie.Start
-start-of c = c .before .before .before .before .before .before .before .before .before
+abbrev start-of : tie.After-figures-known → tie.Start
+start-of c = c .before .before .before .before .before
 
 -- past the first test the figures are within their limits
-figures : (c : tie.Else1) → figuresWithin total channelTypes (start-of (c .before) .args .envelope .figures) ≡ true
+figures : (c : tie.Else1) → figuresKnown total channelTypes (start-of (c .before) .args .envelope .figures) ≡ true
 figures c =
-    sym (lent-within total channelTypes (start-of (c .before) .args .envelope .figures)) ∙ sym (c .before .figures-within .ensures)
-    ∙ not-false _ (c .if1 .left)
+    sym (c .before .figures-known .ensures) ∙ not-false _ (c .if1 .left)
 
 -- past the second test so are the rows
 within : (c : tie.Else2) → let args = start-of (c .before .before .before) .args in
@@ -44,14 +43,8 @@ agreeing : (c : tie.Else3) → let args = start-of (c .before .before .before .b
     agrees total rowLimit (now (args .rows)) (args .m) (args .envelope .figures .n) (args .envelope .figures .ball) (args .envelope .weights) ≡ true
 agreeing c = sym (c .before .agrees .ensures) ∙ not-false _ (c .if3 .left)
 
-slice-aggregate-figures-within : tie.Need-slice-aggregate-figures-within
-slice-aggregate-figures-within c = search needs
-
-slice-aggregate-figures-within-2 : tie.Need-slice-aggregate-figures-within-2
-slice-aggregate-figures-within-2 c = search needs
-
-figures-within-requires : tie.Need-figures-within-requires
-figures-within-requires c κs = search needs
+figures-known-requires : tie.Need-figures-known-requires
+figures-known-requires c κs = search needs
 
 not-written-requires : tie.Need-not-written-requires
 not-written-requires c κs = search needs
@@ -63,7 +56,7 @@ returns c =
     let e = c .not-written .ensures in (
       e
           ∙ sym (outside-figures total rowLimit channelTypes (now (args .rows)) (args .m) (args .envelope) (length (now (args .buffer)))
-          (sym (lent-within total channelTypes (args .envelope .figures)) ∙ sym (test .figures-within .ensures) ∙ not-true _ (c .before .if1 .taken))),
+          (sym (test .figures-known .ensures) ∙ not-true _ (c .before .if1 .taken))),
       buffer-left (c .not-written .result) 7 (recordText channelTypes (args .envelope)) (now (args .buffer)) e,
     )
 
@@ -161,9 +154,7 @@ pub write-spec : {M : Type 1} → statement M
 write-spec =
     tie.close
     (tie.spec
-    slice-aggregate-figures-within
-    slice-aggregate-figures-within-2
-    figures-within-requires
+    figures-known-requires
     not-written-requires
     returns
     rows-within-requires

@@ -21,10 +21,10 @@ abbrev stepsIn : List ℤ → ℕ → ℤ
 stepsIn x k = nearestStep total (centreOf x k)
 
 abbrev Inv-loop : tie.InvT-loop
-Inv-loop centre n steps₀ k₀ steps k = (k ≤ n) × (steps ≡ centreList k (stepsIn centre))
+Inv-loop scaled-centre n steps₀ k₀ steps k = (k ≤ n) × (steps ≡ centreList k (stepsIn scaled-centre))
 
 abbrev μ-loop : tie.MeasureT-loop
-μ-loop centre n steps₀ k₀ steps k = n - k
+μ-loop scaled-centre n steps₀ k₀ steps k = n - k
 
 loop-holds : tie.Need-loop-holds Inv-loop μ-loop
 unfolding centreList tabulate
@@ -58,8 +58,8 @@ loop-again c =
     let l = c .before .before .before .loop in
     let held = centre-held (s .pre .1) (l .k) (omega arith) in (
       omega arith,
-      centreList-stored (stepsIn (s .args .centre .now)) (l .k) (omega arith) w32 (l .steps) (c .nearest-step .result)
-          (omega (arith, nearest-most total (omega arith) (centreOf (s .args .centre .now) (l .k)) (held .most)))
+      centreList-stored (stepsIn (s .args .scaled-centre .now)) (l .k) (omega arith) w32 (l .steps) (c .nearest-step .result)
+          (omega (arith, nearest-most total (omega arith) (centreOf (s .args .scaled-centre .now) (l .k)) (held .most)))
           (l .inv .1) (c .nearest-step .ensures ∙ ap (nearestStep total) (held .is)),
     )
 
@@ -67,7 +67,7 @@ returns : tie.Need-returns Inv-loop μ-loop
 returns c =
     let a = c .before .before .args in
     let e : c .before .loop .k ≡ a .n = omega arith in
-    c .before .loop .inv .1 ∙ ap (λ k. centreList k (stepsIn (a .centre .now))) e
+    c .before .loop .inv .1 ∙ ap (λ k. centreList k (stepsIn (a .scaled-centre .now))) e
 
 pub steps-of-spec : {M : Type 1} → statement M
 steps-of-spec =
