@@ -21,7 +21,7 @@ use lib.Dec.{leb}
 use lib.IntN.{ℤ, pos, negsuc}
 use lib.ListN.{length, take, replicate}
 use Rattle.lists.specs.Padded.{padded}
-use Rattle.refusal.specs.Number.{text-length, outside-limits, record-form, disagreement, buffer-short}
+use Rattle.refusal.specs.Number.{text-length, outside-limits, record-form, disagreement}
 use Rattle.refusal.specs.Outcome.{refused, refusedAt, choose}
 use Rattle.refusal.specs.declared.Outcome.{Outcome}
 use Rattle.refusal.specs.declared.Outcome.the-variants.{Accepted}

@@ -1,7 +1,6 @@
 -- A record as it is read keeps a number that an i64 or a u32 does not hold as the largest that it does. It answers what the record
 -- itself does: figures that agree are below that, and a number that was cut is above every limit.
 --     Holding D, holding-total     no figure for the total D is cut; so it is for the total that the contracts fix
---     held-size, held-same         the size of a kept number, and a number that is kept as it is
 --     weights-held                 the weights of kept `W` lines are the weights, kept
 --     held-answer                  the record as it is read answers what the record does
 use Prim.Native.Nat.{ℕ, zero, suc, _-_, _≤_, _<_, min}
@@ -10,10 +9,9 @@ use mathlib.Core.Bool.{Bool, true, false, _&&_}
 use mathlib.Core.List.{List, [], _∷_, map}
 use native.Mathlib.Omega.{arith}
 use lib.Dec.{lit<}
-use lib.IntN.{ℤ, pos, negsuc, negℤ, natAbs}
+use lib.IntN.{ℤ, pos, negsuc, natAbs}
 use lib.ListN.{length, getD, set, replicate, length-map, List·getD-map}
 use lib.Seq.{ext-getD}
-use Rattle.integers.specs.Absolute.{abs-neg}
 use Rattle.lists.specs.Padded.{padded, padded-take}
 use Rattle.refusal.specs.Number.{disagreement}
 use Rattle.refusal.specs.Outcome.{refused, choose}
@@ -27,10 +25,12 @@ use Rattle.text.specs.PartsLaws.{same-eq}
 use Rattle.envelope.specs.Figures.{figuresOf}
 use Rattle.envelope.specs.Agreement.{agrees}
 use Rattle.envelope.specs.AgreementLaws.{agrees-agreed, agreed-tight, agreed-weight}
-use Rattle.record_form.specs.Lines.{Weight}
+use Rattle.record_lines.specs.Lines.{Weight}
 use Rattle.record_form.specs.Record.{Record, sound}
 use Rattle.record_form.specs.Weights.{placedIn, weightsOf}
-use Rattle.record_form.specs.Contracts.{heldLimit, heldWeightLimit, held, heldWeight, heldWeights, heldRecord, statedRecord}
+use Rattle.record_lines.specs.Contracts.{heldLimit, heldWeightLimit, held, heldWeight}
+use Rattle.record_lines.specs.ContractLaws.{held-size, held-same, held-negative}
+use Rattle.record_form.specs.Contracts.{heldWeights, heldRecord, statedRecord}
 use Rattle.record.specs.declared.EnvelopeRead.{EnvelopeRead}
 use Rattle.record.specs.Contracts.{notRead, statedBall, agreedRecord, formAnswer, ballAnswer, statedAnswer}
 
@@ -44,20 +44,6 @@ pub record Holding (D : ℕ) : Type 0 where
 
 pub holding-total : Holding total
 holding-total = record { positive = lit< tt; centre-below = lit< tt; distance-below = lit< tt; weight-below = lit< tt }
-
-pub held-size : (z : ℤ) → natAbs (held z) ≡ min (natAbs z) heldLimit
-held-size (pos k) = refl
-held-size (negsuc k) = abs-neg (pos (min (suc k) heldLimit))
-
-pub held-same : (z : ℤ) → natAbs z < heldLimit → held z ≡ z
-held-same (pos k) h = ap pos (omega arith)
-held-same (negsuc k) h = let e : min (suc k) heldLimit ≡ suc k = omega arith in ap (λ j. negℤ (pos j)) e
-
--- a number below 0 is kept as one below 0
-held-negative : (k : ℕ) → (j : ℕ) × (held (negsuc k) ≡ negsuc j)
-held-negative k =
-    let e : min (suc k) heldLimit ≡ suc (min (suc k) heldLimit - 1) = omega arith in
-    (min (suc k) heldLimit - 1, ap (λ j. negℤ (pos j)) e)
 
 -- ---- weights
 

@@ -45,7 +45,7 @@ use Rattle.channel.specs.CodesLaws.{codes-each, each-codes}
 use Rattle.envelope.specs.Agreement.{agrees, withCentre, clearedBall, cleared}
 use Rattle.envelope.specs.AgreementLaws.{agrees-agreed, agrees-cleared, agreed-within, agreed-tight, agreed-some}
 use Rattle.envelope.specs.declared.Envelope.{Envelope}
-use Rattle.record_form.specs.Lines.{Weight}
+use Rattle.record_lines.specs.Lines.{Weight}
 use Rattle.record_form.specs.Record.{Record, Form, sound, printRecord, weightsWithin, Within}
 use Rattle.record_form.specs.RecordLaws.{form-printed, printed-form, printed-count}
 use Rattle.record_form.specs.Weights.{weightsOf, listed}

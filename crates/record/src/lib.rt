@@ -8,7 +8,6 @@ ghost use Rattle.lent.specs.Filled.{filled};
 ghost use Rattle.channel.specs.Channel.{channelTypes};
 ghost use Rattle.record_print.specs.Printed.{recordText};
 ghost use Rattle.record.specs.Contracts.{notRead, givenWithin, Agreeing, statedAnswer, recordRead, recordWritten};
-ghost use Rattle.lent.specs.Contracts.{notWritten, Part, textWritten};
 use ball::Ball;
 use channel::Code;
 use channel::codes_known;

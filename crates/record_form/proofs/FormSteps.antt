@@ -30,14 +30,15 @@ use Rattle.channel.specs.Channel.{Types}
 use Rattle.heading.specs.Heading.{headingOf}
 use Rattle.heading.specs.declared.Heading.{Heading}
 use Rattle.heading.proofs.Headed.{Headed, codesIn}
-use Rattle.record_form.specs.Lines.{recordWord, Result, centreLine, resultLine, Weight}
+use Rattle.record_lines.specs.Lines.{recordWord, Result, centreLine, resultLine, Weight}
 use Rattle.record_form.specs.Record.{Record, Form, faulty, sound, lineAs, andLine, weightsFrom, withWeights, formOf, form}
 use Rattle.record_form.specs.RecordLaws.{weights-faults}
 use Rattle.record_form.specs.Weights.{weightsOf}
-use Rattle.record_form.specs.Contracts.{held, isThere, resultRead, weightsFault, WeightsRead, statedForm, formAfterCentre, AfterCentreRead}
-use Rattle.record_form.specs.declared.line.ResultRead.{ResultRead}
+use Rattle.record_lines.specs.Contracts.{held, isThere, resultRead}
+use Rattle.record_form.specs.Contracts.{weightsFault, WeightsRead, statedForm, formAfterCentre, AfterCentreRead}
+use Rattle.record_lines.specs.declared.line.ResultRead.{ResultRead}
 use Rattle.record_form.specs.declared.form.Stated.{Stated}
-use Rattle.record_form.proofs.LineSteps.{held-fits}
+use Rattle.record_lines.specs.ContractLaws.{held-fits}
 
 -- ---- the first three lines
 

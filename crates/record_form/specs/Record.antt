@@ -27,7 +27,7 @@ use Rattle.text.specs.Lines.{printLines, endedLine}
 use Rattle.number.specs.Contracts.{magnitudeLimit}
 use Rattle.channel.specs.Channel.{Types}
 use Rattle.heading.specs.Heading.{headingOf, printHeading, CodesWithin}
-use Rattle.record_form.specs.Lines.{recordWord, Result, Weight, centreLine, resultLine, weightLine, weightWithin, printCentre, printResult, printWeight}
+use Rattle.record_lines.specs.Lines.{recordWord, Result, Weight, centreLine, resultLine, weightLine, weightWithin, printCentre, printResult, printWeight}
 
 -- the codes of its tags, X, what its `R` line states, its `W` lines
 pub record Record : Type 0 where

@@ -29,7 +29,7 @@ use Rattle.channel.specs.Channel.{Types}
 use Rattle.channel.specs.ChannelLaws.{SoundTypes}
 use Rattle.heading.specs.Heading.{headingOf, printHeading, CodesWithin}
 use Rattle.heading.specs.HeadingLaws.{heading-within, heading-printed, printed-heading, heading-free}
-use Rattle.record_form.specs.Lines.{
+use Rattle.record_lines.specs.Lines.{
   recordWord,
   Result,
   Weight,
@@ -41,7 +41,7 @@ use Rattle.record_form.specs.Lines.{
   printResult,
   printWeight,
 }
-use Rattle.record_form.specs.LinesLaws.{
+use Rattle.record_lines.specs.LinesLaws.{
   centre-printed,
   printed-centre,
   result-printed,

@@ -6,14 +6,14 @@ ghost use Rattle.limits.specs.Limits.{rowLimit};
 ghost use Rattle.channel.specs.Channel.{channelTypes};
 ghost use Rattle.record_form.specs.Record.{form};
 ghost use Rattle.record_form.specs.Contracts.{WeightsRead, AfterCentreRead, statedFault, statedForm};
-use crate::line::read_centre;
-use crate::line::read_result;
-use crate::line::read_weight;
-use crate::words::RECORD_WORD;
 use channel::Code;
 use heading::read_heading;
 use limits::CHANNELS;
 use limits::ROWS;
+use record_lines::line::read_centre;
+use record_lines::line::read_result;
+use record_lines::line::read_weight;
+use record_lines::words::RECORD_WORD;
 use text::parts::line_end;
 
 // What a record in form states. `line` is the first faulty line, and 0 where the record is in form; at a fault every figure is 0.

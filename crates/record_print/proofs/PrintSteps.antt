@@ -28,7 +28,7 @@ use Rattle.channel.specs.ContractLaws.{house-short}
 use Rattle.heading.specs.Heading.{printHeading}
 use Rattle.envelope.specs.Figures.{channelCodes}
 use Rattle.envelope.specs.declared.Figures.{Figures}
-use Rattle.record_form.specs.Lines.{recordWord, centreWord, resultWord, weightWord, letterOf, printCentre, printResult, printWeight}
+use Rattle.record_lines.specs.Lines.{recordWord, centreWord, resultWord, weightWord, letterOf, printCentre, printResult, printWeight}
 use Rattle.record_form.specs.Record.{printRecord}
 use Rattle.record_form.specs.Weights.{listed}
 use Rattle.record_print.specs.Printed.{recordOf, weightLines, lineRoom, recordRoom, Printing}

@@ -16,7 +16,7 @@ use Rattle.channel.specs.Channel.{Types}
 use Rattle.envelope.specs.Figures.{channelCodes}
 use Rattle.envelope.specs.declared.Figures.{Figures}
 use Rattle.envelope.specs.declared.Envelope.{Envelope}
-use Rattle.record_form.specs.Lines.{printWeight}
+use Rattle.record_lines.specs.Lines.{printWeight}
 use Rattle.record_form.specs.Record.{Record, printRecord}
 use Rattle.record_form.specs.Weights.{listed}
 

@@ -34,7 +34,7 @@ use Rattle.heading.specs.Heading.{printHeading}
 use Rattle.heading.specs.HeadingLaws.{heading-length}
 use Rattle.envelope.specs.Figures.{channelCodes}
 use Rattle.envelope.specs.declared.Figures.{Figures}
-use Rattle.record_form.specs.Lines.{recordWord, centreWord, resultWord, letterOf, printCentre, printResult, printWeight}
+use Rattle.record_lines.specs.Lines.{recordWord, centreWord, resultWord, letterOf, printCentre, printResult, printWeight}
 use Rattle.record_form.specs.Record.{Record, printRecord}
 use Rattle.record_form.specs.Weights.{listed}
 use Rattle.record_print.specs.Printed.{recordOf, lineRoom, recordRoom, Printing}

@@ -8,7 +8,7 @@ use Rattle.channel.specs.Channel.{channelTypes}
 use Rattle.channel.specs.ContractLaws.{house-short}
 use Rattle.heading.specs.Heading.{printHeading}
 use Rattle.envelope.specs.Figures.{channelCodes}
-use Rattle.record_form.specs.Lines.{recordWord, printCentre, printResult}
+use Rattle.record_lines.specs.Lines.{recordWord, printCentre, printResult}
 use Rattle.record_form.specs.Record.{printRecord}
 use Rattle.record_print.specs.Printed.{recordOf}
 use Rattle.record_print.specs.PrintedLaws.{heading-most, centre-most, result-most}

@@ -10,7 +10,7 @@ use lib.ListN.{length, length-set}
 use borrow.Author.Needs.{needs}
 use Rattle.text.specs.Parts.{comma}
 use Rattle.number.specs.UnsignedLaws.{Below, held-below}
-use Rattle.record_form.specs.Lines.{letterOf, printResult}
+use Rattle.record_lines.specs.Lines.{letterOf, printResult}
 use Rattle.record_print.specs.PrintedLaws.{letter-length, result-below}
 use Rattle.record_print.proofs.PrintSteps.{Line, numbers-put, result-put}
 use Rattle.record_print.proofs.put_result.Statement.{statement}

@@ -29,7 +29,7 @@ use Rattle.number.specs.Number.{hyphen, isDigit, plain, print}
 use Rattle.number.specs.NumberLaws.{plain-print, print-plain, print-free}
 use Rattle.number.specs.Contracts.{magnitudeLimit}
 use Rattle.printing.specs.Contracts.{numbersAfter}
-use Rattle.record_form.specs.Lines.{
+use Rattle.record_lines.specs.Lines.{
   centreWord,
   resultWord,
   weightWord,

@@ -23,9 +23,10 @@ use Rattle.integers.specs.Tests.{clash, impossible}
 use Rattle.limits.specs.Limits.{budgetLimit}
 use Rattle.text.specs.Parts.{comma, cut, join, same, partsFrom}
 use Rattle.text.specs.PartsLaws.{same-eq, cut-some, join-cut, parts-within, parts-none}
-use Rattle.record_form.specs.Lines.{settledLetter, budgetLetter, endingOf, movesOf, Result, resultWord, resultWith, resultOf, resultFields, resultLine}
-use Rattle.record_form.specs.Contracts.{heldLimit, held, NumbersRead, resultRead}
-use Rattle.record_form.proofs.LineSteps.{held-negative, numbers-no, numbers-some, numbers-held, numbers-rest}
+use Rattle.record_lines.specs.Lines.{settledLetter, budgetLetter, endingOf, movesOf, Result, resultWord, resultWith, resultOf, resultFields, resultLine}
+use Rattle.record_lines.specs.Contracts.{heldLimit, held, NumbersRead, resultRead}
+use Rattle.record_lines.specs.ContractLaws.{held-negative}
+use Rattle.record_lines.proofs.LineSteps.{numbers-no, numbers-some, numbers-held, numbers-rest}
 
 -- the ending that the rest of a line states
 abbrev pub endingIn : List ℕ → Option Bool
