@@ -50,17 +50,17 @@ none-below : {P : Type 0} (k : ℕ) → ltZ (pos k) (pos 0) ≡ true → P
 none-below k h = absurd (omega (arith, ltb-true k 0 h))
 
 pub record Signs (s : Stated) : Type 0 where
-  pub radius-fits : SFits w64 (s .radius)
-  pub floor-fits : SFits w64 (s .floor)
-  pub radius-not : ltZ (back w64 (s .radius)) (pos 0) ≡ false
-  pub floor-not : ltZ (back w64 (s .floor)) (pos 0) ≡ false
+  pub radius-fits : SFits w64 (s .«scaled_squared_radius»)
+  pub floor-fits : SFits w64 (s .«scaled_lower_bound»)
+  pub radius-not : ltZ (back w64 (s .«scaled_squared_radius»)) (pos 0) ≡ false
+  pub floor-not : ltZ (back w64 (s .«scaled_lower_bound»)) (pos 0) ≡ false
 
 abbrev pub ballRead : Stated → Ball
 ballRead s =
     record {
-      «scaled_centre» = s .centre;
-      «scaled_squared_radius» = natAbs (back w64 (s .radius));
-      «scaled_lower_bound» = natAbs (back w64 (s .floor));
+      «scaled_centre» = s .«scaled_centre»;
+      «scaled_squared_radius» = natAbs (back w64 (s .«scaled_squared_radius»));
+      «scaled_lower_bound» = natAbs (back w64 (s .«scaled_lower_bound»));
       settled = s .settled;
     }
 
@@ -77,35 +77,35 @@ module _ (D limit : ℕ) (rows : List ℤ) (m : ℕ) (codes : List ℕ) (s : Sta
 
   pub codes-differ : same codes (take (s .n) (s .codes)) ≡ false → turned ≡ statedAnswer D limit rows m codes s
   unfolding statedAnswer
-  codes-differ e = go (statedBall (s .centre) (s .radius) (s .floor) (s .settled))
+  codes-differ e = go (statedBall (s .«scaled_centre») (s .«scaled_squared_radius») (s .«scaled_lower_bound») (s .settled))
     where
       go : (o : Option Ball) → turned ≡ ballAnswer D limit rows m codes s o
       go none = refl
       go (some ball) = rw e
 
-  pub radius-below : SFits w64 (s .radius) → ltZ (back w64 (s .radius)) (pos 0) ≡ true → turned ≡ statedAnswer D limit rows m codes s
+  pub radius-below : SFits w64 (s .«scaled_squared_radius») → ltZ (back w64 (s .«scaled_squared_radius»)) (pos 0) ≡ true → turned ≡ statedAnswer D limit rows m codes s
   unfolding statedAnswer
-  radius-below f h = go (s .radius) (ap (λ x. ltZ x (pos 0)) (sym (toZ-ofZ f)) ∙ h)
+  radius-below f h = go (s .«scaled_squared_radius») (ap (λ x. ltZ x (pos 0)) (sym (toZ-ofZ f)) ∙ h)
     where
-      go : (M : ℤ) → ltZ M (pos 0) ≡ true → turned ≡ ballAnswer D limit rows m codes s (statedBall (s .centre) M (s .floor) (s .settled))
+      go : (M : ℤ) → ltZ M (pos 0) ≡ true → turned ≡ ballAnswer D limit rows m codes s (statedBall (s .«scaled_centre») M (s .«scaled_lower_bound») (s .settled))
       go (pos k) h = none-below k h
       go (negsuc k) h = refl
 
-  pub floor-below : SFits w64 (s .floor) → ltZ (back w64 (s .floor)) (pos 0) ≡ true → turned ≡ statedAnswer D limit rows m codes s
+  pub floor-below : SFits w64 (s .«scaled_lower_bound») → ltZ (back w64 (s .«scaled_lower_bound»)) (pos 0) ≡ true → turned ≡ statedAnswer D limit rows m codes s
   unfolding statedAnswer
-  floor-below f h = go (s .radius) (s .floor) (ap (λ x. ltZ x (pos 0)) (sym (toZ-ofZ f)) ∙ h)
+  floor-below f h = go (s .«scaled_squared_radius») (s .«scaled_lower_bound») (ap (λ x. ltZ x (pos 0)) (sym (toZ-ofZ f)) ∙ h)
     where
-      go : (M L : ℤ) → ltZ L (pos 0) ≡ true → turned ≡ ballAnswer D limit rows m codes s (statedBall (s .centre) M L (s .settled))
+      go : (M L : ℤ) → ltZ L (pos 0) ≡ true → turned ≡ ballAnswer D limit rows m codes s (statedBall (s .«scaled_centre») M L (s .settled))
       go (pos j) (pos k) h = none-below k h
       go (pos j) (negsuc k) h = refl
       go (negsuc j) L h = refl
 
   module _ (signs : Signs s) where
-    stated : statedBall (s .centre) (s .radius) (s .floor) (s .settled) ≡ some (ballRead s)
+    stated : statedBall (s .«scaled_centre») (s .«scaled_squared_radius») (s .«scaled_lower_bound») (s .settled) ≡ some (ballRead s)
     stated =
-        ap₂ (λ M L. statedBall (s .centre) M L (s .settled))
-        (sym (toZ-ofZ (signs .radius-fits)) ∙ abs-nonneg (back w64 (s .radius)) (signs .radius-not))
-        (sym (toZ-ofZ (signs .floor-fits)) ∙ abs-nonneg (back w64 (s .floor)) (signs .floor-not))
+        ap₂ (λ M L. statedBall (s .«scaled_centre») M L (s .settled))
+        (sym (toZ-ofZ (signs .«scaled_squared_radius»-fits)) ∙ abs-nonneg (back w64 (s .«scaled_squared_radius»)) (signs .«scaled_squared_radius»-not))
+        (sym (toZ-ofZ (signs .«scaled_lower_bound»-fits)) ∙ abs-nonneg (back w64 (s .«scaled_lower_bound»)) (signs .«scaled_lower_bound»-not))
 
     -- n and the tags are those given
     module _ (n : ℕ) (count : length codes ≡ n) (agreed : same codes (take (s .n) (s .codes)) ≡ true) where

@@ -58,7 +58,7 @@ statedBall X (negsuc k) L s = none
 
 abbrev pub ballOfRecord : Record → Option Ball
 ballOfRecord r =
-    statedBall (centreList (length (r .codes)) (centreOf (r .centre))) (r .result .radius) (r .result .floor) (r .result .settled)
+    statedBall (centreList (length (r .codes)) (centreOf (r .scaledCentre))) (r .result .scaledSquaredRadius) (r .result .scaledLowerBound) (r .result .settled)
 
 -- a row without a `W` line has weight 0; moves are taken as written
 abbrev pub statedEnvelope : ℕ → Record → Ball → Envelope
@@ -102,7 +102,7 @@ ballAnswer D limit rows m codes s (some ball) =
     (λ _. notRead limit (refused disagreement))
 
 unfoldable pub statedAnswer : ℕ → ℕ → List ℤ → ℕ → List ℕ → Stated → EnvelopeRead
-statedAnswer D limit rows m codes s = ballAnswer D limit rows m codes s (statedBall (s .centre) (s .radius) (s .floor) (s .settled))
+statedAnswer D limit rows m codes s = ballAnswer D limit rows m codes s (statedBall (s .«scaled_centre») (s .«scaled_squared_radius») (s .«scaled_lower_bound») (s .settled))
 
 pub record Agreeing (rows : List ℤ) (m n : ℕ) (codes : List ℕ) (s : Stated) : Type 0 where
   pub within : rowsWithin rowLimit rows m n ≡ true

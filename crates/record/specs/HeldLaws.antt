@@ -187,23 +187,23 @@ module _ (D : ℕ) (holding : Holding D) (rows : List ℤ) (m : ℕ) (codes : Li
 
   pub held-answer : statedAnswer D rowLimit rows m codes (statedRecord (heldRecord r)) ≡ formAnswer D rowLimit rows m codes (sound r)
   unfolding statedAnswer
-  held-answer = go (r .result .radius) (r .result .floor)
+  held-answer = go (r .result .scaledSquaredRadius) (r .result .scaledLowerBound)
     where
       go : (M L : ℤ)
           → ballAnswer D rowLimit rows m codes (statedRecord (heldRecord r))
-          (statedBall (centreList (length (r .codes)) (centreOf (map held (r .centre)))) (held M) (held L) (r .result .settled))
+          (statedBall (centreList (length (r .codes)) (centreOf (map held (r .scaledCentre)))) (held M) (held L) (r .result .settled))
           ≡ agreedRecord D rowLimit rows m codes r
-          (statedBall (centreList (length (r .codes)) (centreOf (r .centre))) M L (r .result .settled))
+          (statedBall (centreList (length (r .codes)) (centreOf (r .scaledCentre))) M L (r .result .settled))
       go (pos M) (pos L) =
-          ap₂ (λ tags ws. answerWith tags (ballWith (length (r .codes)) (map held (r .centre)) (min M heldLimit) (min L heldLimit) (r .result .settled)) ws)
+          ap₂ (λ tags ws. answerWith tags (ballWith (length (r .codes)) (map held (r .scaledCentre)) (min M heldLimit) (min L heldLimit) (r .result .settled)) ws)
           (padded-take channelLimit (r .codes) channels) (weights-held rowLimit (r .weights))
-          ∙ kept-by D rowLimit rows m (length (r .codes)) holding channels (r .result .settled) (r .centre) M L (weightsOf rowLimit (r .weights))
+          ∙ kept-by D rowLimit rows m (length (r .codes)) holding channels (r .result .settled) (r .scaledCentre) M L (weightsOf rowLimit (r .weights))
           (answerWith (r .codes)) (notRead rowLimit (refused disagreement)) turned
       go (pos M) (negsuc k) =
           ap (λ z. ballAnswer D rowLimit rows m codes (statedRecord (heldRecord r))
-          (statedBall (centreList (length (r .codes)) (centreOf (map held (r .centre)))) (held (pos M)) z (r .result .settled)))
+          (statedBall (centreList (length (r .codes)) (centreOf (map held (r .scaledCentre)))) (held (pos M)) z (r .result .settled)))
           (held-negative k .1)
       go (negsuc k) L =
           ap (λ z. ballAnswer D rowLimit rows m codes (statedRecord (heldRecord r))
-          (statedBall (centreList (length (r .codes)) (centreOf (map held (r .centre)))) z (held L) (r .result .settled)))
+          (statedBall (centreList (length (r .codes)) (centreOf (map held (r .scaledCentre)))) z (held L) (r .result .settled)))
           (held-negative k .1)

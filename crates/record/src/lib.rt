@@ -88,19 +88,19 @@ fn agreed(rows: &[i32], m: usize, n: usize, codes: &[Code], stated: Stated) -> E
     if !same_codes(codes, &stated_codes[..stated.n]) {
         return not_read(refusal::DISAGREEMENT, 0);
     }
-    if stated.radius < 0 {
+    if stated.scaled_squared_radius < 0 {
         return not_read(refusal::DISAGREEMENT, 0);
     }
-    if stated.floor < 0 {
+    if stated.scaled_lower_bound < 0 {
         return not_read(refusal::DISAGREEMENT, 0);
     }
-    let radius = stated.radius as u64;
-    let floor = stated.floor as u64;
-    let centre = stated.centre;
+    let scaled_squared_radius = stated.scaled_squared_radius as u64;
+    let scaled_lower_bound = stated.scaled_lower_bound as u64;
+    let scaled_centre = stated.scaled_centre;
     let ball = Ball {
-        scaled_centre: centre,
-        scaled_squared_radius: radius,
-        scaled_lower_bound: floor,
+        scaled_centre,
+        scaled_squared_radius,
+        scaled_lower_bound,
         settled: stated.settled,
     };
     let weights = stated.weights;
@@ -149,12 +149,12 @@ pub fn write(envelope: Envelope, rows: &[i32], m: usize, buffer: &mut [u8]) -> T
     let weights = envelope.weights;
     let codes = figures.codes;
     let ball = figures.ball;
-    let centre = ball.scaled_centre;
+    let scaled_centre = ball.scaled_centre;
     let n = figures.n;
     if !figures_within(
         n,
         &codes,
-        &centre,
+        &scaled_centre,
         ball.scaled_squared_radius,
         ball.scaled_lower_bound,
         figures.moves,

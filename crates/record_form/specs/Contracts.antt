@@ -30,11 +30,11 @@ abbrev pub heldRecord : Record → Record
 heldRecord r =
     record {
       codes = r .codes;
-      centre = map held (r .centre);
+      scaledCentre = map held (r .scaledCentre);
       result =
           record {
-            radius = held (r .result .radius);
-            floor = held (r .result .floor);
+            scaledSquaredRadius = held (r .result .scaledSquaredRadius);
+            scaledLowerBound = held (r .result .scaledLowerBound);
             moves = r .result .moves;
             settled = r .result .settled;
           };
@@ -60,9 +60,9 @@ statedFault line =
       line = line;
       n = 0;
       codes = padded channelLimit [];
-      centre = replicate channelLimit (pos 0);
-      radius = pos 0;
-      floor = pos 0;
+      «scaled_centre» = replicate channelLimit (pos 0);
+      «scaled_squared_radius» = pos 0;
+      «scaled_lower_bound» = pos 0;
       moves = 0;
       settled = false;
       weights = replicate rowLimit 0;
@@ -74,9 +74,9 @@ statedRecord r =
       line = 0;
       n = length (r .codes);
       codes = padded channelLimit (r .codes);
-      centre = centreList (length (r .codes)) (centreOf (r .centre));
-      radius = r .result .radius;
-      floor = r .result .floor;
+      «scaled_centre» = centreList (length (r .codes)) (centreOf (r .scaledCentre));
+      «scaled_squared_radius» = r .result .scaledSquaredRadius;
+      «scaled_lower_bound» = r .result .scaledLowerBound;
       moves = r .result .moves;
       settled = r .result .settled;
       weights = weightsOf rowLimit (r .weights);
@@ -88,11 +88,11 @@ statedForm (sound r) = statedRecord (heldRecord r)
 
 -- the lines after the `C` line of a record with these codes and this X
 abbrev pub formAfterCentre : List ℕ → List ℤ → List (List ℕ) → Form Record
-formAfterCentre codes centre parts =
-    andLine 3 (lineAs resultLine (endedLine parts)) (λ result. withWeights codes centre result (weightsFrom rowLimit 4 0 (drop 1 parts)))
+formAfterCentre codes scaledCentre parts =
+    andLine 3 (lineAs resultLine (endedLine parts)) (λ result. withWeights codes scaledCentre result (weightsFrom rowLimit 4 0 (drop 1 parts)))
 
--- the text from index at on, its first line being line 3; n, types and centre are the codes and X as they are read
-pub record AfterCentreRead (text : List ℕ) (at n : ℕ) (types : List ℕ) (centre : List ℤ) (r : Stated) : Type 0 where
-  pub is : (codes : List ℕ) (X : List ℤ) → n ≡ length codes → types ≡ padded channelLimit codes
-      → centre ≡ centreList (length codes) (centreOf (map held X))
+-- the text from index at on, its first line being line 3; n and the places are those of the codes and of X as they are read
+pub record AfterCentreRead (text : List ℕ) (at n : ℕ) (code-places : List ℕ) (centre-places : List ℤ) (r : Stated) : Type 0 where
+  pub is : (codes : List ℕ) (X : List ℤ) → n ≡ length codes → code-places ≡ padded channelLimit codes
+      → centre-places ≡ centreList (length codes) (centreOf (map held X))
       → r ≡ statedForm (formAfterCentre codes X (partsFrom lineEnd text at))

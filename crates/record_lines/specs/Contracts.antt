@@ -76,9 +76,9 @@ pub record CentreRead (n : ℕ) (line : List ℕ) (lent₀ lent : List ℤ) (r :
   pub written : (zs : List ℤ) → centreLine n line ≡ some zs → lent ≡ map held zs ++ drop n lent₀
 
 abbrev pub resultRead : Option Result → ResultRead
-resultRead none = record { «in_form» = false; radius = pos 0; floor = pos 0; moves = 0; settled = false }
+resultRead none = record { «in_form» = false; «scaled_squared_radius» = pos 0; «scaled_lower_bound» = pos 0; moves = 0; settled = false }
 resultRead (some r) =
-    record { «in_form» = true; radius = held (r .radius); floor = held (r .floor); moves = r .moves; settled = r .settled }
+    record { «in_form» = true; «scaled_squared_radius» = held (r .scaledSquaredRadius); «scaled_lower_bound» = held (r .scaledLowerBound); moves = r .moves; settled = r .settled }
 
 -- row 0 stands for a line that is no `W` line
 abbrev pub weightRead : Option Weight → WeightRead

@@ -23,10 +23,10 @@ type-places c = search needs
 weight-places : (c : tie.Start) → length (c .args .stated .weights) ≡ rowLimit
 weight-places c = search needs
 
-radius-fits : (c : tie.After-struct-told) → SFits w64 (c .before .before .before .before .before .before .before .args .stated .radius)
+radius-fits : (c : tie.After-struct-told) → SFits w64 (c .before .before .before .before .before .before .before .args .stated .«scaled_squared_radius»)
 radius-fits c = search needs
 
-floor-fits : (c : tie.After-struct-told) → SFits w64 (c .before .before .before .before .before .before .before .args .stated .floor)
+floor-fits : (c : tie.After-struct-told) → SFits w64 (c .before .before .before .before .before .before .before .args .stated .«scaled_lower_bound»)
 floor-fits c = search needs
 
 array-share-prefix-stated-codes : tie.Need-array-share-prefix-stated-codes
@@ -88,13 +88,13 @@ signs c =
       floor-not = c .if3 .left;
     }
 
-cast-radius : tie.Need-cast-radius
-cast-radius c =
+cast-scaled-squared-radius : tie.Need-cast-scaled-squared-radius
+cast-scaled-squared-radius c =
     let s = signs (c .before .before) in
     sign-cast _ (s .radius-fits) (s .radius-not)
 
-cast-floor : tie.Need-cast-floor
-cast-floor c =
+cast-scaled-lower-bound : tie.Need-cast-scaled-lower-bound
+cast-scaled-lower-bound c =
     let s = signs (c .before .before .before .before) in
     sign-cast _ (s .floor-fits) (s .floor-not)
 
@@ -138,8 +138,8 @@ agreed-spec =
     returns-2
     not-read-requires-3
     returns-3
-    cast-radius
-    cast-floor
+    cast-scaled-squared-radius
+    cast-scaled-lower-bound
     slice-aggregate-agrees
     agrees-requires
     not-read-requires-4
