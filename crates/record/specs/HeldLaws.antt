@@ -32,6 +32,7 @@ use Rattle.record_lines.specs.Contracts.{heldLimit, heldWeightLimit, held, held
 use Rattle.record_lines.specs.ContractLaws.{held-size, held-same, held-negative}
 use Rattle.record_form.specs.Contracts.{heldWeights, heldRecord, statedRecord}
 use Rattle.record.specs.declared.EnvelopeRead.{EnvelopeRead}
+use Rattle.record.specs.Made.{filledBall, envelopeOf}
 use Rattle.record.specs.Contracts.{notRead, statedBall, agreedRecord, formAnswer, ballAnswer, statedAnswer}
 
 -- ---- numbers
@@ -70,8 +71,7 @@ weights-held limit ws = ap (λ (l : List ℕ). placedIn l (heldWeights ws)) (sym
 -- ---- figures that are not cut
 
 abbrev ballWith : ℕ → List ℤ → ℕ → ℕ → Bool → Ball
-ballWith n X M L settled =
-    record { «scaled_centre» = centreList n (centreOf X); «scaled_squared_radius» = M; «scaled_lower_bound» = L; settled = settled }
+ballWith n X M L settled = filledBall (centreList n (centreOf X)) M L settled
 
 -- X in its n places, M, L and the weights are within these limits
 record Most (n : ℕ) (X : List ℤ) (M L : ℕ) (ws : List ℕ) (centre-most distance-most weight-most : ℕ) : Type 0 where
@@ -172,8 +172,7 @@ module _ (D : ℕ) (holding : Holding D) (rows : List ℤ) (m : ℕ) (codes : Li
       (λ _.
       record {
         outcome = Accepted;
-        envelope =
-            record { figures = figuresOf (length (r .codes)) (padded channelLimit (r .codes)) ball (r .result .moves); weights = ws };
+        envelope = envelopeOf (figuresOf (length (r .codes)) (padded channelLimit (r .codes)) ball (r .result .moves)) ws;
       })
       (λ _. notRead rowLimit (refused disagreement))
 

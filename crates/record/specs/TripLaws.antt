@@ -51,6 +51,7 @@ use Rattle.record_form.specs.RecordLaws.{form-printed, printed-form, printed-co
 use Rattle.record_form.specs.Weights.{weightsOf, listed}
 use Rattle.record_form.specs.WeightsLaws.{ShortWeight, placed-listed, listed-placed, listed-within, listed-some}
 use Rattle.record_print.specs.Printed.{recordOf, recordText}
+use Rattle.record.specs.Made.{filledBall}
 use Rattle.record.specs.Contracts.{statedBall, ballOfRecord, statedEnvelope, givenWithin, recordRead, recordWritten}
 use Rattle.lent.specs.Contracts.{notWritten, written}
 use Rattle.record.specs.declared.EnvelopeRead.{EnvelopeRead}
@@ -68,7 +69,7 @@ record Stating (X : List ℤ) (M L : ℤ) (s : Bool) (b : Ball) : Type 0 where
 ball-stated : (X : List ℤ) (M L : ℤ) (s : Bool) (b : Ball) → statedBall X M L s ≡ some b → Stating X M L s b
 ball-stated X (pos M) (pos L) s b e = go cc
   where
-    go : record { «scaled_centre» = X; «scaled_squared_radius» = M; «scaled_lower_bound» = L; settled = s } ≡ b → Stating X (pos M) (pos L) s b
+    go : filledBall X M L s ≡ b → Stating X (pos M) (pos L) s b
     go h =
         record {
           centre = sym (ap (λ (x : Ball). x .«scaled_centre») h);

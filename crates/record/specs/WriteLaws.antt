@@ -29,7 +29,8 @@ use Rattle.envelope.specs.FigureLaws.{within-figures}
 use Rattle.envelope.specs.Agreement.{agrees}
 use Rattle.envelope.specs.declared.Figures.{Figures}
 use Rattle.envelope.specs.declared.Envelope.{Envelope}
-use Rattle.record_print.specs.Printed.{recordText, Printing}
+use Rattle.record_print.specs.Printed.{recordText}
+use Rattle.record_print.specs.Contracts.{Printing}
 use Rattle.lent.specs.ContractLaws.{text-short, text-fits}
 use Rattle.record.specs.Contracts.{recordWritten}
 use Rattle.lent.specs.Contracts.{notWritten, written, textWritten}

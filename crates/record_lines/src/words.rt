@@ -1,13 +1,19 @@
-// The fixed byte strings of a record: the words of its lines, and the letters of the two endings.
+// The fixed byte strings of a record: the words of its lines, and the letters of the two endings; and how many bytes they have.
 
-pub const RECORD_WORD: [u8; 3] = *b"ENV";
+pub const RECORD_WORD_BYTES: usize = 3;
 
-pub const CENTRE_WORD: [u8; 1] = *b"C";
+pub const LINE_WORD_BYTES: usize = 1;
 
-pub const RESULT_WORD: [u8; 1] = *b"R";
+pub const LETTER_BYTES: usize = 1;
 
-pub const WEIGHT_WORD: [u8; 1] = *b"W";
+pub const RECORD_WORD: [u8; RECORD_WORD_BYTES] = *b"ENV";
 
-pub const SETTLED_LETTER: [u8; 1] = *b"S";
+pub const CENTRE_WORD: [u8; LINE_WORD_BYTES] = *b"C";
 
-pub const BUDGET_LETTER: [u8; 1] = *b"B";
+pub const RESULT_WORD: [u8; LINE_WORD_BYTES] = *b"R";
+
+pub const WEIGHT_WORD: [u8; LINE_WORD_BYTES] = *b"W";
+
+pub const SETTLED_LETTER: [u8; LETTER_BYTES] = *b"S";
+
+pub const BUDGET_LETTER: [u8; LETTER_BYTES] = *b"B";
