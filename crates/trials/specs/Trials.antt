@@ -27,7 +27,7 @@ use Rattle.channel.specs.Channel.{channelTypes, houseTypes, typeIn, knownIn, ty
 use Rattle.heading.specs.Heading.{printHeading}
 use Rattle.envelope.specs.Figures.{figuresWithin, codesWithin, figuresKnown, figuresOf}
 use Rattle.envelope.specs.Agreement.{withCentre, drawnEnvelope}
-use Rattle.record_form.specs.Lines.{printCentre, printResult, printWeight}
+use Rattle.record_lines.specs.Lines.{printCentre, printResult, printWeight}
 use Rattle.record_form.specs.Record.{printRecord}
 use Rattle.record_form.specs.Weights.{listed}
 use Rattle.record_print.specs.Printed.{recordText}

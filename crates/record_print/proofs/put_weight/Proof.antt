@@ -32,7 +32,7 @@ same-length c = search needs
 returns : tie.Need-returns
 returns c =
     let start = c .before .before .before .before .before .before .before in
-    weight-put (start .args .row) (start .args .weight) (omega arith) (omega arith) (c .before .before .put-line .ensures)
+    weight-put (start .args .row) (start .args .weight) (weight-below (start .args .row) (start .args .weight) (omega arith) (omega arith)) (c .before .before .put-line .ensures)
 
 pub put-weight-spec : {M : Type 1} → statement M
 put-weight-spec =

@@ -5,8 +5,8 @@ ghost use mathlib.Core.Option.{none};
 ghost use Prim.Native.Nat.{_≤_};
 ghost use lib.ListN.{length};
 ghost use Rattle.limits.specs.Limits.{rowLimit};
-ghost use Rattle.record_form.specs.Lines.{recordNumber, resultLine, weightLine};
-ghost use Rattle.record_form.specs.Contracts.{heldSigned, numberRead, NumbersRead, CentreRead, resultRead, weightRead};
+ghost use Rattle.record_lines.specs.Lines.{recordNumber, resultLine, weightLine};
+ghost use Rattle.record_lines.specs.Contracts.{heldSigned, numberRead, NumbersRead, CentreRead, resultRead, weightRead};
 use crate::words::BUDGET_LETTER;
 use crate::words::CENTRE_WORD;
 use crate::words::RESULT_WORD;
@@ -34,8 +34,8 @@ pub enum Number {
 // What an `R` line states; every figure is 0 where the line is not in form.
 pub struct ResultRead {
     pub in_form: bool,
-    pub radius: i64,
-    pub floor: i64,
+    pub scaled_squared_radius: i64,
+    pub scaled_lower_bound: i64,
     pub moves: u32,
     pub settled: bool,
 }
@@ -111,11 +111,11 @@ fn read_numbers(line: &[u8], word: &[u8], count: usize, numbers: &mut [i64]) -> 
 }
 
 // Whether a line is a `C` line of n channels, X put into the lent places.
-pub fn read_centre(line: &[u8], n: usize, centre: &mut [i64]) -> bool
-    requires { ⌜ n ≤ length (now centre) ⌝ }
-    ensures { λ r. ⌜ CentreRead n (now (line .entry)) (now (centre .entry)) (now (centre .exit)) r ⌝ }
+pub fn read_centre(line: &[u8], n: usize, scaled_centre: &mut [i64]) -> bool
+    requires { ⌜ n ≤ length (now «scaled_centre») ⌝ }
+    ensures { λ r. ⌜ CentreRead n (now (line .entry)) (now («scaled_centre» .entry)) (now («scaled_centre» .exit)) r ⌝ }
 {
-    let next = read_numbers(line, &CENTRE_WORD, n, centre);
+    let next = read_numbers(line, &CENTRE_WORD, n, scaled_centre);
     next == line.len() + 1
 }
 
@@ -124,8 +124,8 @@ fn no_result() -> ResultRead
 {
     ResultRead {
         in_form: false,
-        radius: 0,
-        floor: 0,
+        scaled_squared_radius: 0,
+        scaled_lower_bound: 0,
         moves: 0,
         settled: false,
     }
@@ -157,8 +157,8 @@ pub fn read_result(line: &[u8]) -> ResultRead
     }
     ResultRead {
         in_form: true,
-        radius: numbers[0],
-        floor: numbers[1],
+        scaled_squared_radius: numbers[0],
+        scaled_lower_bound: numbers[1],
         moves: moves as u32,
         settled,
     }

@@ -20,9 +20,10 @@ use lib.Signed.{leZ, ltZ}
 use mir.Syntax.{w64}
 use Rattle.integers.specs.Reading.{back}
 use Rattle.integers.specs.Tests.{clash}
-use Rattle.record_form.specs.Lines.{Weight, weightWord, weightPast, weightStated, weightLine}
-use Rattle.record_form.specs.Contracts.{heldLimit, held, NumbersRead, heldWeight}
-use Rattle.record_form.proofs.LineSteps.{held-negative, numbers-held, numbers-end, numbers-no-end}
+use Rattle.record_lines.specs.Lines.{Weight, weightWord, weightPast, weightStated, weightLine}
+use Rattle.record_lines.specs.Contracts.{heldLimit, held, NumbersRead, heldWeight}
+use Rattle.record_lines.specs.ContractLaws.{held-negative}
+use Rattle.record_lines.proofs.LineSteps.{numbers-held, numbers-end, numbers-no-end}
 
 -- what the machine reads of a `W` line in form: the row as it is, the weight as an i64 keeps it
 pub record WeightHeld (limit : ℕ) (o : Option Weight) (x y : ℤ) : Type 0 where

@@ -10,9 +10,10 @@ use lib.Seq.{length-take-le}
 use mir.Syntax.{w64}
 use mir.Facts.{toZ-ofZ}
 use Rattle.integers.specs.Reading.{back}
-use Rattle.record_form.proofs.LineSteps.{held-fits, number-none, number-some, NumbersSoFar, numbers-other, numbers-none, numbers-few, numbers-stop, numbers-next, numbers-done}
-use Rattle.record_form.proofs.line.read_numbers.Statement.{statement}
-use Rattle.record_form.proofs.line.read_numbers.Tie as tie
+use Rattle.record_lines.specs.ContractLaws.{held-fits}
+use Rattle.record_lines.proofs.LineSteps.{number-none, number-some, NumbersSoFar, numbers-other, numbers-none, numbers-few, numbers-stop, numbers-next, numbers-done}
+use Rattle.record_lines.proofs.line.read_numbers.Statement.{statement}
+use Rattle.record_lines.proofs.line.read_numbers.Tie as tie
 
 abbrev Inv-loop : tie.InvT-loop
 Inv-loop line word count numbers₀ word-end from₀ i₀ numbers from i = NumbersSoFar word count line numbers₀ numbers from i

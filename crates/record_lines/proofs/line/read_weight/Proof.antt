@@ -15,11 +15,11 @@ use mir.Val.{toZ}
 use mir.Facts.{toZ-pos}
 use Rattle.integers.specs.Reading.{back, number-cast}
 use Rattle.limits.specs.Limits.{rowLimit}
-use Rattle.record_form.specs.Lines.{weightLine}
-use Rattle.record_form.specs.Contracts.{heldWeight, weightRead}
-use Rattle.record_form.proofs.WeightSteps.{WeightHeld, WeightNumbers, weight-numbers, weight-no-end, weight-early, weight-late, weight-empty, weight-held, weight-most, weight-small}
-use Rattle.record_form.proofs.line.read_weight.Statement.{statement}
-use Rattle.record_form.proofs.line.read_weight.Tie as tie
+use Rattle.record_lines.specs.Lines.{weightLine}
+use Rattle.record_lines.specs.Contracts.{heldWeight, weightRead}
+use Rattle.record_lines.proofs.WeightSteps.{WeightHeld, WeightNumbers, weight-numbers, weight-no-end, weight-early, weight-late, weight-empty, weight-held, weight-most, weight-small}
+use Rattle.record_lines.proofs.line.read_weight.Statement.{statement}
+use Rattle.record_lines.proofs.line.read_weight.Tie as tie
 
 slice-aggregate-read-numbers : tie.Need-slice-aggregate-read-numbers
 slice-aggregate-read-numbers c = search needs

@@ -1,8 +1,6 @@
 -- The lines of a record that are read field by field: a word and numbers, and the `C` line.
 --     numberOf, number-read                       a field from what is kept of a number
 --     number-none, number-some                    what an answer to a field says of it
---     signed-fits, held-fits                      what an i64 keeps of a number fits it
---     held-negative                               a number below 0 stays below 0
 --     numbersFirst k fields                       the numbers of the first k fields, if there are so many
 --     NumbersSoFar, numbers-none, numbers-next    the numbers of a line as they are read
 --     numbers-other, numbers-few, numbers-stop    what stops their walk: another word, a missing field, one that is no number
@@ -12,7 +10,7 @@
 --     numbers-rest                                the fields after them
 --     numbers-end, numbers-no-end                 a line that ends with them, and one that does not
 --     centre-read                                 a `C` line
-use Prim.Native.Nat.{ℕ, zero, suc, _+_, _-_, _≤_, _<_, min}
+use Prim.Native.Nat.{ℕ, zero, suc, _+_, _-_, _≤_, _<_}
 use mathlib.Core.Path.{_≡_, refl, sym, ap, ap₂, _∙_}
 use mathlib.Core.Bool.{Bool, true, false, cond, _&&_, and-false}
 use mathlib.Core.List.{List, [], _∷_, _++_, map, append-nil, append-assoc, map-append}
@@ -21,13 +19,11 @@ use native.Mathlib.Numerals.{add-one}
 use native.Mathlib.Omega.{arith}
 use borrow.Author.Tests.{leb-true, leb-false, eqb-true, eqb-false, ltb-true, ltb-false, le-ltb, eq-eqb, ne-eqb}
 use lib.Dec.{eqb, leb, ltb, eqb·zero-suc, eqb·suc-suc}
-use lib.IntN.{ℤ, pos, negsuc, negℤ, natAbs}
+use lib.IntN.{ℤ, pos, negsuc, natAbs}
 use lib.ListN.{length, getD, set, take, drop, length-append, length-set, length-map, length-take, length-drop, List·getD-append, List·getD-map}
 use lib.Seq.{drop-cons, set-at, take-all}
 use mir.Syntax.{w64}
-use mir.Val.{SFits}
 use mir.Facts.{toZ-ofZ}
-use Rattle.integers.specs.Absolute.{abs-neg, fits64}
 use Rattle.integers.specs.Reading.{back}
 use Rattle.integers.specs.Tests.{impossible, cond-same, cond-some}
 use Rattle.lists.specs.Gathered.{gathered-none, gathered-next}
@@ -39,11 +35,12 @@ use Rattle.number.specs.Contracts.{magnitudeLimit, saturated, plainRead}
 use Rattle.number.specs.ContractLaws.{saturated-small}
 use Rattle.number.specs.declared.Plain.{Plain}
 use Rattle.number.specs.declared.Plain.the-variants as written
-use Rattle.record_form.specs.Lines.{shortNumber, recordNumber, andNumber, numbersOf, numbersLine, centreWord, centreLine}
-use Rattle.record_form.specs.LinesLaws.{fields-numbers}
-use Rattle.record_form.specs.Contracts.{heldLimit, heldSigned, held, numberRead, nextOf, numbersStarting, numbersNext, NumbersRead, isThere, CentreRead}
-use Rattle.record_form.specs.declared.line.Number.{Number}
-use Rattle.record_form.specs.declared.line.Number.the-variants as number
+use Rattle.record_lines.specs.Lines.{shortNumber, recordNumber, andNumber, numbersOf, numbersLine, centreWord, centreLine}
+use Rattle.record_lines.specs.LinesLaws.{fields-numbers}
+use Rattle.record_lines.specs.Contracts.{heldSigned, held, numberRead, nextOf, numbersStarting, numbersNext, NumbersRead, isThere, CentreRead}
+use Rattle.record_lines.specs.ContractLaws.{held-fits}
+use Rattle.record_lines.specs.declared.line.Number.{Number}
+use Rattle.record_lines.specs.declared.line.Number.the-variants as number
 
 -- ---- one field
 
@@ -86,21 +83,6 @@ module _ (field : List ℕ) where
       go : (o : Option ℤ) → recordNumber field ≡ o → number.Held x ≡ numberRead o → (z : ℤ) × (recordNumber field ≡ some z) × (x ≡ held z)
       go none e h = impossible (cc)
       go (some z) e h = (z, e, cc)
-
-pub signed-fits : (negative : Bool) (magnitude : ℕ) → SFits w64 (heldSigned negative magnitude)
-signed-fits false magnitude = fits64 (heldSigned false magnitude) (omega arith)
-signed-fits true magnitude = fits64 (heldSigned true magnitude) (omega (arith, abs-neg (pos (min magnitude heldLimit))))
-
-pub held-fits : (z : ℤ) → SFits w64 (held z)
-held-fits (pos k) = signed-fits false k
-held-fits (negsuc k) = signed-fits true (suc k)
-
--- a number below 0 stays below 0
-pub held-negative : (k : ℕ) → (j : ℕ) × (held (negsuc k) ≡ negsuc j)
-held-negative k =
-    let j = min (suc k) heldLimit - 1 in
-    let n : min (suc k) heldLimit ≡ suc j = omega arith in
-    (j, ap (λ m. negℤ (pos m)) n)
 
 -- ---- the numbers of a line
 

@@ -8,10 +8,10 @@ use lib.IntN.{pos, _-ℤ_, +ℤ-idl}
 use mir.Syntax.{w64}
 use mir.Val.{SFits, toZ}
 use mir.Facts.{toZ-ofZ, toZ-pos}
-use Rattle.record_form.specs.Contracts.{heldLimit, heldSigned}
-use Rattle.record_form.proofs.LineSteps.{signed-fits}
-use Rattle.record_form.proofs.line.held.Statement.{statement}
-use Rattle.record_form.proofs.line.held.Tie as tie
+use Rattle.record_lines.specs.Contracts.{heldLimit, heldSigned}
+use Rattle.record_lines.specs.ContractLaws.{signed-fits}
+use Rattle.record_lines.proofs.line.held.Statement.{statement}
+use Rattle.record_lines.proofs.line.held.Tie as tie
 
 kept : (c : tie.Joined1) → c .if1 .kept ≡ min (c .before .args .magnitude) heldLimit
 kept c = ⊎-elim (λ w. omega (arith, w .0 .taken, w .1)) (λ w. omega (arith, w .0 .left, w .1)) (c .if1 .came)

@@ -29,7 +29,7 @@ use Rattle.number.specs.Number.{hyphen, isDigit, plain, print}
 use Rattle.number.specs.NumberLaws.{plain-print, print-plain, print-free}
 use Rattle.number.specs.Contracts.{magnitudeLimit}
 use Rattle.printing.specs.Contracts.{numbersAfter}
-use Rattle.record_form.specs.Lines.{
+use Rattle.record_lines.specs.Lines.{
   centreWord,
   resultWord,
   weightWord,
@@ -168,8 +168,8 @@ centre-free centre = after-free centreWord refl centre
 -- ---- `R`
 
 pub record ResultWithin (r : Result) : Type 0 where
-  pub radius-short : Short (r .radius)
-  pub floor-short : Short (r .floor)
+  pub radius-short : Short (r .scaledSquaredRadius)
+  pub floor-short : Short (r .scaledLowerBound)
   pub moves-most : r .moves ≤ budgetLimit
 
 letter-same : (letter : List ℕ) (stated settled : Bool) → same letter (letterOf stated) ≡ true → some stated ≡ some settled
@@ -203,15 +203,15 @@ moves-number (pos n) moves e =
 moves-number (negsuc k) moves e = unlike e
 
 result-with : (M L : ℤ) (moves : Option ℕ) (ending : Option Bool) (r : Result) → resultWith M L moves ending ≡ some r
-    → (r .radius ≡ M) × (r .floor ≡ L) × (moves ≡ some (r .moves)) × (ending ≡ some (r .settled))
+    → (r .scaledSquaredRadius ≡ M) × (r .scaledLowerBound ≡ L) × (moves ≡ some (r .moves)) × (ending ≡ some (r .settled))
 result-with M L none ending r e = unlike e
 result-with M L (some moves) none r e = unlike e
 result-with M L (some moves) (some settled) r e =
-    let made : record { radius = M; floor = L; moves = moves; settled = settled } ≡ r = cc in
+    let made : record { scaledSquaredRadius = M; scaledLowerBound = L; moves = moves; settled = settled } ≡ r = cc in
     rw (← made) (refl, refl, refl, refl)
 
 resultNumbers : Result → List ℤ
-resultNumbers r = r .radius ∷ r .floor ∷ pos (r .moves) ∷ []
+resultNumbers r = r .scaledSquaredRadius ∷ r .scaledLowerBound ∷ pos (r .moves) ∷ []
 
 -- the fields after the word
 numbers-result : (zs : List ℤ) (ending : Option Bool) (r : Result) → length zs ≡ 3 → Each Short (pos 0) zs → resultOf (some zs) ending ≡ some r
@@ -269,7 +269,7 @@ module _ (r : Result) where
       → allFree c ((resultWord ∷ map print (resultNumbers r)) ++ (letterOf (r .settled) ∷ [])) ≡ true
   unfolding allFree resultNumbers
   joined-free c digit sign h k =
-      rw (h, k, print-free c digit sign (r .radius), print-free c digit sign (r .floor), print-free c digit sign (pos (r .moves)))
+      rw (h, k, print-free c digit sign (r .scaledSquaredRadius), print-free c digit sign (r .scaledLowerBound), print-free c digit sign (pos (r .moves)))
 
   pub result-free : free lineEnd (printResult r) ≡ true
   unfolding free
@@ -282,15 +282,15 @@ module _ (r : Result) where
   unfolding resultLine resultFields resultNumbers free
   printed-result within =
       let short : Each Short (pos 0) (resultNumbers r) =
-      each-cons Short (pos 0) (r .radius) (r .floor ∷ pos (r .moves) ∷ []) (within .radius-short)
-      (each-cons Short (pos 0) (r .floor) (pos (r .moves) ∷ []) (within .floor-short)
+      each-cons Short (pos 0) (r .scaledSquaredRadius) (r .scaledLowerBound ∷ pos (r .moves) ∷ []) (within .radius-short)
+      (each-cons Short (pos 0) (r .scaledLowerBound) (pos (r .moves) ∷ []) (within .floor-short)
       (each-cons Short (pos 0) (pos (r .moves)) [] (omega (arith, within .moves-most)) (λ k h. absurd (omega arith)))) in
       ap resultFields
       (ap (cut comma) (result-joined r)
       ∙ cut-join comma resultWord (map print (resultNumbers r) ++ (letterOf (r .settled) ∷ []))
       (joined-free comma refl refl refl (letter-free (r .settled) .0)))
       ∙ ap₂ resultOf (numbers-fields resultWord (resultNumbers r) short) (letter-ending (r .settled))
-      ∙ ap (λ (moves : Option ℕ). resultWith (r .radius) (r .floor) moves (some (r .settled)))
+      ∙ ap (λ (moves : Option ℕ). resultWith (r .scaledSquaredRadius) (r .scaledLowerBound) moves (some (r .settled)))
       (ap (λ (t : Bool). cond t (some (r .moves)) none) (le-leb (r .moves) budgetLimit (within .moves-most)))
 
 -- ---- `W`

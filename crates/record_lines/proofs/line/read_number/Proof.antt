@@ -9,12 +9,13 @@ use mir.Syntax.{w64}
 use mir.Facts.{toZ-ofZ}
 use denote.Ref.{now}
 use Rattle.number.specs.Contracts.{magnitudeLimit}
-use Rattle.record_form.specs.Lines.{recordNumber}
-use Rattle.record_form.specs.Contracts.{heldSigned, numberRead}
-use Rattle.record_form.specs.declared.line.Number.the-variants.{Malformed, Held}
-use Rattle.record_form.proofs.LineSteps.{numberOf, number-read, signed-fits}
-use Rattle.record_form.proofs.line.read_number.Statement.{statement}
-use Rattle.record_form.proofs.line.read_number.Tie as tie
+use Rattle.record_lines.specs.Lines.{recordNumber}
+use Rattle.record_lines.specs.Contracts.{heldSigned, numberRead}
+use Rattle.record_lines.specs.declared.line.Number.the-variants.{Malformed, Held}
+use Rattle.record_lines.specs.ContractLaws.{signed-fits}
+use Rattle.record_lines.proofs.LineSteps.{numberOf, number-read}
+use Rattle.record_lines.proofs.line.read_number.Statement.{statement}
+use Rattle.record_lines.proofs.line.read_number.Tie as tie
 
 plain-number-requires : tie.Need-plain-number-requires
 plain-number-requires c κs = search needs

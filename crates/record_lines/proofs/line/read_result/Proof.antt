@@ -16,11 +16,11 @@ use denote.Ref.{now}
 use mir.Syntax.{w32, w64}
 use Rattle.integers.specs.Reading.{back, number-cast}
 use Rattle.text.specs.Parts.{same}
-use Rattle.record_form.specs.Lines.{settledLetter, budgetLetter, resultLine}
-use Rattle.record_form.specs.Contracts.{resultRead}
-use Rattle.record_form.proofs.ResultSteps.{ending-settled, ending-budget, ResultHeld, result-no-numbers, result-short, result-below, result-above, result-no-letter, result-held, result-read}
-use Rattle.record_form.proofs.line.read_result.Statement.{statement}
-use Rattle.record_form.proofs.line.read_result.Tie as tie
+use Rattle.record_lines.specs.Lines.{settledLetter, budgetLetter, resultLine}
+use Rattle.record_lines.specs.Contracts.{resultRead}
+use Rattle.record_lines.proofs.ResultSteps.{ending-settled, ending-budget, ResultHeld, result-no-numbers, result-short, result-below, result-above, result-no-letter, result-held, result-read}
+use Rattle.record_lines.proofs.line.read_result.Statement.{statement}
+use Rattle.record_lines.proofs.line.read_result.Tie as tie
 
 slice-aggregate-read-numbers : tie.Need-slice-aggregate-read-numbers
 slice-aggregate-read-numbers c = search needs

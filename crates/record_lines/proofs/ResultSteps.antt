@@ -23,9 +23,10 @@ use Rattle.integers.specs.Tests.{clash, impossible}
 use Rattle.limits.specs.Limits.{budgetLimit}
 use Rattle.text.specs.Parts.{comma, cut, join, same, partsFrom}
 use Rattle.text.specs.PartsLaws.{same-eq, cut-some, join-cut, parts-within, parts-none}
-use Rattle.record_form.specs.Lines.{settledLetter, budgetLetter, endingOf, movesOf, Result, resultWord, resultWith, resultOf, resultFields, resultLine}
-use Rattle.record_form.specs.Contracts.{heldLimit, held, NumbersRead, resultRead}
-use Rattle.record_form.proofs.LineSteps.{held-negative, numbers-no, numbers-some, numbers-held, numbers-rest}
+use Rattle.record_lines.specs.Lines.{settledLetter, budgetLetter, endingOf, movesOf, Result, resultWord, resultWith, resultOf, resultFields, resultLine}
+use Rattle.record_lines.specs.Contracts.{heldLimit, held, NumbersRead, resultRead}
+use Rattle.record_lines.specs.ContractLaws.{held-negative}
+use Rattle.record_lines.proofs.LineSteps.{numbers-no, numbers-some, numbers-held, numbers-rest}
 
 -- the ending that the rest of a line states
 abbrev pub endingIn : List ℕ → Option Bool
@@ -81,14 +82,14 @@ moves-within (negsuc k) h i = clash (ap (λ z. ltZ z (pos 0)) (held-negative k .
 pub record ResultHeld (o : Option Result) (x y z : ℤ) (settled : Bool) : Type 0 where
   pub result : Result
   pub is : o ≡ some result
-  pub radius-is : x ≡ held (result .radius)
-  pub floor-is : y ≡ held (result .floor)
+  pub radius-is : x ≡ held (result .scaledSquaredRadius)
+  pub floor-is : y ≡ held (result .scaledLowerBound)
   pub moves-is : z ≡ pos (result .moves)
   pub moves-most : result .moves ≤ budgetLimit
   pub settled-is : settled ≡ result .settled
 
 pub result-read : {o : Option Result} {x y z : ℤ} {settled : Bool} → ResultHeld o x y z settled
-    → record { «in_form» = true; radius = x; floor = y; moves = natAbs z; settled = settled } ≡ resultRead o
+    → record { «in_form» = true; «scaled_squared_radius» = x; «scaled_lower_bound» = y; moves = natAbs z; settled = settled } ≡ resultRead o
 result-read {o} {x} {y} {z} {settled} f =
     let moves : natAbs z ≡ f .result .moves = ap natAbs (f .moves-is) in
     let read = ap resultRead (f .is) in
@@ -144,7 +145,7 @@ module _ {line : List ℕ} {lent₀ lent : List ℤ} {next : ℕ} (f : NumbersRe
           let reads = figure-reads 2 (lit< tt) in
           let m = moves-within (figure 2) (ap (λ z. ltZ z (pos 0)) (sym reads) ∙ t) (ap (ltZ (pos budgetLimit)) (sym reads) ∙ u) in
           record {
-            result = record { radius = figure 0; floor = figure 1; moves = m .0; settled = settled };
+            result = record { scaledSquaredRadius = figure 0; scaledLowerBound = figure 1; moves = m .0; settled = settled };
             is = result-is ∙ ap₂ (resultWith (figure 0) (figure 1)) (m .1) (ending-is ∙ e);
             radius-is = figure-reads 0 (lit< tt);
             floor-is = figure-reads 1 (lit< tt);

@@ -1,8 +1,8 @@
 -- The line is a `C` line where it starts with the word and n numbers and ends with them.
 use borrow.Author.Needs.{needs}
-use Rattle.record_form.proofs.LineSteps.{centre-read}
-use Rattle.record_form.proofs.line.read_centre.Statement.{statement}
-use Rattle.record_form.proofs.line.read_centre.Tie as tie
+use Rattle.record_lines.proofs.LineSteps.{centre-read}
+use Rattle.record_lines.proofs.line.read_centre.Statement.{statement}
+use Rattle.record_lines.proofs.line.read_centre.Tie as tie
 
 slice-aggregate-read-numbers : tie.Need-slice-aggregate-read-numbers
 slice-aggregate-read-numbers c = search needs

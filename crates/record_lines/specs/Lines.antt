@@ -82,14 +82,14 @@ unfoldable pub centreLine : ℕ → List ℕ → Option (List ℤ)
 centreLine n line = numbersLine centreWord n (cut comma line)
 
 unfoldable pub printCentre : List ℤ → List ℕ
-printCentre centre = numbersAfter centreWord centre
+printCentre scaledCentre = numbersAfter centreWord scaledCentre
 
 -- ---- `R`, M, L, moves, `S` or `B`
 
 -- M and L may be below 0 in form; such a record agrees with no rows
 pub record Result : Type 0 where
-  pub radius : ℤ
-  pub floor : ℤ
+  pub scaledSquaredRadius : ℤ
+  pub scaledLowerBound : ℤ
   pub moves : ℕ
   pub settled : Bool
 
@@ -110,7 +110,7 @@ movesOf (negsuc k) = none
 abbrev pub resultWith : ℤ → ℤ → Option ℕ → Option Bool → Option Result
 resultWith M L none ending = none
 resultWith M L (some moves) none = none
-resultWith M L (some moves) (some settled) = some (record { radius = M; floor = L; moves = moves; settled = settled })
+resultWith M L (some moves) (some settled) = some (record { scaledSquaredRadius = M; scaledLowerBound = L; moves = moves; settled = settled })
 
 abbrev pub resultOf : Option (List ℤ) → Option Bool → Option Result
 resultOf none ending = none
@@ -123,7 +123,7 @@ unfoldable pub resultLine : List ℕ → Option Result
 resultLine line = resultFields (cut comma line)
 
 unfoldable pub printResult : Result → List ℕ
-printResult r = numbersAfter resultWord (r .radius ∷ r .floor ∷ pos (r .moves) ∷ []) ++ (comma ∷ letterOf (r .settled))
+printResult r = numbersAfter resultWord (r .scaledSquaredRadius ∷ r .scaledLowerBound ∷ pos (r .moves) ∷ []) ++ (comma ∷ letterOf (r .settled))
 
 -- ---- `W`, row, weight
 
