@@ -16,9 +16,9 @@ use Rattle.envelope.specs.Figures.{figuresWithin}
 use Rattle.envelope.specs.FigureLaws.{within-figures}
 use Rattle.chart.specs.Panel.{refusedPanel, panelOf, panelShown}
 use Rattle.chart.specs.declared.panel.PanelShown.{PanelShown}
-use Rattle.cundarivo.specs.Given.{figuresGiven}
-use Rattle.cundarivo.specs.ChartNumbers.{panelGiven}
-use Rattle.cundarivo.specs.declared.given.FiguresGiven.{FiguresGiven}
+use Rattle.export_figures.specs.Contracts.{givenWhole, figuresGiven}
+use Rattle.export_chart.specs.Contracts.{panelGiven}
+use Rattle.export_figures.specs.declared.FiguresGiven.{FiguresGiven}
 
 -- a panel that is shown only where a test holds has the number 0 only there
 shown-where : {P : Type 0} (t : Bool) (shown : PanelShown)
@@ -28,11 +28,11 @@ shown-where : {P : Type 0} (t : Bool) (shown : PanelShown)
 shown-where true shown only z = only refl z
 shown-where false shown only z = nonzero z
 
-module _ (D : ℕ) (types : Types) (given : FiguresGiven) (codes : List ℕ) (centre : List ℤ) where
-  pub panel-accepted : let shown = panelGiven D types given codes centre in
+module _ (D : ℕ) (types : Types) (given : FiguresGiven) (codes : List ℕ) (scaledCentre : List ℤ) where
+  pub panel-accepted : let shown = panelGiven D types given codes scaledCentre in
       numberOf (shown .outcome) ≡ 0 → (shown .outcome ≡ Accepted) × (given .n ≤ channelLimit)
   unfolding panelGiven panelShown
   panel-accepted =
-      let figures = figuresGiven given codes centre in
-      shown-where (leb (given .settled) 1) _
+      let figures = figuresGiven given codes scaledCentre in
+      shown-where (givenWhole given codes scaledCentre) _
       (λ _. shown-where (figuresWithin D types figures) (panelOf D figures) (λ within _. (refl, within-figures D types figures within .channels)))

@@ -9,7 +9,7 @@ use mathlib.Core.List.{List}
 use lib.Dec.{leb}
 use lib.IntN.{ℤ}
 use Rattle.refusal.specs.Number.{outside-limits}
-use Rattle.refusal.specs.Outcome.{refused, numberOf, lineOf}
+use Rattle.refusal.specs.Outcome.{numberOf, lineOf}
 use Rattle.channel.specs.Channel.{Types}
 use Rattle.chart.specs.Mark.{refusedMark, markNumber, markLine, markPoint, markRadius, chartMark}
 use Rattle.chart.specs.Panel.{refusedPanel, panelShown}
@@ -17,10 +17,10 @@ use Rattle.chart.specs.declared.Mark.{Mark}
 use Rattle.chart.specs.declared.Mark.the-variants.{Dot, Disc, Refused}
 use Rattle.chart.specs.declared.panel.PanelShown.{PanelShown}
 use Rattle.lent.specs.Contracts.{withRoom}
-use Rattle.cundarivo.specs.Given.{answerGiven}
-use Rattle.cundarivo.specs.declared.given.FiguresGiven.{FiguresGiven}
-use Rattle.cundarivo.specs.declared.chart_numbers.MarkAnswer.{MarkAnswer}
-use Rattle.cundarivo.specs.declared.chart_numbers.PanelAnswer.{PanelAnswer}
+use Rattle.export_figures.specs.Contracts.{answerGiven}
+use Rattle.export_figures.specs.declared.FiguresGiven.{FiguresGiven}
+use Rattle.export_chart.specs.declared.MarkAnswer.{MarkAnswer}
+use Rattle.export_chart.specs.declared.PanelAnswer.{PanelAnswer}
 
 abbrev pub markCode : Mark → ℕ
 markCode (Dot point) = 1
@@ -39,8 +39,8 @@ markInNumbers mark =
     }
 
 unfoldable pub chartAnswer : ℕ → Types → FiguresGiven → List ℕ → List ℤ → ℕ → ℕ → MarkAnswer
-chartAnswer D types given codes centre h v =
-    markInNumbers (answerGiven (λ f. chartMark D types f h v) (refusedMark outside-limits) given codes centre)
+chartAnswer D types given codes scaledCentre h v =
+    markInNumbers (answerGiven (λ f. chartMark D types f h v) (refusedMark outside-limits) given codes scaledCentre)
 
 unfoldable pub panelGiven : ℕ → Types → FiguresGiven → List ℕ → List ℤ → PanelShown
 panelGiven D types = answerGiven (panelShown D types) (refusedPanel outside-limits)

@@ -1,18 +1,18 @@
-// The chart and the panel for C and Rust: the figures of an envelope are given in numbers, its types and X in lent slices.
+// The chart and the panel for C and Rust: the figures of an envelope are given in numbers, its codes and X in lent slices.
 ghost use mathlib.Core.Path.{_≡_};
 ghost use lib.ListN.{length};
 ghost use Rattle.limits.specs.Limits.{total};
 ghost use Rattle.lent.specs.Filled.{filled};
 ghost use Rattle.channel.specs.Channel.{channelTypes};
-ghost use Rattle.cundarivo.specs.ChartNumbers.{markInNumbers, chartAnswer, panelGiven, panelAnswer};
-use crate::given::FiguresGiven;
+ghost use Rattle.export_chart.specs.Contracts.{markInNumbers, chartAnswer, panelGiven, panelAnswer};
 use channel::Code;
 use chart::Mark;
-use chart::chart_lent;
 use chart::panel::PanelShown;
-use chart::panel::panel_lent;
 use chart::panel::refused_panel;
 use chart::refused_mark;
+use export_figures::FiguresGiven;
+use export_figures::figures_given;
+use export_figures::given_whole;
 use lent::fill_table;
 use lent::with_room;
 
@@ -71,70 +71,54 @@ fn mark_in_numbers(mark: Mark) -> MarkAnswer
     }
 }
 
-// The mark of an envelope on the chart of two channels counted from 1, the same one allowed. Of `types` and `centre` the first n places
-// count; fewer are refused by 8, and so is an ending that is neither 0 nor 1. Refused: 8.
-#[no_mangle]
-pub extern "C" fn cundarivo_chart(
+// The mark of an envelope on the chart of two channels counted from 1, the same one allowed. Of `codes` and `scaled_centre` the first
+// n places count; fewer are refused by 8, and so is an ending that is neither 0 nor 1. Refused: 8.
+pub fn chart(
     figures: FiguresGiven,
     codes: &[Code],
-    centre: &[i64],
+    scaled_centre: &[i64],
     horizontal: usize,
     vertical: usize,
 ) -> MarkAnswer
     ensures { λ r.
-        ⌜ r ≡ chartAnswer total channelTypes figures (now (codes .entry)) (now (centre .entry)) horizontal vertical ⌝ }
+        ⌜ r ≡ chartAnswer total channelTypes figures (now (codes .entry)) (now («scaled_centre» .entry)) horizontal vertical ⌝ }
 {
-    if 1 < figures.settled {
+    if !given_whole(figures, codes, scaled_centre) {
         return mark_in_numbers(refused_mark());
     }
-    let mark = chart_lent(
-        figures.n,
-        codes,
-        centre,
-        figures.scaled_squared_radius,
-        figures.scaled_lower_bound,
-        figures.moves,
-        horizontal,
-        vertical,
-    );
+    let taken = figures_given(figures, codes, scaled_centre);
+    let mark = chart::chart(taken, horizontal, vertical);
     mark_in_numbers(mark)
 }
 
 // What the panel shows of the figures that are given.
-fn panel_given(figures: FiguresGiven, codes: &[Code], centre: &[i64]) -> PanelShown
-    ensures { λ r. ⌜ r ≡ panelGiven total channelTypes figures (now (codes .entry)) (now (centre .entry)) ⌝ }
+fn panel_given(figures: FiguresGiven, codes: &[Code], scaled_centre: &[i64]) -> PanelShown
+    ensures { λ r. ⌜ r ≡ panelGiven total channelTypes figures (now (codes .entry)) (now («scaled_centre» .entry)) ⌝ }
 {
-    if 1 < figures.settled {
+    if !given_whole(figures, codes, scaled_centre) {
         return refused_panel();
     }
-    panel_lent(
-        figures.n,
-        codes,
-        centre,
-        figures.scaled_squared_radius,
-        figures.scaled_lower_bound,
-        figures.moves,
-    )
+    let taken = figures_given(figures, codes, scaled_centre);
+    chart::panel::panel(taken)
 }
 
 // The centre of an envelope to the nearest whole step, halves away from zero. It fills the first n places of `steps` where accepted, and
-// writes nothing else. Of `types` and `centre` the first n places count; fewer are refused by 8, and so is an ending that is neither 0
-// nor 1. Refused: 8, then 13.
-#[no_mangle]
-pub extern "C" fn cundarivo_panel(
+// writes nothing else. Of `codes` and `scaled_centre` the first n places count; fewer are refused by 8, and so is an ending that is
+// neither 0 nor 1. Refused: 8, then 13.
+pub fn panel(
     figures: FiguresGiven,
     codes: &[Code],
-    centre: &[i64],
+    scaled_centre: &[i64],
     steps: &mut [i32],
 ) -> PanelAnswer
     ensures answer { λ r.
-        ⌜ r ≡ panelAnswer (panelGiven total channelTypes figures (now (codes .entry)) (now (centre .entry))) (figures .n)
+        ⌜ r ≡ panelAnswer (panelGiven total channelTypes figures (now (codes .entry)) (now («scaled_centre» .entry))) (figures .n)
         (length (now (steps .entry))) ⌝ }
     ensures steps_filled { λ r.
         ⌜ now (steps .exit) ≡ filled (r .number) (figures .n)
-        (panelGiven total channelTypes figures (now (codes .entry)) (now (centre .entry)) .steps) (now (steps .entry)) ⌝ }
+        (panelGiven total channelTypes figures (now (codes .entry)) (now («scaled_centre» .entry)) .steps) (now (steps .entry)) ⌝ }
 {
-    let shown = panel_given(figures, codes, centre);
+    let shown = panel_given(figures, codes, scaled_centre);
     let answered = shown.outcome;
     let outcome = with_room(answered, figures.n <= steps.len());
     let answer = PanelAnswer {

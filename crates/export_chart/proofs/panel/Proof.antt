@@ -15,12 +15,12 @@ use Rattle.refusal.specs.declared.Outcome.the-variants.{Accepted}
 use Rattle.limits.specs.Limits.{total, channelLimit}
 use Rattle.channel.specs.Channel.{channelTypes}
 use Rattle.chart.specs.declared.panel.PanelShown.{PanelShown}
-use Rattle.cundarivo.specs.ChartNumbers.{panelGiven, panelAnswer}
-use Rattle.cundarivo.specs.declared.chart_numbers.PanelAnswer.{PanelAnswer}
+use Rattle.export_chart.specs.Contracts.{panelGiven, panelAnswer}
+use Rattle.export_chart.specs.declared.PanelAnswer.{PanelAnswer}
 use Rattle.lent.specs.ContractLaws.{room-accepted, unwritten, rewritten}
-use Rattle.cundarivo.proofs.ChartLaws.{panel-accepted}
-use Rattle.cundarivo.proofs.chart_numbers.cundarivo_panel.Statement.{statement}
-use Rattle.cundarivo.proofs.chart_numbers.cundarivo_panel.Tie as tie
+use Rattle.export_chart.proofs.PanelLaws.{panel-accepted}
+use Rattle.export_chart.proofs.panel.Statement.{statement}
+use Rattle.export_chart.proofs.panel.Tie as tie
 
 panel-given-requires : tie.Need-panel-given-requires
 panel-given-requires c κs = search needs
@@ -37,7 +37,7 @@ line-of-requires c κs = search needs
 abbrev answered : (c : tie.After-line-of)
     → let args = c .before .before .before .before .before .before .args in
     _≡_ {A = PanelAnswer} (record { number = c .before .number-of .result; line = c .line-of .result })
-    (panelAnswer (panelGiven total channelTypes (args .figures) (now (args .codes)) (now (args .centre))) (args .figures .n) (length (now (args .steps))))
+    (panelAnswer (panelGiven total channelTypes (args .figures) (now (args .codes)) (now (args .scaled-centre))) (args .figures .n) (length (now (args .steps))))
 answered c =
     let at-panel = c .before .before .before .before in
     let args = at-panel .before .before .args in
@@ -62,7 +62,7 @@ fill-table-requires c κs =
     let places =
     room-accepted fits (at-panel .panel-given .result .outcome)
     (subst (λ (shown : PanelShown). numberOf (shown .outcome) ≡ 0 → (shown .outcome ≡ Accepted) × (args .figures .n ≤ channelLimit))
-    (sym (at-panel .panel-given .ensures)) (panel-accepted total channelTypes (args .figures) (now (args .codes)) (now (args .centre))))
+    (sym (at-panel .panel-given .ensures)) (panel-accepted total channelTypes (args .figures) (now (args .codes)) (now (args .scaled-centre))))
     (ap numberOf (sym (at-number .before .with-room .ensures)) ∙ sym (at-number .number-of .ensures) ∙ c .before .before .before .if1 .left) in
     let eight : channelLimit ≡ length (at-panel .panel-given .result .steps) = slice-aggregate-fill-table c in
     (omega (arith, leb-true (args .figures .n) (length (now (args .steps))) (places .0)), omega (arith, places .1))
@@ -77,13 +77,13 @@ returns-2 c =
     let at-panel = at-line .before .before .before .before in
     let args = at-panel .before .before .args in (
       answered at-line,
-      written refl (args .figures .n) (at-panel .panel-given .result .steps) (now (args .steps)) (at-else .if1 .left) (c .before .fill-table .ensures)
+      rewritten refl (args .figures .n) (at-panel .panel-given .result .steps) (now (args .steps)) (at-else .if1 .left) (c .before .fill-table .ensures)
           ∙ ap (λ (shown : PanelShown). filled (at-line .before .number-of .result) (args .figures .n) (shown .steps) (now (args .steps)))
           (at-panel .panel-given .ensures),
     )
 
-pub cundarivo-panel-spec : {M : Type 1} → statement M
-cundarivo-panel-spec =
+pub panel-spec : {M : Type 1} → statement M
+panel-spec =
     tie.close
     (tie.spec
     panel-given-requires

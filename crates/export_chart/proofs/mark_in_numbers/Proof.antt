@@ -2,9 +2,9 @@
 use mathlib.Core.Path.{sym, ap}
 use lib.Ieee
 use borrow.Author.Needs.{needs}
-use Rattle.cundarivo.specs.ChartNumbers.{markInNumbers}
-use Rattle.cundarivo.proofs.chart_numbers.mark_in_numbers.Statement.{statement}
-use Rattle.cundarivo.proofs.chart_numbers.mark_in_numbers.Tie as tie
+use Rattle.export_chart.specs.Contracts.{markInNumbers}
+use Rattle.export_chart.proofs.mark_in_numbers.Statement.{statement}
+use Rattle.export_chart.proofs.mark_in_numbers.Tie as tie
 
 enum-known-mark : tie.Need-enum-known-mark
 enum-known-mark c = search needs
