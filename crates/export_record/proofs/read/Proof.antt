@@ -8,10 +8,10 @@ use Rattle.limits.specs.Limits.{total, rowLimit}
 use Rattle.channel.specs.Channel.{channelTypes}
 use Rattle.record.specs.ReadLaws.{given-within, accepted-read, read-zero}
 use Rattle.record.specs.declared.EnvelopeRead.{EnvelopeRead}
-use Rattle.cundarivo.specs.RecordText.{readAnswer}
-use Rattle.cundarivo.proofs.Laws.{accepted-places}
-use Rattle.cundarivo.proofs.record_text.cundarivo_read_record.Statement.{statement}
-use Rattle.cundarivo.proofs.record_text.cundarivo_read_record.Tie as tie
+use Rattle.export_record.specs.Contracts.{readAnswer}
+use Rattle.export_answers.specs.ContractLaws.{accepted-places}
+use Rattle.export_record.proofs.read.Statement.{statement}
+use Rattle.export_record.proofs.read.Tie as tie
 
 read-requires : tie.Need-read-requires
 read-requires c κs = search needs
@@ -45,13 +45,13 @@ returns c =
     let is = at-read .read .ensures in
     let number = at-hand-out .hand-out .result .number in
     let (answer, (centre, weights)) = at-hand-out .hand-out .ensures in (
-      answer ∙ ap (λ (a : EnvelopeRead). readAnswer a (args .m) (args .n) (length (now (args .centre))) (length (now (args .weights)))) is,
+      answer ∙ ap (λ (a : EnvelopeRead). readAnswer a (args .m) (args .n) (length (now (args .scaled-centre))) (length (now (args .weights)))) is,
       (
-        centre ∙ ap (λ (a : EnvelopeRead). filled number (args .n) (a .envelope .figures .ball .«scaled_centre») (now (args .centre))) is,
+        centre ∙ ap (λ (a : EnvelopeRead). filled number (args .n) (a .envelope .figures .ball .«scaled_centre») (now (args .scaled-centre))) is,
         weights ∙ ap (λ (a : EnvelopeRead). filled number (args .m) (a .envelope .weights) (now (args .weights))) is,
       ),
     )
 
-pub cundarivo-read-record-spec : {M : Type 1} → statement M
-cundarivo-read-record-spec =
+pub read-spec : {M : Type 1} → statement M
+read-spec =
     tie.close (tie.spec read-requires slice-aggregate-hand-out hand-out-requires same-length same-length-2 returns)

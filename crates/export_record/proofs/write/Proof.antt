@@ -7,7 +7,6 @@ use lib.ListN.{length}
 use denote.Ref.{now}
 use Rattle.refusal.specs.Number.{outside-limits}
 use Rattle.refusal.specs.Outcome.{refused}
-use Rattle.refusal.specs.declared.Outcome.{Outcome}
 use Rattle.limits.specs.Limits.{total, rowLimit}
 use Rattle.lent.specs.Filled.{filled, filled-refused}
 use Rattle.channel.specs.Channel.{channelTypes}
@@ -15,18 +14,18 @@ use Rattle.envelope.specs.declared.Envelope.{Envelope}
 use Rattle.record_print.specs.Printed.{recordText}
 use Rattle.record.specs.Contracts.{recordWritten}
 use Rattle.lent.specs.Contracts.{notWritten}
-use Rattle.cundarivo.specs.RecordText.{writtenInNumbers}
-use Rattle.cundarivo.specs.declared.record_text.WrittenAnswer.{WrittenAnswer}
+use Rattle.export_answers.specs.Contracts.{writtenInNumbers}
+use Rattle.export_answers.specs.declared.WrittenAnswer.{WrittenAnswer}
 use Rattle.integers.specs.Tests.{nonzero}
-use Rattle.cundarivo.proofs.RecordLaws.{given-places, write-chosen}
-use Rattle.cundarivo.proofs.record_text.cundarivo_write_record.Statement.{statement}
-use Rattle.cundarivo.proofs.record_text.cundarivo_write_record.Tie as tie
+use Rattle.export_record.specs.ContractLaws.{whole-places, write-chosen}
+use Rattle.export_record.proofs.write.Statement.{statement}
+use Rattle.export_record.proofs.write.Tie as tie
 
-given-whole-requires : tie.Need-given-whole-requires
-given-whole-requires c κs = search needs
+envelope-whole-requires : tie.Need-envelope-whole-requires
+envelope-whole-requires c κs = search needs
 
-refused-at-requires : tie.Need-refused-at-requires
-refused-at-requires c κs = search needs
+not-written-requires : tie.Need-not-written-requires
+not-written-requires c κs = search needs
 
 written-in-numbers-requires : tie.Need-written-in-numbers-requires
 written-in-numbers-requires c κs = search needs
@@ -37,18 +36,18 @@ returns c =
     let args = at-whole .before .before .before .before .args in
     let r = c .written-in-numbers .result in
     let is : r ≡ writtenInNumbers (notWritten (refused outside-limits)) =
-    c .written-in-numbers .ensures ∙ ap (λ (o : Outcome). writtenInNumbers (notWritten o)) (c .before .refused-at .ensures) in (
+    c .written-in-numbers .ensures ∙ ap writtenInNumbers (c .before .not-written .ensures) in (
       is ∙ sym
-          (write-chosen (args .figures) (now (args .codes)) (now (args .centre)) (now (args .weights)) (args .m) total rowLimit channelTypes
-          (now (args .rows)) (length (now (args .buffer))) (sym (at-whole .given-whole .ensures) ∙ not-true _ (c .before .before .if1 .taken))),
+          (write-chosen rowLimit (args .figures) (now (args .codes)) (now (args .scaled-centre)) (now (args .weights)) (args .m) total channelTypes
+          (now (args .rows)) (length (now (args .buffer))) (sym (at-whole .envelope-whole .ensures) ∙ not-true _ (c .before .before .if1 .taken))),
       filled-refused (r .number) (r .length) _ (now (args .buffer)) (λ z. nonzero (sym (ap (λ (a : WrittenAnswer). a .number) is) ∙ z)),
     )
 
 envelope-given-requires : tie.Need-envelope-given-requires
 envelope-given-requires c κs =
     let args = c .before .before .before .before .before .args in
-    given-places (args .figures) (now (args .codes)) (now (args .centre)) (now (args .weights)) (args .m)
-    (sym (c .before .given-whole .ensures) ∙ not-false _ (c .if1 .left))
+    whole-places rowLimit (args .figures) (now (args .codes)) (now (args .scaled-centre)) (now (args .weights)) (args .m)
+    (sym (c .before .envelope-whole .ensures) ∙ not-false _ (c .if1 .left))
 
 write-requires : tie.Need-write-requires
 write-requires c κs = search needs
@@ -72,18 +71,18 @@ returns-2 c =
           (at-write .write .ensures .0
           ∙ ap (λ (e : Envelope). recordWritten total rowLimit channelTypes (now (args .rows)) (args .m) e (length (now (args .buffer)))) envelope-is)
           ∙ sym
-          (write-chosen (args .figures) (now (args .codes)) (now (args .centre)) (now (args .weights)) (args .m) total rowLimit channelTypes
-          (now (args .rows)) (length (now (args .buffer))) (sym (at-whole .given-whole .ensures) ∙ not-false _ (at-envelope .before .if1 .left))),
+          (write-chosen rowLimit (args .figures) (now (args .codes)) (now (args .scaled-centre)) (now (args .weights)) (args .m) total channelTypes
+          (now (args .rows)) (length (now (args .buffer))) (sym (at-whole .envelope-whole .ensures) ∙ not-false _ (at-envelope .before .if1 .left))),
       at-write .write .ensures .1
           ∙ ap₂ (λ (a : WrittenAnswer) (e : Envelope). filled (a .number) (a .length) (recordText channelTypes e) (now (args .buffer))) (sym is) envelope-is,
     )
 
-pub cundarivo-write-record-spec : {M : Type 1} → statement M
-cundarivo-write-record-spec =
+pub write-spec : {M : Type 1} → statement M
+write-spec =
     tie.close
     (tie.spec
-    given-whole-requires
-    refused-at-requires
+    envelope-whole-requires
+    not-written-requires
     written-in-numbers-requires
     returns
     envelope-given-requires
