@@ -15,7 +15,6 @@ use lent::fill_table;
 use limits::PLACES;
 use reference::read::label_part;
 
-
 // What a reference text answers: number 0 where accepted, else the refusal's number and line, m and n being 0.
 #[repr(C)]
 pub struct ReferenceAnswer {
@@ -46,11 +45,7 @@ fn refused_answer(number: u32) -> ReferenceAnswer
 // Reads a reference text. It fills the first m·n places of `table` with the values and the first n places of `codes` with the
 // codes where accepted, and writes nothing else. Refused: 1, 2, then line by line 6 for a row past the limit, 3, the leftmost
 // 4, 5; then 6 for no row; 7; last 13 for too few places for the codes.
-pub fn read(
-    text: &[u8],
-    table: &mut [i32],
-    codes: &mut [Code],
-) -> ReferenceAnswer
+pub fn read(text: &[u8], table: &mut [i32], codes: &mut [Code]) -> ReferenceAnswer
     ensures answer { λ r.
         ⌜ r ≡ referenceAnswer (referenceRead rowLimit channelTypes (now (text .entry)) (length (now (table .entry))))
         (length (now (codes .entry))) ⌝ }
