@@ -7,9 +7,9 @@ ghost use Rattle.lent.specs.Filled.{filled};
 ghost use Rattle.channel.specs.Channel.{channelTypes};
 ghost use Rattle.lent.specs.Contracts.{textWritten};
 ghost use Rattle.service.specs.Programs.{drawOutput, verifyOutput, judgeOutput, panelOutput};
-ghost use Rattle.cundarivo.specs.RecordText.{writtenInNumbers};
-use crate::record_text::WrittenAnswer;
-use crate::record_text::written_in_numbers;
+ghost use Rattle.export_answers.specs.Contracts.{writtenInNumbers};
+use export_answers::WrittenAnswer;
+use export_answers::written_in_numbers;
 
 // The program `draw`: the record of the drawing of a reference text's rows. Where the output fits, it fills the first `length` places
 // of `output` and no other. Refused, with `output` as it was: 13.
