@@ -3,6 +3,7 @@
 --     length-combine                the squared length of a combination of two vectors
 --     distance-ℤ                    s of a row is D times its reduced score, plus |X|²
 --     moveWeight-sum                a weighted sum after t has moved
+--     moved-by                      moving t from the near to the far row is the move
 --     moved-length, moved-total     a move keeps the list's length and the weights' sum
 --     moved-other                   no weight but the near and the far row's changes
 --     moved-centre                  X after a move
@@ -162,6 +163,11 @@ module _ (D m n : ℕ) (a : ℕ → ℕ → ℤ) (w : ℕ → ℕ) where
 
 -- the parts of a move from a list of weights
 module _ (D m n : ℕ) (a : ℕ → ℕ → ℤ) (ws : List ℕ) where
+  pub moved-by : {t from to : ℕ} → t ≡ transfer D m n a (weightOf ws) → from ≡ nearRow D m n a (weightOf ws) → to ≡ farRow D m n a (weightOf ws)
+      → moveWeight t from to ws ≡ moved D m n a ws
+  unfolding moved
+  moved-by e f g = cc
+
   pub moved-length : length (moved D m n a ws) ≡ length ws
   unfolding moved
   moved-length = moveWeight-length (transfer D m n a (weightOf ws)) (nearRow D m n a (weightOf ws)) (farRow D m n a (weightOf ws)) ws
