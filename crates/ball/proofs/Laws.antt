@@ -120,15 +120,14 @@ module _ {D : ℕ} {rows : List ℤ} {m n budget : ℕ} {weights : List ℕ} {ce
     apart = omega (arith, separation-positive D m n a w (here .total-some) (table .some-row) unsettled, here .paired)
 
     -- whatever rows the turn takes, weights and X stay together; only the near and the far row make it the move
-    module _ {t from to : ℕ} (hf : from < m) (ht : to < m)
-        (stepped : Bounded (w from) t (cappedStep (pair .difference) (pair .separation) (w from))) where
+    module _ {t from : ℕ} (stepped : Bounded (w from) t (cappedStep (pair .difference) (pair .separation) (w from))) (hf : from < m) where
       pub transfer-most : t ≤ total
       transfer-most = omega (arith, stepped .most, weight-most (weights-within (here .total-most) (here .weights-good)) from hf)
 
-      pub can-move : Movable t from to weights
-      can-move = movable (here .weights-good) hf ht (stepped .most) (here .total-most)
+      pub can-move : {to : ℕ} → to < m → Movable t from to weights
+      can-move ht = movable (here .weights-good) hf ht (stepped .most) (here .total-most)
 
-      module _ {later : List ℕ} (move : later ≡ moveWeight t from to weights) where
+      module _ (to : ℕ) {later : List ℕ} (move : later ≡ moveWeight t from to weights) (ht : to < m) where
         pub moved-good : WeightsOf D m later
         moved-good = subst (WeightsOf D m) (sym move) (weights-moved (here .weights-good) hf ht (stepped .most))
 

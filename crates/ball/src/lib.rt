@@ -84,12 +84,10 @@ fn ball_of(
     ensures { λ r. ⌜ r ≡ ballOf total m n (coordinate (now (rows .entry)) n) (weightOf (now (weights .entry))) ⌝ }
 {
     let scaled_lower_bound = bound::scaled_lower_bound(rows, m, n, weights, &scaled_centre);
-    let scaled_squared_radius = pair.scaled_squared_distance;
-    let settled = pair.difference <= pair.separation;
     filled_ball(
         scaled_centre,
-        scaled_squared_radius,
+        pair.scaled_squared_distance,
         scaled_lower_bound,
-        settled,
+        pair.difference <= pair.separation,
     )
 }

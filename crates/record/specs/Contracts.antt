@@ -31,7 +31,7 @@ use Rattle.refusal.specs.declared.Outcome.the-variants.{Accepted}
 use Rattle.geometry.specs.Table.{rowsWithin}
 use Rattle.limits.specs.Limits.{channelLimit, rowLimit}
 use Rattle.geometry.specs.Places.{centreList, centreOf}
-use Rattle.ball.specs.Ball.{noBall}
+use Rattle.ball.specs.Ball.{emptyBall}
 use Rattle.ball.specs.declared.Ball.{Ball}
 use Rattle.text.specs.Parts.{textWithin, same}
 use Rattle.channel.specs.Channel.{Types, codesKnown}
@@ -48,7 +48,7 @@ use Rattle.lent.specs.declared.TextWritten.{TextWritten}
 -- ---- reading
 
 abbrev pub noEnvelope : ℕ → Envelope
-noEnvelope limit = record { figures = figuresOf 0 (padded channelLimit []) noBall 0; weights = replicate limit 0 }
+noEnvelope limit = record { figures = figuresOf 0 (padded channelLimit []) emptyBall 0; weights = replicate limit 0 }
 
 abbrev pub notRead : ℕ → Outcome → EnvelopeRead
 notRead limit o = record { outcome = o; envelope = noEnvelope limit }

@@ -74,15 +74,15 @@ one-move-requires : tie.Need-one-move-requires Inv-loop μ-loop
 one-move-requires c κs =
     let turn = c .before in
     let here = head turn .loop .inv in
-    can-move (entry turn .pre) here (goes turn) (omega (arith, here .paired)) (omega (arith, here .paired)) (c .transfer-of .ensures)
+    can-move (entry turn .pre) here (goes turn) (c .transfer-of .ensures) (omega (arith, here .paired)) (omega (arith, here .paired))
 
 shift-centre-requires : tie.Need-shift-centre-requires Inv-loop μ-loop
 shift-centre-requires c κs =
     let turn = c .before .before in
     let table = entry turn .pre in
     let here = head turn .loop .inv in
-    let t-most = transfer-most table here (goes turn) (here .paired .near-within) (here .paired .far-within) (c .before .transfer-of .ensures) in
-    (table-row table _ (here .paired .near-within), (table-row table _ (here .paired .far-within), (centre-good table here, t-most)))
+    let t-most = transfer-most table here (goes turn) (c .before .transfer-of .ensures) (omega (arith, here .paired)) in
+    (table-row table _ (omega (arith, here .paired)), (table-row table _ (omega (arith, here .paired)), (centre-good table here, t-most)))
 
 slice-aggregate-pair-of-3 : tie.Need-slice-aggregate-pair-of-3 Inv-loop μ-loop
 slice-aggregate-pair-of-3 c = search needs
@@ -97,10 +97,13 @@ pair-of-requires-2 c κs =
     let here = head turn .loop .inv in
     let stepped = c .before .before .before .before .transfer-of .ensures in
     let move = c .before .before .before .one-move .ensures in
-    let shift = c .before .before .shift-centre .ensures in
-    let near = here .paired .near-within in
-    let far = here .paired .far-within in
-    (table, (moved-good table here (goes turn) near far stepped move, shifted-is table here (goes turn) near far stepped move shift))
+    let shift = c .before .before .shift-centre .ensures in (
+      table,
+      (
+        moved-good table here (goes turn) stepped (omega (arith, here .paired)) _ move (omega (arith, here .paired)),
+        shifted-is table here (goes turn) stepped (omega (arith, here .paired)) _ move (omega (arith, here .paired)) shift,
+      ),
+    )
 
 add-moves : tie.Need-add-moves Inv-loop μ-loop
 add-moves c =
@@ -119,7 +122,7 @@ loop-again c =
     let move = c .before .before .before .before .one-move .ensures in
     let shift = c .before .before .before .shift-centre .ensures in
     let here = head turn .loop .inv in
-    again (entry turn .pre) here (goes turn) (here .paired .near-within) (here .paired .far-within) stepped move shift refl refl (c .pair-of2 .ensures)
+    again (entry turn .pre) here (goes turn) stepped (omega (arith, here .paired)) _ move (omega (arith, here .paired)) shift refl refl (c .pair-of2 .ensures)
 
 returns : tie.Need-returns Inv-loop μ-loop
 returns c = ends (c .before .before .before .before .before .before .before .before .before .pre) (c .before .before .loop .inv) (c .before .goes-on .ensures) (c .if1 .left)
