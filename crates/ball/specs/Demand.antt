@@ -11,9 +11,9 @@
 --     checking-accepts, checking-accepted    the check accepts exactly where the limits hold, the list has m places and the sum is D
 --     checking-tight                         demand 3 holds of all weights that the check accepts
 --     draw-promise, check-promise            the definition's answer keeps what the two calls promise
-use Prim.Native.Nat.{ℕ, zero, suc, _+_, _*_, _≤_, _<_, zero-le}
+use Prim.Native.Nat.{ℕ, suc, _+_, _*_, _≤_, _<_, zero-le}
 use mathlib.Core.Path.{_≡_, refl, sym, _∙_, ap, subst}
-use mathlib.Core.Bool.{Bool, true, false, _&&_}
+use mathlib.Core.Bool.{true, false, _&&_}
 use mathlib.Core.List.{List}
 use native.Mathlib.Omega.{arith}
 use native.Mathlib.Nat.{le-trans, le-of-eq, mul-le-mul-right, mul-assoc}

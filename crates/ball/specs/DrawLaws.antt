@@ -7,8 +7,8 @@
 --     each-answer                                    what holds of each answer of a call with two tests
 --     drawing-limits, -budget, -drawn                the three answers of a drawing
 --     checking-limits, -places, -sum, -checked       the four answers of a check
-use Prim.Native.Nat.{ℕ, zero, suc, _+_, _-_, _≤_, _<_}
-use mathlib.Core.Path.{_≡_, refl, sym, _∙_, ap, subst}
+use Prim.Native.Nat.{ℕ, _+_, _≤_, _<_}
+use mathlib.Core.Path.{_≡_, refl, _∙_, ap}
 use mathlib.Core.Bool.{Bool, true, false, _&&_}
 use mathlib.Core.List.{List}
 use mathlib.Core.Logic.{_⊎_, inl, inr}

@@ -1,7 +1,7 @@
 -- What the two passes share.
 --     found     the row that a pass has at its end, with its s, which is within its limit
 use Prim.Native.Nat.{ℕ, _≤_}
-use mathlib.Core.Path.{_≡_, sym, subst}
+use mathlib.Core.Path.{sym, subst}
 use mathlib.Core.List.{List}
 use lib.IntN.{ℤ}
 use Rattle.geometry.specs.Contracts.{CentreWithin, Table}
