@@ -1,9 +1,10 @@
--- `figures::bound::lower_bound` meets its contract: X is within its limit, and its squared length is at most D times the weighted
+-- `figures::bound::scaled_lower_bound` meets its contract: X is within its limit, and its squared length is at most D times the weighted
 -- squared length, so that the difference does not wrap.
 use borrow.Author.Needs.{needs}
 use mathlib.Core.Path.{_≡_, ap₂, _∙_}
 use mathlib.Core.List.{List}
 use Prim.Native.Nat.{ℕ, _*_, _-_, _≤_}
+use native.Mathlib.Nat.{le-refl}
 use native.Mathlib.Omega.{arith}
 use lib.IntN.{ℤ}
 use Rattle.geometry.specs.Figures.{squaredLength, scaledCentre, weightedSquaredLength, scaledLowerBound}
@@ -13,15 +14,18 @@ use Rattle.geometry.specs.Table.{coordinate}
 use Rattle.limits.specs.Limits.{total}
 use Rattle.geometry.specs.Places.{centreList, centreOf, weightsTotal}
 use Rattle.geometry.specs.PlacesLaws.{centreList-at}
+use Rattle.geometry.specs.TableLaws.{weights-within}
 use Rattle.geometry.specs.Contracts.{Table, WeightsOf}
-use Rattle.figures.proofs.bound.lower_bound.Statement.{statement}
-use Rattle.figures.proofs.bound.lower_bound.Tie as tie
+use Rattle.figures.proofs.bound.scaled_lower_bound.Statement.{statement}
+use Rattle.figures.proofs.bound.scaled_lower_bound.Tie as tie
 
 cast-first : tie.Need-cast-first
 cast-first c = search needs
 
 weighted-squared-length-requires : tie.Need-weighted-squared-length-requires
-weighted-squared-length-requires c κs = search needs
+weighted-squared-length-requires c κs =
+    let p = c .before .pre in
+    (p .0, weights-within (le-refl total) (p .1 .0))
 
 mul-first : tie.Need-mul-first
 mul-first c = search needs
@@ -29,10 +33,10 @@ mul-first c = search needs
 squared-length-of-centre-requires : tie.Need-squared-length-of-centre-requires
 squared-length-of-centre-requires c κs =
     let p = c .before .before .pre in
-    (rw (p .1 .1) (centre-within (p .0) (p .1 .0)), omega arith)
+    (rw (p .1 .1) (centre-within (p .0) (weights-within (le-refl total) (p .1 .0))), omega arith)
 
 -- the squared length of the list is that of X, and at most what it is subtracted from; y and z stand for the two results
-module _ {rows : List ℤ} {m n : ℕ} {w : List ℕ} {x : List ℤ} (t : Table rows m n) (g : WeightsOf m w)
+module _ {rows : List ℤ} {m n : ℕ} {w : List ℕ} {x : List ℤ} (t : Table rows m n) (g : WeightsOf total m w)
     (e : x ≡ centreList n (scaledCentre (coordinate rows n) (weightOf w) m)) where
   length-is : squaredLength n (centreOf x) ≡ squaredLength n (scaledCentre (coordinate rows n) (weightOf w) m)
   length-is = rw e (squaredLength-cong n (λ k l. centreList-at n (scaledCentre (coordinate rows n) (weightOf w) m) k (t .channels) l))
@@ -57,8 +61,8 @@ returns c =
     let p = c .before .before .before .pre in
     bound-is (p .0) (p .1 .0) (p .1 .1) (c .before .weighted-squared-length .ensures .is) (c .squared-length-of-centre .ensures .is)
 
-pub lower-bound-spec : {M : Type 1} → statement M
-lower-bound-spec =
+pub scaled-lower-bound-spec : {M : Type 1} → statement M
+scaled-lower-bound-spec =
     tie.close
     (tie.spec
     cast-first
