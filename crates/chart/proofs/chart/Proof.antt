@@ -84,7 +84,8 @@ slice-aggregate-centre-fraction c = search needs
 centre-fraction-requires : tie.Need-centre-fraction-requires
 centre-fraction-requires c κs =
     let past = c .before .before .before in
-    (within-centre (within past), known past .0)
+    let (h, v) = known past in
+    (within-centre (within past), (omega (arith, h, v), omega (arith, h, v)))
 
 slice-aggregate-centre-fraction-2 : tie.Need-slice-aggregate-centre-fraction-2
 slice-aggregate-centre-fraction-2 c = search needs
@@ -92,10 +93,13 @@ slice-aggregate-centre-fraction-2 c = search needs
 centre-fraction-requires-2 : tie.Need-centre-fraction-requires-2
 centre-fraction-requires-2 c κs =
     let past = c .before .before .before .before .before in
-    (within-centre (within past), known past .1)
+    let (h, v) = known past in
+    (within-centre (within past), (omega (arith, h, v), omega (arith, h, v)))
 
 mark-of-requires : tie.Need-mark-of-requires
-mark-of-requires c κs = within (c .before .before .before .before .before .before) .radius-limit
+mark-of-requires c κs =
+    let limits = within (c .before .before .before .before .before .before) in
+    omega (arith, limits .radius-limit, limits .floor-limit)
 
 returns-4 : tie.Need-returns-4
 returns-4 c =
