@@ -34,6 +34,7 @@ use Rattle.ball.specs.Demand.{drawing-accepts, drawing-tight, checking-tight}
 use Rattle.ball.specs.declared.Ball.{Ball}
 use Rattle.text.specs.Parts.{textWithin}
 use Rattle.label.specs.Label.{isLabel}
+use Rattle.label.specs.RowLabelLaws.{row-label}
 use Rattle.channel.specs.Channel.{Types, codesKnown}
 use Rattle.channel.specs.ChannelLaws.{SoundTypes}
 use Rattle.value.specs.Value.{Written, number, reads}
@@ -189,7 +190,7 @@ module _ (D : ℕ) (positive : 0 < D) (limit : ℕ) (types : Types) (types-sound
         let in-ranges =
         ap (λ (c : List ℕ). valuesInRange types c (row .values)) taken ∙ range-in types codes (row .values) (right .each-in-range) in
         ap (λ (c : List ℕ). judged D types (figuresOf n held ball moves) (printReading (ownReading types c (row .label) (row .values)))) (sym taken)
-        ∙ tight-row-quiet D types types-sound n held (row .label) (right .labelled) (row .values)
+        ∙ tight-row-quiet D types types-sound n held (row .label) (row-label (row .label) (right .labelled)) (row .values)
         (right .complete) in-ranges ball moves within m (coordinate table n) t i l (λ j k. row-at i j l k)
 
     pub reference-drawn-quiet : (b : ℕ) → b ≤ budgetLimit
