@@ -45,7 +45,11 @@ fn plain_value(number: Plain, range: Range) -> Value
             }
             let size = magnitude as i32;
             let whole = if negative { -size } else { size };
-            if in_range(whole, range) { Value::Reads(whole) } else { Value::OutOfRange }
+            if in_range(whole, range) {
+                Value::Reads(whole)
+            } else {
+                Value::OutOfRange
+            }
         }
     }
 }
