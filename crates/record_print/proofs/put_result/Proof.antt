@@ -9,7 +9,7 @@ use lib.IntN.{pos}
 use lib.ListN.{length, length-set}
 use borrow.Author.Needs.{needs}
 use Rattle.text.specs.Parts.{comma}
-use Rattle.number.specs.UnsignedLaws.{Below, held-below}
+use Rattle.printing.specs.UnsignedLaws.{Below, held-below}
 use Rattle.record_form.specs.Lines.{letterOf, printResult}
 use Rattle.record_print.specs.PrintedLaws.{letter-length, result-below}
 use Rattle.record_print.proofs.PrintSteps.{Line, numbers-put, result-put}
