@@ -22,7 +22,7 @@ use Rattle.text.specs.Parts.{comma, lineEnd}
 use Rattle.text.specs.Lines.{printLines}
 use Rattle.printing.specs.Contracts.{numbersAfter, printNumbers, Put}
 use Rattle.printing.specs.ContractLaws.{put-none, put-byte, put-then, put-as, put-ended}
-use Rattle.number.specs.UnsignedLaws.{Below, below-none, below-more, held-signed}
+use Rattle.printing.specs.UnsignedLaws.{Below, below-none, below-more, held-signed}
 use Rattle.channel.specs.Channel.{channelTypes}
 use Rattle.channel.specs.ContractLaws.{house-short}
 use Rattle.heading.specs.Heading.{printHeading}

@@ -27,7 +27,7 @@ use Rattle.number.specs.Number.{print}
 use Rattle.number.specs.NumberLaws.{magnitude-short}
 use Rattle.printing.specs.Contracts.{numbersAfter}
 use Rattle.printing.specs.ContractLaws.{numbers-short}
-use Rattle.number.specs.UnsignedLaws.{Below, below-none, below-more}
+use Rattle.printing.specs.UnsignedLaws.{Below, below-none, below-more}
 use Rattle.channel.specs.Channel.{Types}
 use Rattle.channel.specs.ContractLaws.{ShortTags}
 use Rattle.heading.specs.Heading.{printHeading}

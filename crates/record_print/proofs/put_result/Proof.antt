@@ -8,7 +8,7 @@ use native.Mathlib.Omega.{arith}
 use lib.ListN.{length, length-set}
 use borrow.Author.Needs.{needs}
 use Rattle.text.specs.Parts.{comma}
-use Rattle.number.specs.UnsignedLaws.{Below, held-below}
+use Rattle.printing.specs.UnsignedLaws.{Below, held-below}
 use Rattle.record_lines.specs.Lines.{letterOf, printResult}
 use Rattle.record_print.specs.Printed.{resultFor}
 use Rattle.record_print.specs.PrintedLaws.{letter-length, result-below}

@@ -2,7 +2,7 @@
 use mathlib.Core.List.{[], _∷_}
 use native.Mathlib.Omega.{arith}
 use borrow.Author.Needs.{needs}
-use Rattle.number.specs.UnsignedLaws.{held-below}
+use Rattle.printing.specs.UnsignedLaws.{held-below}
 use Rattle.record_print.proofs.PrintSteps.{weight-below, weight-put}
 use Rattle.record_print.proofs.put_weight.Statement.{statement}
 use Rattle.record_print.proofs.put_weight.Tie as tie
