@@ -1,6 +1,6 @@
 -- The word and n are printed as a word and a number. The loop's invariant: after them stand the tags of the first i codes, each after a
 -- comma and in its room. The measure is how many codes are left.
-use Prim.Native.Nat.{ℕ, _+_, _-_, _*_, _^_, _≤_, _<_}
+use Prim.Native.Nat.{ℕ, _+_, _-_, _^_, _≤_, _<_}
 use mathlib.Core.Path.{_≡_, refl, sym, ap, ap₂, _∙_}
 use mathlib.Core.List.{List, [], _∷_, _++_}
 use native.Mathlib.Omega.{arith}
