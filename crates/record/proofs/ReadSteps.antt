@@ -31,7 +31,7 @@ use Rattle.ball.specs.declared.Ball.{Ball}
 use Rattle.text.specs.Parts.{same}
 use Rattle.channel.specs.Channel.{Types}
 use Rattle.channel.specs.ChannelLaws.{SoundTypes}
-use Rattle.envelope.specs.Figures.{figuresOf}
+use Rattle.envelope.specs.Figures.{figuresOf, envelopeOf}
 use Rattle.envelope.specs.Agreement.{agrees}
 use Rattle.envelope.specs.declared.Figures.{Figures}
 use Rattle.envelope.specs.declared.Envelope.{Envelope}
@@ -40,7 +40,7 @@ use Rattle.record_form.specs.RecordLaws.{form-printed, form-faults}
 use Rattle.record_form.specs.Contracts.{statedForm}
 use Rattle.record_form.specs.declared.form.Stated.{Stated}
 use Rattle.record.specs.declared.EnvelopeRead.{EnvelopeRead}
-use Rattle.record.specs.Made.{filledBall, envelopeOf}
+use Rattle.ball.specs.Ball.{filledBall}
 use Rattle.record.specs.Contracts.{notRead, statedBall, formAnswer, ballAnswer, statedAnswer}
 use Rattle.record.specs.HeldLaws.{Holding, held-answer}
 

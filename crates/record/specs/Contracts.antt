@@ -30,7 +30,7 @@ use Rattle.geometry.specs.Places.{centreList, centreOf}
 use Rattle.ball.specs.declared.Ball.{Ball}
 use Rattle.text.specs.Parts.{textWithin, same}
 use Rattle.channel.specs.Channel.{Types, codesKnown}
-use Rattle.envelope.specs.Figures.{figuresKnown, figuresOf}
+use Rattle.envelope.specs.Figures.{figuresKnown, figuresOf, envelopeOf, emptyEnvelope}
 use Rattle.envelope.specs.Agreement.{agrees}
 use Rattle.envelope.specs.declared.Envelope.{Envelope}
 use Rattle.record_form.specs.Record.{Record, Form, faulty, sound, form}
@@ -38,7 +38,7 @@ use Rattle.record_form.specs.Weights.{weightsOf}
 use Rattle.record_form.specs.declared.form.Stated.{Stated}
 use Rattle.record_print.specs.Printed.{recordText}
 use Rattle.lent.specs.Contracts.{notWritten, textWritten}
-use Rattle.record.specs.Made.{filledBall, envelopeOf, emptyEnvelope}
+use Rattle.ball.specs.Ball.{filledBall}
 use Rattle.record.specs.declared.EnvelopeRead.{EnvelopeRead}
 use Rattle.lent.specs.declared.TextWritten.{TextWritten}
 

@@ -22,7 +22,7 @@ use Rattle.geometry.specs.PlacesLaws.{centreList-at, centreList-cong}
 use Rattle.ball.specs.declared.Ball.{Ball}
 use Rattle.text.specs.Parts.{same}
 use Rattle.text.specs.PartsLaws.{same-eq}
-use Rattle.envelope.specs.Figures.{figuresOf}
+use Rattle.envelope.specs.Figures.{figuresOf, envelopeOf}
 use Rattle.envelope.specs.Agreement.{agrees}
 use Rattle.envelope.specs.AgreementLaws.{agrees-agreed, agreed-tight, agreed-weight}
 use Rattle.record_lines.specs.Lines.{Weight}
@@ -32,7 +32,7 @@ use Rattle.record_lines.specs.Contracts.{heldLimit, heldWeightLimit, held, held
 use Rattle.record_lines.specs.ContractLaws.{held-size, held-same, held-negative}
 use Rattle.record_form.specs.Contracts.{heldWeights, heldRecord, statedRecord}
 use Rattle.record.specs.declared.EnvelopeRead.{EnvelopeRead}
-use Rattle.record.specs.Made.{filledBall, envelopeOf}
+use Rattle.ball.specs.Ball.{filledBall}
 use Rattle.record.specs.Contracts.{notRead, statedBall, agreedRecord, formAnswer, ballAnswer, statedAnswer}
 
 -- ---- numbers

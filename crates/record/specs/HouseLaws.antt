@@ -25,7 +25,7 @@ use Rattle.limits.specs.Limits.{total, rowLimit, channelLimit, textLimit, rowDi
 use Rattle.geometry.specs.TableLaws.{within-limits}
 use Rattle.ball.specs.Draw.{drawing}
 use Rattle.ball.specs.DrawnWeights.{drawing-length}
-use Rattle.number.specs.UnsignedLaws.{Below}
+use Rattle.printing.specs.UnsignedLaws.{Below}
 use Rattle.channel.specs.Channel.{channelTypes, codesKnown}
 use Rattle.channel.specs.ChannelLaws.{house-sound}
 use Rattle.channel.specs.ContractLaws.{house-short}

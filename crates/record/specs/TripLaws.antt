@@ -51,7 +51,7 @@ use Rattle.record_form.specs.RecordLaws.{form-printed, printed-form, printed-co
 use Rattle.record_form.specs.Weights.{weightsOf, listed}
 use Rattle.record_form.specs.WeightsLaws.{ShortWeight, placed-listed, listed-placed, listed-within, listed-some}
 use Rattle.record_print.specs.Printed.{recordOf, recordText}
-use Rattle.record.specs.Made.{filledBall}
+use Rattle.ball.specs.Ball.{filledBall}
 use Rattle.record.specs.Contracts.{statedBall, ballOfRecord, statedEnvelope, givenWithin, recordRead, recordWritten}
 use Rattle.lent.specs.Contracts.{notWritten, written}
 use Rattle.record.specs.declared.EnvelopeRead.{EnvelopeRead}

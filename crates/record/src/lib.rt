@@ -8,19 +8,16 @@ ghost use Rattle.lent.specs.Filled.{filled};
 ghost use Rattle.channel.specs.Channel.{channelTypes};
 ghost use Rattle.record_print.specs.Printed.{recordText};
 ghost use Rattle.record.specs.Contracts.{notRead, givenWithin, Agreeing, statedAnswer, recordRead, recordWritten};
-
-mod made;
-
-use crate::made::empty_envelope;
-use crate::made::filled_ball;
-use crate::made::filled_envelope;
-use crate::made::filled_figures;
+use ball::filled_ball;
 use channel::Code;
 use channel::codes_known;
 use channel::same_codes;
 use envelope::Envelope;
 use envelope::agreement::agrees;
+use envelope::empty_envelope;
 use envelope::figures_known;
+use envelope::filled_envelope;
+use envelope::filled_figures;
 use figures::table::rows_within;
 use lent::TextWritten;
 use lent::hand_out;

@@ -16,7 +16,8 @@ use Rattle.text.specs.Lines.{printLines}
 use Rattle.envelope.specs.declared.Figures.{Figures}
 use Rattle.record_lines.specs.Lines.{recordWord, centreWord, resultWord, weightWord, printWeight}
 use Rattle.record_form.specs.Weights.{listed}
-use Rattle.record_print.specs.Printed.{unsignedMost, signedMost, headingMost}
+use Rattle.record_print.specs.Printed.{unsignedMost, signedMost}
+use Rattle.heading.specs.Contracts.{headingMost}
 
 unfoldable pub weightLines : List ℕ → List ℕ
 weightLines weights = printLines (map printWeight (listed 1 weights))

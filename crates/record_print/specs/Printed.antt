@@ -3,7 +3,6 @@
 --     recordOf figures weights               what the record of an envelope states
 --     recordText types e                     its text
 --     unsignedMost digits, signedMost ..     the bytes of a comma and a number of so many digits, with no hyphen or with one
---     headingMost word n                     the most bytes of a heading of n channels, without its byte 10
 --     centreMost digits n                    of a `C` line of n numbers of so many digits
 --     resultMost distance made               of an `R` line, M and L having so many digits and the moves so many
 --     weightMost row weight                  of a `W` line, its numbers having so many digits
@@ -13,8 +12,9 @@ use mathlib.Core.Bool.{Bool}
 use mathlib.Core.List.{List}
 use lib.IntN.{pos}
 use lib.ListN.{length, take}
-use Rattle.limits.specs.Limits.{channelLimit, tagLimit, channelDigits, rowDigits, weightDigits, centreDigits, distanceDigits, movesDigits}
+use Rattle.limits.specs.Limits.{channelLimit, rowDigits, weightDigits, centreDigits, distanceDigits, movesDigits}
 use Rattle.channel.specs.Channel.{Types}
+use Rattle.heading.specs.Contracts.{headingMost}
 use Rattle.envelope.specs.Figures.{channelCodes}
 use Rattle.envelope.specs.declared.Figures.{Figures}
 use Rattle.envelope.specs.declared.Envelope.{Envelope}
@@ -45,10 +45,6 @@ unsignedMost digits = digits + 1
 
 abbrev pub signedMost : ℕ → ℕ
 signedMost digits = digits + 2
-
--- the word, n, and a tag after a comma for each channel
-abbrev pub headingMost : List ℕ → ℕ → ℕ
-headingMost word n = length word + unsignedMost channelDigits + unsignedMost tagLimit * n
 
 abbrev pub centreMost : ℕ → ℕ → ℕ
 centreMost digits n = length centreWord + signedMost digits * n

@@ -37,7 +37,8 @@ use Rattle.envelope.specs.declared.Figures.{Figures}
 use Rattle.record_lines.specs.Lines.{recordWord, centreWord, resultWord, weightWord, letterOf, printCentre, printResult, printWeight}
 use Rattle.record_form.specs.Record.{Record, printRecord}
 use Rattle.record_form.specs.Weights.{listed}
-use Rattle.record_print.specs.Printed.{resultFor, recordOf, unsignedMost, signedMost, headingMost, centreMost, resultMost, weightMost}
+use Rattle.record_print.specs.Printed.{resultFor, recordOf, unsignedMost, signedMost, centreMost, resultMost, weightMost}
+use Rattle.heading.specs.Contracts.{headingMost}
 use Rattle.record_print.specs.Contracts.{lineRoom, resultRoom, centreStart, recordRoom, Printing}
 
 -- ---- the lines, for numbers of so many digits

@@ -7,7 +7,7 @@ use borrow.Author.Needs.{needs}
 use lib.IntN.{pos}
 use Rattle.integers.specs.Absolute.{fits64}
 use Rattle.printing.specs.ContractLaws.{put-as}
-use Rattle.number.specs.UnsignedLaws.{held-below}
+use Rattle.printing.specs.UnsignedLaws.{held-below}
 use Rattle.reading.specs.Verdict.{verdictExcess}
 use Rattle.program_lines.specs.Lines.{printVerdict}
 use Rattle.program_lines.proofs.LineSteps.{one-below, alarm-put}
