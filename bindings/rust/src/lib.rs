@@ -149,7 +149,7 @@
 //!
 //! # Building
 //!
-//! The package links `target/staticlib/liblibrary.a` of the repository, which `rt staticlib library`
+//! The package links `target/staticlib/libcundarivo.a` of the repository, which `rt staticlib cundarivo`
 //! writes, for x86-64.
 
 mod chart;

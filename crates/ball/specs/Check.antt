@@ -14,11 +14,11 @@ use Rattle.refusal.specs.declared.Outcome.the-variants.{Accepted}
 use Rattle.geometry.specs.Move.{weightOf}
 use Rattle.geometry.specs.Table.{rowsWithin, coordinate}
 use Rattle.geometry.specs.Places.{weightsTotal}
-use Rattle.ball.specs.Ball.{ballOf, noBall}
+use Rattle.ball.specs.Ball.{ballOf, emptyBall}
 use Rattle.ball.specs.declared.Checked.{Checked}
 
 abbrev pub notChecked : Outcome → Checked
-notChecked o = record { outcome = o; ball = noBall }
+notChecked o = record { outcome = o; ball = emptyBall }
 
 -- 8 (a list that is not of m places included), then 12 for a sum other than D, then the figures
 unfoldable pub checking : ℕ → ℕ → List ℤ → ℕ → ℕ → List ℕ → Checked

@@ -1,7 +1,7 @@
 -- What the two public calls promise, and what the run of moves below them gives.
 --     Tight D m n a b           what demand 3 of document 01 says of the figures b, with the limits that they keep
 --     DrawPromise, CheckPromise the definition's answer, and demand 3 where it is accepted
---     Ran                       the weights at the end of a run, the X carried beside them, the moves made, and the pair that ended it
+--     Ran D limit ..            the weights at the end of a run, the X carried beside them, the moves made, and the pair that ended it
 use Prim.Native.Nat.{ℕ, _*_, _+_, _-_, _≤_, _<_}
 use mathlib.Core.Path.{_≡_}
 use mathlib.Core.Bool.{true, false}
@@ -54,9 +54,9 @@ pub record CheckPromise (rows : List ℤ) (m n : ℕ) (ws : List ℕ) (r : Check
   pub tight : r .outcome ≡ Accepted → Tight total m n (coordinate rows n) (r .ball)
 
 -- the weights at the end of a run, the X carried beside them, the moves made, and the pair that ended it
-pub record Ran (rows : List ℤ) (m n budget : ℕ) (r : Ended) : Type 0 where
-  pub weights-are : r .weights ≡ runFrom total m n (coordinate rows n) budget 0 (start rowLimit total) .weights
-  pub moves-are : r .moves ≡ runFrom total m n (coordinate rows n) budget 0 (start rowLimit total) .moves
-  pub centre-is : IsCentre rows m n (r .weights) (r .centre)
-  pub weights-good : WeightsOf m (r .weights)
-  pub paired : Paired rows m n (r .weights) (r .pair)
+pub record Ran (D limit : ℕ) (rows : List ℤ) (m n budget : ℕ) (r : Ended) : Type 0 where
+  pub weights-are : r .weights ≡ runFrom D m n (coordinate rows n) budget 0 (start limit D) .weights
+  pub moves-are : r .moves ≡ runFrom D m n (coordinate rows n) budget 0 (start limit D) .moves
+  pub centre-is : IsCentre rows m n (r .weights) (r .«scaled_centre»)
+  pub weights-good : WeightsOf D m (r .weights)
+  pub paired : Paired D rows m n (r .weights) (r .pair)

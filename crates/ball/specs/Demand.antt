@@ -1,6 +1,5 @@
 -- Demand 3 of document 01, of what the two calls answer, for any total D above 0 and any row limit.
 --     ball-tight                             it holds of the figures of any weights of sum D
---     run-keeps                              what a move keeps, a run keeps
 --     Kept, run-kept                         a run keeps the sum of the weights, and L rises by at least 1 with each move
 --     drawing-accepts, drawing-accepted      a drawing is accepted exactly where the limits hold and the budget is within its own
 --     drawing-zero, checking-zero            only an accepted drawing or check has the number 0
@@ -12,9 +11,9 @@
 --     checking-accepts, checking-accepted    the check accepts exactly where the limits hold, the list has m places and the sum is D
 --     checking-tight                         demand 3 holds of all weights that the check accepts
 --     draw-promise, check-promise            the definition's answer keeps what the two calls promise
-use Prim.Native.Nat.{ℕ, zero, suc, _+_, _*_, _≤_, _<_, zero-le}
+use Prim.Native.Nat.{ℕ, suc, _+_, _*_, _≤_, _<_, zero-le}
 use mathlib.Core.Path.{_≡_, refl, sym, _∙_, ap, subst}
-use mathlib.Core.Bool.{Bool, true, false, _&&_}
+use mathlib.Core.Bool.{true, false, _&&_}
 use mathlib.Core.List.{List}
 use native.Mathlib.Omega.{arith}
 use native.Mathlib.Nat.{le-trans, le-of-eq, mul-le-mul-right, mul-assoc}
@@ -37,10 +36,11 @@ use Rattle.geometry.specs.FigureLaws.{squaredLength-cong, distance-centreList, 
 use Rattle.geometry.specs.MoveLaws.{moved-length, moved-total, lower-bound-rises, rise-some}
 use Rattle.geometry.specs.Demand.{rival, holds-every-row, reaches-some-row, floor-below-ball, settled-gap, ball-most}
 use Rattle.ball.specs.Ball.{ballOf}
-use Rattle.ball.specs.Draw.{Run, run, start, runFrom, drawn, drawing}
+use Rattle.ball.specs.Draw.{start, runFrom, drawn, drawing}
 use Rattle.ball.specs.Check.{checking}
 use Rattle.ball.specs.Contracts.{Tight, DrawPromise, CheckPromise}
-use Rattle.ball.specs.DrawLaws.{runFrom-spent, run-zero, run-stop, run-step, start-length, start-total, each-answer, drawing-drawn, checking-checked}
+use Rattle.ball.specs.RunLaws.{run-keeps}
+use Rattle.ball.specs.DrawLaws.{runFrom-spent, start-length, start-total, each-answer, drawing-drawn, checking-checked}
 use Rattle.ball.specs.declared.Drawing.{Drawing}
 use Rattle.ball.specs.declared.Checked.{Checked}
 
@@ -77,17 +77,6 @@ module _ (D m n : ℕ) (a : ℕ → ℕ → ℤ) (w : ℕ → ℕ) (positive : 0
       }
 
 -- ---- runs
-
-module _ (stop : List ℕ → Bool) (next : List ℕ → List ℕ) (P : ℕ → List ℕ → Type 0)
-    (step : (k : ℕ) (ws : List ℕ) → stop ws ≡ false → P k ws → P (suc k) (next ws)) where
-  pub run-keeps : (b made : ℕ) (ws : List ℕ) → P made ws → P (run stop next b made ws .moves) (run stop next b made ws .weights)
-  run-keeps zero made ws p = subst (λ (r : Run). P (r .moves) (r .weights)) (sym (run-zero stop next made ws)) p
-  run-keeps (suc b) made ws p = go (stop ws) refl (run-keeps b (suc made) (next ws))
-    where
-      go : (s : Bool) → stop ws ≡ s → (P (suc made) (next ws) → P (run stop next b (suc made) (next ws) .moves) (run stop next b (suc made) (next ws) .weights))
-          → P (run stop next (suc b) made ws .moves) (run stop next (suc b) made ws .weights)
-      go true e rest = subst (λ (r : Run). P (r .moves) (r .weights)) (sym (run-stop stop next made ws (suc b) e)) p
-      go false e rest = subst (λ (r : Run). P (r .moves) (r .weights)) (sym (run-step stop next made ws b e)) (rest (step made ws e p))
 
 -- what holds after k moves: the list's places, the sum of the weights, and k at most L
 pub record Kept (D m n : ℕ) (a : ℕ → ℕ → ℤ) (k : ℕ) (ws : List ℕ) : Type 0 where

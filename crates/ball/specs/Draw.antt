@@ -17,7 +17,7 @@ use Rattle.refusal.specs.declared.Outcome.the-variants.{Accepted}
 use Rattle.geometry.specs.Move.{settled, moved, weightOf}
 use Rattle.geometry.specs.Table.{rowsWithin, coordinate}
 use Rattle.limits.specs.Limits.{budgetLimit}
-use Rattle.ball.specs.Ball.{ballOf, noBall}
+use Rattle.ball.specs.Ball.{ballOf, emptyBall}
 use Rattle.ball.specs.declared.Drawing.{Drawing}
 
 -- the weights at the end of a run and the moves made
@@ -46,7 +46,7 @@ drawn D m n a r =
 
 -- a refusal: every figure and weight 0
 abbrev pub notDrawn : ℕ → Outcome → Drawing
-notDrawn limit o = record { outcome = o; ball = noBall; weights = replicate limit 0; moves = 0 }
+notDrawn limit o = record { outcome = o; ball = emptyBall; weights = replicate limit 0; moves = 0 }
 
 -- 8, then 9, then the drawing
 unfoldable pub drawing : ℕ → ℕ → List ℤ → ℕ → ℕ → ℕ → Drawing

@@ -1,16 +1,14 @@
 -- Laws of the drawing and the check.
---     run-zero, run-stop, run-step                   a run with no move left, from weights that stop it, and from others
---     run-spent, runFrom-spent                       the moves of a run are at most its budget, and all of it where nothing stopped it
+--     runFrom-spent                                  the moves are at most the budget, and all of it where the weights are not Settled
 --     goes-on, stops                                 the test for another move
 --     is-settled, not-settled                        whether the weights of a list are Settled
---     runFrom-end, runFrom-move                      the moves of document 01 where no other move is made, and where one is
 --     start-length, start-total, start-rest          the places of the first weights, their sum, and those past the first row
 --     weightsTotal-zero, weightsTotal-next           the sum of the first weights, one more at a time
 --     each-answer                                    what holds of each answer of a call with two tests
 --     drawing-limits, -budget, -drawn                the three answers of a drawing
 --     checking-limits, -places, -sum, -checked       the four answers of a check
-use Prim.Native.Nat.{ℕ, zero, suc, _+_, _-_, _≤_, _<_}
-use mathlib.Core.Path.{_≡_, refl, sym, _∙_, ap, subst}
+use Prim.Native.Nat.{ℕ, _+_, _≤_, _<_}
+use mathlib.Core.Path.{_≡_, refl, _∙_, ap}
 use mathlib.Core.Bool.{Bool, true, false, _&&_}
 use mathlib.Core.List.{List}
 use mathlib.Core.Logic.{_⊎_, inl, inr}
@@ -33,46 +31,9 @@ use Rattle.limits.specs.Limits.{budgetLimit}
 use Rattle.geometry.specs.Places.{weightsTotal}
 use Rattle.integers.specs.Tests.{both}
 use Rattle.ball.specs.Ball.{ballOf}
-use Rattle.ball.specs.Draw.{Run, run, start, runFrom, drawn, notDrawn, drawing}
+use Rattle.ball.specs.Draw.{start, runFrom, drawn, notDrawn, drawing}
 use Rattle.ball.specs.Check.{notChecked, checking}
-
--- ---- runs
-
--- a run that ends with these weights and this number of moves made
-abbrev pub ended : List ℕ → ℕ → Run
-ended ws made = record { weights = ws; moves = made }
-
-module _ (stop : List ℕ → Bool) (next : List ℕ → List ℕ) (made : ℕ) (ws : List ℕ) where
-  pub run-zero : run stop next 0 made ws ≡ ended ws made
-  unfolding run
-  run-zero = refl
-
-  pub run-stop : (b : ℕ) → stop ws ≡ true → run stop next b made ws ≡ ended ws made
-  unfolding run
-  run-stop zero h = refl
-  run-stop (suc b) h = rw (h, run)
-
-  pub run-step : (b : ℕ) → stop ws ≡ false → run stop next (suc b) made ws ≡ run stop next b (suc made) (next ws)
-  unfolding run
-  run-step b h = rw (h, run)
-
--- the moves of a run are at most its budget, and exactly that where no weights stopped it
-pub record Spent (stop : List ℕ → Bool) (made b : ℕ) (r : Run) : Type 0 where
-  pub most : r .moves ≤ made + b
-  pub all : stop (r .weights) ≡ false → r .moves ≡ made + b
-
-module _ (stop : List ℕ → Bool) (next : List ℕ → List ℕ) where
-  pub run-spent : (b made : ℕ) (ws : List ℕ) → Spent stop made b (run stop next b made ws)
-  run-spent zero made ws = subst (Spent stop made 0) (sym (run-zero stop next made ws)) record { most = omega arith; all = λ _. omega arith }
-  run-spent (suc b) made ws = go (stop ws) refl (run-spent b (suc made) (next ws))
-    where
-      go : (s : Bool) → stop ws ≡ s → Spent stop (suc made) b (run stop next b (suc made) (next ws)) → Spent stop made (suc b) (run stop next (suc b) made ws)
-      go true e rest =
-          subst (Spent stop made (suc b)) (sym (run-stop stop next made ws (suc b) e))
-          record { most = omega arith; all = λ f. (let z : _≡_ {A = ℕ} 0 1 = cc in absurd (omega arith)) }
-      go false e rest =
-          subst (Spent stop made (suc b)) (sym (run-step stop next made ws b e))
-          record { most = omega arith; all = λ f. omega (arith, rest .all f) }
+use Rattle.ball.specs.RunLaws.{Spent, run-spent}
 
 -- ---- the moves of document 01; another move is made where g is above d² and the budget is not used
 
@@ -106,21 +67,6 @@ module _ (D m n : ℕ) (a : ℕ → ℕ → ℤ) (ws : List ℕ) where
   pub not-settled : d < g → settled D m n a (weightOf ws) ≡ false
   unfolding settled
   not-settled h = lt-leb g d h
-
-  module _ (budget made : ℕ) where
-    pub runFrom-end : (g ≤ d) ⊎ (budget ≤ made) → runFrom D m n a (budget - made) made ws ≡ ended ws made
-    unfolding runFrom
-    runFrom-end (inl h) = run-stop _ _ made ws (budget - made) (is-settled h)
-    runFrom-end (inr h) = let none : budget - made ≡ 0 = omega arith in ap (λ b. runFrom D m n a b made ws) none ∙ run-zero _ _ made ws
-
-    pub runFrom-move : d < g → made < budget → runFrom D m n a (budget - made) made ws ≡ runFrom D m n a (budget - (made + 1)) (made + 1) (moved D m n a ws)
-    unfolding runFrom
-    runFrom-move h l =
-        let one-less : budget - made ≡ suc (budget - (made + 1)) = omega arith in
-        let one-more : suc made ≡ made + 1 = omega arith in
-        ap (λ b. runFrom D m n a b made ws) one-less ∙
-        run-step _ _ made ws (budget - (made + 1)) (not-settled h) ∙
-        ap (λ k. runFrom D m n a (budget - (made + 1)) k (moved D m n a ws)) one-more
 
 -- ---- the start
 

@@ -22,9 +22,10 @@ use Rattle.geometry.specs.MoveLaws.{near-within, far-within, moved-length, move
 use Rattle.ball.specs.Ball.{ballOf}
 use Rattle.ball.specs.Draw.{start, runFrom, drawing}
 use Rattle.ball.specs.Check.{checking}
+use Rattle.ball.specs.RunLaws.{run-keeps}
 use Rattle.ball.specs.DrawLaws.{start-length, start-rest, each-answer, checking-checked}
 use Rattle.geometry.specs.TableLaws.{within-limits}
-use Rattle.ball.specs.Demand.{run-keeps, drawing-accepted, drawing-is, drawing-total}
+use Rattle.ball.specs.Demand.{drawing-accepted, drawing-is, drawing-total}
 use Rattle.ball.specs.declared.Ball.{Ball}
 use Rattle.ball.specs.declared.Drawing.{Drawing}
 use Rattle.ball.specs.declared.Checked.{Checked}

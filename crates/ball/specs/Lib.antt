@@ -3,6 +3,7 @@ pub mod Ball
 pub mod Draw
 pub mod Check
 pub mod Contracts
+pub mod RunLaws
 pub mod DrawLaws
 pub mod Demand
 pub mod DrawnWeights

@@ -10,8 +10,8 @@ ghost use Rattle.ball.specs.Check.{notChecked, checking};
 ghost use Rattle.ball.specs.Contracts.{CheckPromise};
 use crate::Checked;
 use crate::ball_of;
-use crate::no_ball;
-use figures::centre::scaled_centre;
+use crate::empty_ball;
+use figures::centre;
 use figures::table::rows_within;
 use limits::TOTAL;
 use moves::step::pair_of;
@@ -34,7 +34,7 @@ fn weights_total(weights: &[u32], m: usize) -> u64
 fn not_checked(outcome: Outcome) -> Checked
     ensures { λ r. ⌜ r ≡ notChecked outcome ⌝ }
 {
-    let ball = no_ball();
+    let ball = empty_ball();
     Checked { outcome, ball }
 }
 
@@ -49,9 +49,9 @@ pub fn check_weights(rows: &[i32], m: usize, n: usize, weights: &[u32]) -> Check
     if weights_total(weights, m) != (TOTAL as u64) {
         return not_checked(refusal::refused_at(refusal::DISAGREEMENT, 0));
     }
-    let centre = scaled_centre(rows, m, n, weights);
-    let pair = pair_of(rows, m, n, weights, &centre);
-    let ball = ball_of(rows, m, n, weights, centre, pair);
+    let scaled_centre = centre::scaled_centre(rows, m, n, weights);
+    let pair = pair_of(rows, m, n, weights, &scaled_centre);
+    let ball = ball_of(rows, m, n, weights, scaled_centre, pair);
     Checked {
         outcome: Outcome::Accepted,
         ball,

@@ -10,8 +10,8 @@ ghost use Rattle.ball.specs.Contracts.{Ran, DrawPromise};
 use crate::Drawing;
 use crate::Ended;
 use crate::ball_of;
-use crate::no_ball;
-use figures::centre::scaled_centre;
+use crate::empty_ball;
+use figures::centre;
 use figures::table::rows_within;
 use limits::BUDGET_MOST;
 use limits::ROWS;
@@ -44,24 +44,24 @@ fn goes_on(difference: u64, separation: u64, moves: u32, budget: u32) -> bool
 // The moves. X is carried from move to move.
 fn run(rows: &[i32], m: usize, n: usize, budget: u32) -> Ended
     requires { ⌜ Table (now rows) m n ⌝ }
-    ensures { λ r. ⌜ Ran (now (rows .entry)) m n budget r ⌝ }
+    ensures { λ r. ⌜ Ran total rowLimit (now (rows .entry)) m n budget r ⌝ }
 {
     let mut weights = all_on_first();
-    let mut centre = scaled_centre(rows, m, n, &weights);
-    let mut pair = pair_of(rows, m, n, &weights, &centre);
+    let mut scaled_centre = centre::scaled_centre(rows, m, n, &weights);
+    let mut pair = pair_of(rows, m, n, &weights, &scaled_centre);
     let mut moves: u32 = 0;
     while goes_on(pair.difference, pair.separation, moves, budget) {
         let from = pair.near;
         let to = pair.far;
         let t = transfer_of(pair.difference, pair.separation, weights[from]);
-        weights = one_move(rows, m, n, pair, t, weights);
-        centre = shift_centre(centre, rows, n, from, to, t);
-        pair = pair_of(rows, m, n, &weights, &centre);
+        weights = one_move(weights, from, to, t);
+        scaled_centre = shift_centre(scaled_centre, rows, n, from, to, t);
+        pair = pair_of(rows, m, n, &weights, &scaled_centre);
         moves += 1;
     }
     Ended {
         weights,
-        centre,
+        scaled_centre,
         pair,
         moves,
     }
@@ -70,7 +70,7 @@ fn run(rows: &[i32], m: usize, n: usize, budget: u32) -> Ended
 fn not_drawn(outcome: Outcome) -> Drawing
     ensures { λ r. ⌜ r ≡ notDrawn rowLimit outcome ⌝ }
 {
-    let ball = no_ball();
+    let ball = empty_ball();
     Drawing {
         outcome,
         ball,
@@ -86,9 +86,9 @@ fn drawn_within(rows: &[i32], m: usize, n: usize, budget: u32) -> Drawing
 {
     let ended = run(rows, m, n, budget);
     let weights = ended.weights;
-    let centre = ended.centre;
+    let scaled_centre = ended.scaled_centre;
     let pair = ended.pair;
-    let ball = ball_of(rows, m, n, &weights, centre, pair);
+    let ball = ball_of(rows, m, n, &weights, scaled_centre, pair);
     Drawing {
         outcome: Outcome::Accepted,
         ball,

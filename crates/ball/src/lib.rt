@@ -4,14 +4,14 @@ ghost use mathlib.Core.Path.{_≡_};
 ghost use Rattle.geometry.specs.Move.{weightOf};
 ghost use Rattle.geometry.specs.Table.{coordinate};
 ghost use Rattle.limits.specs.Limits.{total};
-ghost use Rattle.ball.specs.Ball.{ballOf, noBall};
+ghost use Rattle.ball.specs.Ball.{filledBall, ballOf, emptyBall};
 ghost use Rattle.geometry.specs.Contracts.{Table, WeightsOf, IsCentre};
 ghost use Rattle.moves.specs.Contracts.{Paired};
 
 pub mod check;
 pub mod draw;
 
-use figures::bound::lower_bound;
+use figures::bound;
 use limits::CHANNELS;
 use limits::ROWS;
 use moves::Pair;
@@ -42,9 +42,33 @@ pub struct Checked {
 // The end of a run of moves: the weights, X, the pair of rows that the weights have, and the moves made.
 struct Ended {
     weights: [u32; ROWS],
-    centre: [i64; CHANNELS],
+    scaled_centre: [i64; CHANNELS],
     pair: Pair,
     moves: u32,
+}
+
+// The figures X, M and L, and whether the weights are Settled.
+pub fn filled_ball(
+    scaled_centre: [i64; CHANNELS],
+    scaled_squared_radius: u64,
+    scaled_lower_bound: u64,
+    settled: bool,
+) -> Ball
+    ensures { λ r. ⌜ r ≡ filledBall «scaled_centre» «scaled_squared_radius» «scaled_lower_bound» settled ⌝ }
+{
+    Ball {
+        scaled_centre,
+        scaled_squared_radius,
+        scaled_lower_bound,
+        settled,
+    }
+}
+
+// Every figure 0, beside a refusal.
+pub fn empty_ball() -> Ball
+    ensures { λ r. ⌜ r ≡ emptyBall ⌝ }
+{
+    filled_ball([0i64; CHANNELS], 0, 0, false)
 }
 
 // The figures of weights whose X and pair of rows are known.
@@ -53,29 +77,17 @@ fn ball_of(
     m: usize,
     n: usize,
     weights: &[u32],
-    centre: [i64; CHANNELS],
+    scaled_centre: [i64; CHANNELS],
     pair: Pair,
 ) -> Ball
-    requires { ⌜ Table (now rows) m n × (WeightsOf m (now weights) × (IsCentre (now rows) m n (now weights) centre × Paired (now rows) m n (now weights) pair)) ⌝ }
+    requires { ⌜ Table (now rows) m n × (WeightsOf total m (now weights) × (IsCentre (now rows) m n (now weights) «scaled_centre» × Paired total (now rows) m n (now weights) pair)) ⌝ }
     ensures { λ r. ⌜ r ≡ ballOf total m n (coordinate (now (rows .entry)) n) (weightOf (now (weights .entry))) ⌝ }
 {
-    let bound = lower_bound(rows, m, n, weights, &centre);
-    Ball {
-        scaled_centre: centre,
-        scaled_squared_radius: pair.distance,
-        scaled_lower_bound: bound,
-        settled: pair.difference <= pair.separation,
-    }
-}
-
-// Every figure 0, beside a refusal.
-fn no_ball() -> Ball
-    ensures { λ r. ⌜ r ≡ noBall ⌝ }
-{
-    Ball {
-        scaled_centre: [0i64; CHANNELS],
-        scaled_squared_radius: 0,
-        scaled_lower_bound: 0,
-        settled: false,
-    }
+    let scaled_lower_bound = bound::scaled_lower_bound(rows, m, n, weights, &scaled_centre);
+    filled_ball(
+        scaled_centre,
+        pair.scaled_squared_distance,
+        scaled_lower_bound,
+        pair.difference <= pair.separation,
+    )
 }

@@ -1,150 +1,47 @@
-// The chart and the panel for C and Rust: the figures of an envelope are given in numbers, its types and X in lent slices.
+// The chart and the panel for C and Rust.
 ghost use mathlib.Core.Path.{_≡_};
 ghost use lib.ListN.{length};
 ghost use Rattle.limits.specs.Limits.{total};
 ghost use Rattle.lent.specs.Filled.{filled};
 ghost use Rattle.channel.specs.Channel.{channelTypes};
-ghost use Rattle.cundarivo.specs.ChartNumbers.{markInNumbers, chartAnswer, panelGiven, panelAnswer};
-use crate::given::FiguresGiven;
+ghost use Rattle.export_chart.specs.Contracts.{chartAnswer, panelGiven, panelAnswer};
 use channel::Code;
-use chart::Mark;
-use chart::chart_lent;
-use chart::panel::PanelShown;
-use chart::panel::panel_lent;
-use chart::panel::refused_panel;
-use chart::refused_mark;
-use lent::fill_table;
-use lent::with_room;
+use export_chart::MarkAnswer;
+use export_chart::PanelAnswer;
+use export_figures::FiguresGiven;
 
-// the marks as numbers; 0 is none of them
-const DOT: u32 = 1;
-
-const DISC: u32 = 2;
-
-// What a chart answers: number 0 where accepted, else the refusal's number and line, the others being 0. `mark` is 1 for a dot, whose
-// radius is 0, and 2 for a disc.
-#[repr(C)]
-pub struct MarkAnswer {
-    pub number: u32,
-    pub line: u32,
-    pub mark: u32,
-    pub horizontal: f64,
-    pub vertical: f64,
-    pub radius: f64,
-}
-
-// What a panel answers: number 0 where accepted, else the refusal's number and line.
-#[repr(C)]
-pub struct PanelAnswer {
-    pub number: u32,
-    pub line: u32,
-}
-
-fn mark_in_numbers(mark: Mark) -> MarkAnswer
-    ensures { λ r. ⌜ r ≡ markInNumbers mark ⌝ }
-{
-    match mark {
-        Mark::Dot(point) => MarkAnswer {
-            number: 0,
-            line: 0,
-            mark: DOT,
-            horizontal: point.horizontal,
-            vertical: point.vertical,
-            radius: 0.0,
-        },
-        Mark::Disc(point, radius) => MarkAnswer {
-            number: 0,
-            line: 0,
-            mark: DISC,
-            horizontal: point.horizontal,
-            vertical: point.vertical,
-            radius,
-        },
-        Mark::Refused(refusal) => MarkAnswer {
-            number: refusal.number,
-            line: refusal.line,
-            mark: 0,
-            horizontal: 0.0,
-            vertical: 0.0,
-            radius: 0.0,
-        },
-    }
-}
-
-// The mark of an envelope on the chart of two channels counted from 1, the same one allowed. Of `types` and `centre` the first n places
-// count; fewer are refused by 8, and so is an ending that is neither 0 nor 1. Refused: 8.
+// The mark of an envelope on the chart of two channels counted from 1, the same one allowed. Of `codes` and `scaled_centre` the first
+// n places count; fewer are refused by 8, and so is an ending that is neither 0 nor 1. Refused: 8.
 #[no_mangle]
 pub extern "C" fn cundarivo_chart(
     figures: FiguresGiven,
     codes: &[Code],
-    centre: &[i64],
+    scaled_centre: &[i64],
     horizontal: usize,
     vertical: usize,
 ) -> MarkAnswer
     ensures { λ r.
-        ⌜ r ≡ chartAnswer total channelTypes figures (now (codes .entry)) (now (centre .entry)) horizontal vertical ⌝ }
+        ⌜ r ≡ chartAnswer total channelTypes figures (now (codes .entry)) (now («scaled_centre» .entry)) horizontal vertical ⌝ }
 {
-    if 1 < figures.settled {
-        return mark_in_numbers(refused_mark());
-    }
-    let mark = chart_lent(
-        figures.n,
-        codes,
-        centre,
-        figures.scaled_squared_radius,
-        figures.scaled_lower_bound,
-        figures.moves,
-        horizontal,
-        vertical,
-    );
-    mark_in_numbers(mark)
-}
-
-// What the panel shows of the figures that are given.
-fn panel_given(figures: FiguresGiven, codes: &[Code], centre: &[i64]) -> PanelShown
-    ensures { λ r. ⌜ r ≡ panelGiven total channelTypes figures (now (codes .entry)) (now (centre .entry)) ⌝ }
-{
-    if 1 < figures.settled {
-        return refused_panel();
-    }
-    panel_lent(
-        figures.n,
-        codes,
-        centre,
-        figures.scaled_squared_radius,
-        figures.scaled_lower_bound,
-        figures.moves,
-    )
+    export_chart::chart(figures, codes, scaled_centre, horizontal, vertical)
 }
 
 // The centre of an envelope to the nearest whole step, halves away from zero. It fills the first n places of `steps` where accepted, and
-// writes nothing else. Of `types` and `centre` the first n places count; fewer are refused by 8, and so is an ending that is neither 0
-// nor 1. Refused: 8, then 13.
+// writes nothing else. Of `codes` and `scaled_centre` the first n places count; fewer are refused by 8, and so is an ending that is
+// neither 0 nor 1. Refused: 8, then 13.
 #[no_mangle]
 pub extern "C" fn cundarivo_panel(
     figures: FiguresGiven,
     codes: &[Code],
-    centre: &[i64],
+    scaled_centre: &[i64],
     steps: &mut [i32],
 ) -> PanelAnswer
     ensures answer { λ r.
-        ⌜ r ≡ panelAnswer (panelGiven total channelTypes figures (now (codes .entry)) (now (centre .entry))) (figures .n)
+        ⌜ r ≡ panelAnswer (panelGiven total channelTypes figures (now (codes .entry)) (now («scaled_centre» .entry))) (figures .n)
         (length (now (steps .entry))) ⌝ }
     ensures steps_filled { λ r.
         ⌜ now (steps .exit) ≡ filled (r .number) (figures .n)
-        (panelGiven total channelTypes figures (now (codes .entry)) (now (centre .entry)) .steps) (now (steps .entry)) ⌝ }
+        (panelGiven total channelTypes figures (now (codes .entry)) (now («scaled_centre» .entry)) .steps) (now (steps .entry)) ⌝ }
 {
-    let shown = panel_given(figures, codes, centre);
-    let answered = shown.outcome;
-    let outcome = with_room(answered, figures.n <= steps.len());
-    let answer = PanelAnswer {
-        number: refusal::number_of(outcome),
-        line: refusal::line_of(outcome),
-    };
-    if answer.number != 0 {
-        return answer;
-    }
-    let source = shown.steps;
-    fill_table(steps, &source, figures.n);
-    answer
+    export_chart::panel(figures, codes, scaled_centre, steps)
 }

@@ -1,5 +1,4 @@
-// The reference text for C and Rust: its table and types go into slices of the caller's, a label is handed back by its place
-// in the text.
+// The reference text for C and Rust.
 ghost use Prim.Native.Nat.{_*_};
 ghost use mathlib.Core.Path.{_≡_};
 ghost use lib.ListN.{length};
@@ -8,44 +7,14 @@ ghost use Rattle.lent.specs.Filled.{filled};
 ghost use Rattle.channel.specs.Channel.{channelTypes};
 ghost use Rattle.reference.specs.Reference.{content};
 ghost use Rattle.reference.specs.Contracts.{referenceRead, valuesIn, labelPart};
-ghost use Rattle.cundarivo.specs.ReferenceText.{referenceAnswer, refusedAnswer, labelAnswer};
+ghost use Rattle.export_reference.specs.Contracts.{referenceAnswer, labelAnswer};
 use channel::Code;
-use channel::fill_codes;
-use lent::fill_table;
-use limits::PLACES;
-use reference::read::label_part;
-use reference::read::read;
+use export_reference::LabelAnswer;
+use export_reference::ReferenceAnswer;
 
-// What a reference text answers: number 0 where accepted, else the refusal's number and line, m and n being 0.
-#[repr(C)]
-pub struct ReferenceAnswer {
-    pub number: u32,
-    pub line: u32,
-    pub m: usize,
-    pub n: usize,
-}
-
-// Where a label stands in the text; its length is 0 where there is none.
-#[repr(C)]
-pub struct LabelAnswer {
-    pub start: usize,
-    pub length: usize,
-}
-
-fn refused_answer(number: u32) -> ReferenceAnswer
-    ensures { λ r. ⌜ r ≡ refusedAnswer number ⌝ }
-{
-    ReferenceAnswer {
-        number,
-        line: 0,
-        m: 0,
-        n: 0,
-    }
-}
-
-// Reads a reference text. It fills the first m·n places of `table` with the values and the first n places of `types` with the
+// Reads a reference text. It fills the first m·n places of `table` with the values and the first n places of `codes` with the
 // codes where accepted, and writes nothing else. Refused: 1, 2, then line by line 6 for a row past the limit, 3, the leftmost
-// 4, 5; then 6 for no row; 7; last 13 for too few places for the types.
+// 4, 5; then 6 for no row; 7; last 13 for too few places for the codes.
 #[no_mangle]
 pub extern "C" fn cundarivo_read_reference(
     text: &[u8],
@@ -62,27 +31,7 @@ pub extern "C" fn cundarivo_read_reference(
         ⌜ now (codes .exit) ≡ filled (r .number) (r .n)
         (referenceRead rowLimit channelTypes (now (text .entry)) (length (now (table .entry))) .codes) (now (codes .entry)) ⌝ }
 {
-    let mut values = [0i32; PLACES];
-    let reference = read(text, &mut values);
-    let m = reference.m;
-    let n = reference.n;
-    let places = m * n;
-    if table.len() < places {
-        return refused_answer(refusal::TABLE_SHORT);
-    }
-    if codes.len() < n {
-        return refused_answer(refusal::BUFFER_SHORT);
-    }
-    fill_table(table, &values, places);
-    let read_codes = reference.codes;
-    fill_codes(codes, &read_codes, n);
-    let outcome = reference.outcome;
-    ReferenceAnswer {
-        number: refusal::number_of(outcome),
-        line: refusal::line_of(outcome),
-        m,
-        n,
-    }
+    export_reference::read(text, table, codes)
 }
 
 // Where the label of a row, counted from 1, stands in a reference text.
@@ -90,9 +39,5 @@ pub extern "C" fn cundarivo_read_reference(
 pub extern "C" fn cundarivo_label(text: &[u8], row: usize) -> LabelAnswer
     ensures { λ r. ⌜ r ≡ labelAnswer (labelPart rowLimit channelTypes (now (text .entry)) row) ⌝ }
 {
-    let part = label_part(text, row);
-    LabelAnswer {
-        start: part.start,
-        length: part.length,
-    }
+    export_reference::label(text, row)
 }

@@ -14,7 +14,7 @@ use lib.Dec.{leb}
 use lib.ListN.{length, take, replicate}
 use Rattle.limits.specs.Limits.{channelLimit, centreLimit, distanceLimit, budgetLimit}
 use Rattle.geometry.specs.Table.{placesWithin}
-use Rattle.ball.specs.Ball.{noBall}
+use Rattle.ball.specs.Ball.{emptyBall}
 use Rattle.ball.specs.declared.Ball.{Ball}
 use Rattle.channel.specs.Channel.{Types, codesKnown}
 use Rattle.envelope.specs.declared.Figures.{Figures}
@@ -47,7 +47,7 @@ abbrev pub figuresOf : ℕ → List ℕ → Ball → ℕ → Figures
 figuresOf n codes ball moves = record { n = n; codes = codes; ball = ball; moves = moves }
 
 abbrev pub emptyFigures : Figures
-emptyFigures = figuresOf 0 (replicate channelLimit 0) noBall 0
+emptyFigures = figuresOf 0 (replicate channelLimit 0) emptyBall 0
 
 abbrev pub envelopeOf : Figures → List ℕ → Envelope
 envelopeOf figures weights = record { figures = figures; weights = weights }

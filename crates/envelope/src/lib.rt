@@ -14,6 +14,7 @@ ghost use Rattle.envelope.specs.Figures.{figuresWithin, codesWithin, fig
 pub mod agreement;
 
 use ball::Ball;
+use ball::empty_ball;
 use channel::Code;
 use limits::BUDGET_MOST;
 use limits::CENTRE_MOST;
@@ -52,13 +53,7 @@ pub fn filled_figures(n: usize, codes: [Code; CHANNELS], ball: Ball, moves: u32)
 pub fn empty_figures() -> Figures
     ensures { λ r. ⌜ r ≡ emptyFigures ⌝ }
 {
-    let ball = Ball {
-        scaled_centre: [0i64; CHANNELS],
-        scaled_squared_radius: 0,
-        scaled_lower_bound: 0,
-        settled: false,
-    };
-    filled_figures(0, [0; CHANNELS], ball, 0)
+    filled_figures(0, [0; CHANNELS], empty_ball(), 0)
 }
 
 // The envelope with these figures and weights.

@@ -9,7 +9,7 @@ ghost use Rattle.geometry.specs.Table.{coordinate};
 ghost use Rattle.limits.specs.Limits.{total, channelLimit, coordinateLimit, centreLimit, lengthLimit};
 ghost use Rattle.geometry.specs.Places.{centreOf};
 ghost use Rattle.integers.specs.Reading.{Bounded};
-ghost use Rattle.geometry.specs.Contracts.{CentreWithin, RowAt, Table, WeightsOf, IsCentre};
+ghost use Rattle.geometry.specs.Contracts.{CentreWithin, RowAt, Table, WeightsWithin, WeightsOf, IsCentre};
 use limits::CHANNELS;
 use limits::TOTAL;
 
@@ -38,22 +38,22 @@ fn squared_length(rows: &[i32], n: usize, row: usize) -> u64
 }
 
 // The square of one coordinate of X.
-fn square_of_centre(centre: i64) -> u64
-    requires { ⌜ natAbs centre ≤ centreLimit total ⌝ }
-    ensures { λ r. ⌜ Bounded (centreLimit total * centreLimit total) r (square centre) ⌝ }
+fn square_of_centre(scaled_centre: i64) -> u64
+    requires { ⌜ natAbs «scaled_centre» ≤ centreLimit total ⌝ }
+    ensures { λ r. ⌜ Bounded (centreLimit total * centreLimit total) r (square «scaled_centre») ⌝ }
 {
-    (centre * centre) as u64
+    (scaled_centre * scaled_centre) as u64
 }
 
 // The squared length of X.
-fn squared_length_of_centre(centre: &[i64; CHANNELS], n: usize) -> u64
-    requires { ⌜ CentreWithin n (now centre) × (n ≤ channelLimit) ⌝ }
-    ensures { λ r. ⌜ Bounded (channelLimit * centreLimit total * centreLimit total) r (squaredLength n (centreOf (now (centre .entry)))) ⌝ }
+fn squared_length_of_centre(scaled_centre: &[i64; CHANNELS], n: usize) -> u64
+    requires { ⌜ CentreWithin n (now «scaled_centre») × (n ≤ channelLimit) ⌝ }
+    ensures { λ r. ⌜ Bounded (channelLimit * centreLimit total * centreLimit total) r (squaredLength n (centreOf (now («scaled_centre» .entry)))) ⌝ }
 {
     let mut sum: u64 = 0;
     let mut k = 0;
     while k < n {
-        sum += square_of_centre(centre[k]);
+        sum += square_of_centre(scaled_centre[k]);
         k += 1;
     }
     sum
@@ -61,7 +61,7 @@ fn squared_length_of_centre(centre: &[i64; CHANNELS], n: usize) -> u64
 
 // The sum of weight times the row's squared length.
 fn weighted_squared_length(rows: &[i32], m: usize, n: usize, weights: &[u32]) -> u64
-    requires { ⌜ Table (now rows) m n × WeightsOf m (now weights) ⌝ }
+    requires { ⌜ Table (now rows) m n × WeightsWithin total m (now weights) ⌝ }
     ensures { λ r. ⌜ Bounded (lengthLimit * total) r (weightedSquaredLength m n (coordinate (now (rows .entry)) n) (weightOf (now (weights .entry)))) ⌝ }
 {
     let mut sum: u64 = 0;
@@ -73,17 +73,17 @@ fn weighted_squared_length(rows: &[i32], m: usize, n: usize, weights: &[u32]) ->
     sum
 }
 
-// L of the weights whose X is `centre`.
-pub fn lower_bound(
+// L of the weights whose X is `scaled_centre`.
+pub fn scaled_lower_bound(
     rows: &[i32],
     m: usize,
     n: usize,
     weights: &[u32],
-    centre: &[i64; CHANNELS],
+    scaled_centre: &[i64; CHANNELS],
 ) -> u64
-    requires { ⌜ Table (now rows) m n × (WeightsOf m (now weights) × IsCentre (now rows) m n (now weights) (now centre)) ⌝ }
+    requires { ⌜ Table (now rows) m n × (WeightsOf total m (now weights) × IsCentre (now rows) m n (now weights) (now «scaled_centre»)) ⌝ }
     ensures { λ r. ⌜ r ≡ scaledLowerBound total m n (coordinate (now (rows .entry)) n) (weightOf (now (weights .entry))) ⌝ }
 {
     let first = (TOTAL as u64) * weighted_squared_length(rows, m, n, weights);
-    first - squared_length_of_centre(centre, n)
+    first - squared_length_of_centre(scaled_centre, n)
 }

@@ -12,25 +12,25 @@ use crate::table::channels;
 use limits::TOTAL;
 
 // One channel's part of s: the square of (D times coordinate - X).
-fn scaled_square(a: i32, centre: i64) -> u64
-    requires { ⌜ (natAbs a ≤ coordinateLimit) × (natAbs centre ≤ centreLimit total) ⌝ }
-    ensures { λ r. ⌜ Bounded ((2 * centreLimit total) * (2 * centreLimit total)) r (square (pos total *ℤ a -ℤ centre)) ⌝ }
+fn scaled_square(a: i32, scaled_centre: i64) -> u64
+    requires { ⌜ (natAbs a ≤ coordinateLimit) × (natAbs «scaled_centre» ≤ centreLimit total) ⌝ }
+    ensures { λ r. ⌜ Bounded ((2 * centreLimit total) * (2 * centreLimit total)) r (square (pos total *ℤ a -ℤ «scaled_centre»)) ⌝ }
 {
-    let d = (TOTAL as i64) * (a as i64) - centre;
+    let d = (TOTAL as i64) * (a as i64) - scaled_centre;
     (d * d) as u64
 }
 
 // s of a row.
-pub fn scaled_squared_distance(rows: &[i32], n: usize, row: usize, centre: &[i64]) -> u64
-    requires { ⌜ RowAt (now rows) n row × CentreWithin n (now centre) ⌝ }
-    ensures { λ r. ⌜ Bounded (distanceLimit total) r (scaledSquaredDistance total n (centreOf (now (centre .entry))) (coordinate (now (rows .entry)) n row)) ⌝ }
+pub fn scaled_squared_distance(rows: &[i32], n: usize, row: usize, scaled_centre: &[i64]) -> u64
+    requires { ⌜ RowAt (now rows) n row × CentreWithin n (now «scaled_centre») ⌝ }
+    ensures { λ r. ⌜ Bounded (distanceLimit total) r (scaledSquaredDistance total n (centreOf (now («scaled_centre» .entry))) (coordinate (now (rows .entry)) n row)) ⌝ }
 {
     let base = row * n;
     let count = channels(n);
     let mut sum: u64 = 0;
     let mut k = 0;
     while k < count {
-        sum += scaled_square(rows[base + k], centre[k]);
+        sum += scaled_square(rows[base + k], scaled_centre[k]);
         k += 1;
     }
     sum

@@ -3,7 +3,8 @@
 --     RowAt rows n i            row i of the table lies in the list and its coordinates are within limits
 --     TableWithin l rows m n    n, m, the places and the coordinates are within limits, for a row limit l
 --     Table rows m n            the same for the row limit that the contracts fix
---     WeightsOf m ws            a list of at least m weights of sum `total`
+--     WeightsWithin B m ws      a list of at least m weights of a sum of at most B
+--     WeightsOf D m ws          a list of at least m weights of sum D
 --     IsCentre rows m n ws x    x is X of the weights, in its eight places, by equation
 use Prim.Native.Nat.{ℕ, _+_, _*_, _≤_, _<_}
 use mathlib.Core.Path.{_≡_}
@@ -36,9 +37,13 @@ pub record TableWithin (limit : ℕ) (rows : List ℤ) (m n : ℕ) : Type 0 wher
 abbrev pub Table : List ℤ → ℕ → ℕ → Type 0
 Table rows m n = TableWithin rowLimit rows m n
 
-pub record WeightsOf (m : ℕ) (ws : List ℕ) : Type 0 where
+pub record WeightsWithin (B m : ℕ) (ws : List ℕ) : Type 0 where
   pub places : m ≤ length ws
-  pub sum : weightsTotal m ws ≡ total
+  pub most : weightsTotal m ws ≤ B
+
+pub record WeightsOf (D m : ℕ) (ws : List ℕ) : Type 0 where
+  pub places : m ≤ length ws
+  pub sum : weightsTotal m ws ≡ D
 
 abbrev pub IsCentre : List ℤ → ℕ → ℕ → List ℕ → List ℤ → Type 0
 IsCentre rows m n ws x = x ≡ centreList n (scaledCentre (coordinate rows n) (weightOf ws) m)

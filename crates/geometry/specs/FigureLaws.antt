@@ -5,7 +5,7 @@
 --     distance-cong                                  only the first n coordinates of X and of the row count in s
 --     distance-centreList                            s by the list of X
 --     centre-most, centre-at-most, centre-within     X is within its limit
---     distance-most                                  s is within its limit
+--     distance-most, distance-within                 s is within its limit
 --     moment                                         D Σ w |q a - Y|² ≡ q² L + |q X - D Y|²
 --     lower-bound-ℤ                                  L in ℤ: nothing is cut off
 --     centre-length-most                             what is subtracted in L is at most what it is subtracted from
@@ -14,7 +14,7 @@ use Prim.Native.Nat.{ℕ, _+_, _*_, _≤_, _<_, zero-le}
 use mathlib.Core.Path.{_≡_, refl, sym, _∙_, ap, ap₂}
 use mathlib.Core.List.{List}
 use native.Mathlib.Omega.{arith}
-use native.Mathlib.Nat.{mul-le-mul, mul-le-mul-left, mul-comm, mul-assoc, eq-of-mul-eq-mul-left}
+use native.Mathlib.Nat.{mul-le-mul, mul-le-mul-left, mul-le-mul-right, mul-comm, mul-assoc, eq-of-mul-eq-mul-left}
 use lib.IntN.{ℤ, pos, natAbs, negℤ, _+ℤ_, _-ℤ_, _*ℤ_, +ℤ-idr, *ℤ-zero}
 use Rattle.integers.specs.Sum.{sumℤ, sumℕ, square}
 use Rattle.integers.specs.Ring.{pos-inj, pos-sub, -ℤ-self}
@@ -25,9 +25,9 @@ use Rattle.integers.specs.Absolute.{abs-mul, abs-sub, abs-sum, square-pos, squa
 use Rattle.geometry.specs.Figures.{squaredLength, scaledCentre, scaledSquaredDistance, weightedSquaredLength, scaledLowerBound}
 use Rattle.geometry.specs.Move.{weightOf}
 use Rattle.geometry.specs.Table.{coordinate}
-use Rattle.limits.specs.Limits.{channelLimit, total, coordinateLimit, centreLimit}
+use Rattle.limits.specs.Limits.{channelLimit, total, coordinateLimit, centreLimit, distanceLimit}
 use Rattle.geometry.specs.Places.{centreList, centreOf, weightsTotal}
-use Rattle.geometry.specs.Contracts.{CentreWithin, Table, WeightsOf}
+use Rattle.geometry.specs.Contracts.{CentreWithin, RowAt, Table, WeightsWithin}
 use Rattle.geometry.specs.PlacesLaws.{length-centreList, centreList-at, centreList-most}
 
 -- ---- squared lengths
@@ -76,11 +76,12 @@ distance-most D n C X p hp hX =
     squaredLength-bound n (2 * (C * D)) (λ k. pos D *ℤ p k -ℤ X k)
     (λ k l. omega (arith, abs-sub (pos D *ℤ p k) (X k), abs-mul (pos D) (p k), mul-le-mul-left D (hp k l), mul-comm D C, hX k l))
 
-module _ {rows : List ℤ} {m n : ℕ} {ws : List ℕ} (t : Table rows m n) (g : WeightsOf m ws) where
+-- X of weights of a sum of at most `total`, which is the bound of the machine's numbers whatever the sum
+module _ {rows : List ℤ} {m n : ℕ} {ws : List ℕ} (t : Table rows m n) (g : WeightsWithin total m ws) where
   pub centre-at-most : (k : ℕ) → k < n → natAbs (scaledCentre (coordinate rows n) (weightOf ws) m k) ≤ centreLimit total
   unfolding weightsTotal
   centre-at-most k l =
-      centre-most total m coordinateLimit k (coordinate rows n) (weightOf ws) (g .sum) (λ i h. t .bound i k h l)
+      omega (arith, centre-most (weightsTotal m ws) m coordinateLimit k (coordinate rows n) (weightOf ws) refl (λ i h. t .bound i k h l), g .most)
 
   pub centre-within : CentreWithin n (centreList n (scaledCentre (coordinate rows n) (weightOf ws) m))
   centre-within =
@@ -88,6 +89,12 @@ module _ {rows : List ℤ} {m n : ℕ} {ws : List ℕ} (t : Table rows m n) (g :
         places = omega (arith, length-centreList n (scaledCentre (coordinate rows n) (weightOf ws) m), t .channels);
         bound = λ k l. centreList-most n (centreLimit total) (scaledCentre (coordinate rows n) (weightOf ws) m) (t .channels) centre-at-most k;
       }
+
+pub distance-within : {rows x : List ℤ} {n i : ℕ} → RowAt rows n i → CentreWithin n x
+    → scaledSquaredDistance total n (centreOf x) (coordinate rows n i) ≤ distanceLimit total
+distance-within {rows} {x} {n} {i} r c =
+    let side = 2 * centreLimit total in
+    omega (arith, distance-most total n coordinateLimit (centreOf x) (coordinate rows n i) (r .bound) (c .bound), mul-le-mul-right (side * side) (r .channels))
 
 -- ---- the moment of weighted rows about any point
 

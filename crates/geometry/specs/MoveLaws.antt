@@ -2,7 +2,11 @@
 --     inner n u v                   the inner product of two vectors
 --     length-combine                the squared length of a combination of two vectors
 --     distance-ℤ                    s of a row is D times its reduced score, plus |X|²
---     moveWeight-sum                a weighted sum after t has moved
+--     moveWeight-sum                a weighted sum after t has moved from one row to another
+--     moveWeight-total              the weights' sum is kept
+--     moveWeight-centre             X after it
+--     moveWeight-length, -other     the list's length and the other weights are kept
+--     moved-by                      moving t from the near to the far row is the move
 --     moved-length, moved-total     a move keeps the list's length and the weights' sum
 --     moved-other                   no weight but the near and the far row's changes
 --     moved-centre                  X after a move
@@ -110,7 +114,7 @@ module _ (ws : List ℕ) (m t from to : ℕ) (most : m ≤ length ws) (hf : from
   unfolding lowered
   lowered-length = length-set ws from (getD ws from 0 - t)
 
-  moveWeight-sum : (f : ℕ → ℤ) → sumℤ m (λ i. pos (weightOf (moveWeight t from to ws) i) *ℤ f i)
+  pub moveWeight-sum : (f : ℕ → ℤ) → sumℤ m (λ i. pos (weightOf (moveWeight t from to ws) i) *ℤ f i)
       ≡ sumℤ m (λ i. pos (weightOf ws i) *ℤ f i) +ℤ pos t *ℤ (f to -ℤ f from)
   unfolding moveWeight lowered
   moveWeight-sum f =
@@ -120,10 +124,16 @@ module _ (ws : List ℕ) (m t from to : ℕ) (most : m ≤ length ws) (hf : from
       ∙ ap (λ (x : ℤ). sumℤ m (λ i. pos (weightOf ws i) *ℤ f i) +ℤ (x -ℤ pos (getD ws from 0)) *ℤ f from) (pos-sub (getD ws from 0) t capped))
       ∙ exchanged (sumℤ m (λ i. pos (weightOf ws i) *ℤ f i)) (pos (getD ws from 0)) (pos t) (pos (getD lowered to 0)) (f to) (f from)
 
-  moveWeight-total : sumℕ m (weightOf (moveWeight t from to ws)) ≡ sumℕ m (weightOf ws)
-  unfolding moveWeight lowered
+  pub moveWeight-total : weightsTotal m (moveWeight t from to ws) ≡ weightsTotal m ws
+  unfolding moveWeight lowered weightsTotal
   moveWeight-total =
       omega (arith, sumℕ-set ws m from (getD ws from 0 - t) hf (omega arith), sumℕ-set lowered m to (getD lowered to 0 + t) ht (omega (arith, lowered-length)))
+
+  -- X changes by t (to - from)
+  pub moveWeight-centre : (a : ℕ → ℕ → ℤ) (k : ℕ) → scaledCentre a (weightOf (moveWeight t from to ws)) m k
+      ≡ scaledCentre a (weightOf ws) m k +ℤ pos t *ℤ (a to k -ℤ a from k)
+  unfolding scaledCentre
+  moveWeight-centre a k = moveWeight-sum (λ i. a i k)
 
 pub moveWeight-length : (t from to : ℕ) (ws : List ℕ) → length (moveWeight t from to ws) ≡ length ws
 unfolding moveWeight
@@ -162,6 +172,11 @@ module _ (D m n : ℕ) (a : ℕ → ℕ → ℤ) (w : ℕ → ℕ) where
 
 -- the parts of a move from a list of weights
 module _ (D m n : ℕ) (a : ℕ → ℕ → ℤ) (ws : List ℕ) where
+  pub moved-by : {t from to : ℕ} → t ≡ transfer D m n a (weightOf ws) → from ≡ nearRow D m n a (weightOf ws) → to ≡ farRow D m n a (weightOf ws)
+      → moveWeight t from to ws ≡ moved D m n a ws
+  unfolding moved
+  moved-by e f g = cc
+
   pub moved-length : length (moved D m n a ws) ≡ length ws
   unfolding moved
   moved-length = moveWeight-length (transfer D m n a (weightOf ws)) (nearRow D m n a (weightOf ws)) (farRow D m n a (weightOf ws)) ws
@@ -183,7 +198,7 @@ module _ (D m n : ℕ) (a : ℕ → ℕ → ℤ) (ws : List ℕ) where
         (near-within D m n a (weightOf ws) some) (far-within D m n a (weightOf ws) some) (transfer-most D m n a (weightOf ws))
 
     pub moved-total : weightsTotal m (moved D m n a ws) ≡ weightsTotal m ws
-    unfolding moved weightsTotal
+    unfolding moved
     moved-total =
         moveWeight-total ws m (transfer D m n a (weightOf ws)) (nearRow D m n a (weightOf ws)) (farRow D m n a (weightOf ws)) places
         (near-within D m n a (weightOf ws) some) (far-within D m n a (weightOf ws) some) (transfer-most D m n a (weightOf ws))

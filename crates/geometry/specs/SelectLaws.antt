@@ -8,22 +8,33 @@
 --     nearest-least                         no weighted row's score is below the near row's
 --     nearest-lowest                        every weighted row below the near row has a larger score
 --     farthest-cong, nearest-cong, largest-cong     what is found depends on the m rows alone
+-- What a pass over m rows keeps once it has seen i of them, for any order and score, and so for a pass of the code:
+--     FarSoFar                              the far row of those i rows, and its score
+--     far-start                             at row 0, before and after it is seen
+--     far-replaced, far-kept, far-done      one row more takes its place, or does not; the last row is seen
+--     Unmet, Met, NearSoFar                 the near row of those i rows and its score, if one of them has weight
+--     near-start                            before the first row
+--     near-light                            one row more, without weight
+--     near-replaced, near-kept, near-done   one row more, with weight, takes its place, or does not; the last row is seen
 -- Over ℕ with `ltb`, as facts of numbers:
 --     farthest-mostℕ, farthest-lowestℕ, nearest-leastℕ, nearest-lowestℕ
 --     largest-most, largest-below           the largest is at least each value, and at most what each value is at most
 --     largest-farthest, largest-reached     the largest score is the far row's
 -- The near row is the far row where `replaces` is the order of the rows themselves (`nearest-farthest`); its laws follow so.
 use Prim.Native.Nat.{ℕ, zero, suc, _+_, _≤_, _<_}
-use mathlib.Core.Path.{_≡_, refl, sym, _∙_, ap, ap₂}
+use mathlib.Core.Path.{_≡_, refl, sym, _∙_, ap, ap₂, subst}
+use mathlib.Core.Logic.{_⊎_, inl, inr}
 use mathlib.Core.Bool.{Bool, true, false, cond, _&&_, _||_}
-use native.Mathlib.Nat.{le-refl}
+use native.Mathlib.Nat.{le-refl, eq-zero-or-pos}
 use native.Mathlib.Numerals.{add-one}
 use native.Mathlib.Omega.{arith}
 use borrow.Author.Count.{below-more}
-use borrow.Author.Tests.{ltb-true, ltb-false, lt-ltb, le-ltb, ne-eqb, eqb-false}
+use borrow.Author.Tests.{ltb-true, ltb-false, lt-ltb, le-ltb, eq-eqb, ne-eqb, eqb-false}
 use lib.Dec.{ltb, eqb}
 use Rattle.geometry.specs.Select.{farthest, replaces, nearest}
 use Rattle.geometry.specs.Figures.{largest}
+use Rattle.integers.specs.Sum.{sumℕ}
+use Rattle.integers.specs.SumLaws.{sumℕ-positive}
 use Rattle.integers.specs.Tests.{clash, both}
 
 pub record Strict {A : Type 0} (less : A → A → Bool) : Type 0 where
@@ -202,6 +213,156 @@ module _ {A : Type 0} {less : A → A → Bool} (strict : Strict less) (w : ℕ 
   pub nearest-lowest : (m i : ℕ) → i < nearest less w score m → 0 < w i → less (score (nearest less w score m)) (score i) ≡ true
   nearest-lowest m i = rw nearest-farthest
       (λ h k. replaces-true less w score i (farthest (replaces less w score) (λ i. i) m) (farthest-lowest replaces-strict (λ i. i) m i h) .1 k)
+
+-- ---- passes over the rows
+
+pub record FarSoFar {A : Type 0} (less : A → A → Bool) (score : ℕ → A) (m i row : ℕ) (best : A) : Type 0 where
+  pub most : i ≤ m
+  pub row-is : row ≡ farthest less score i
+  pub best-is : best ≡ score row
+
+-- what a pass has at its end, `pick` being the row of the definition
+pub record Picked {A : Type 0} (score : ℕ → A) (m pick row : ℕ) (best : A) : Type 0 where
+  pub row-is : row ≡ pick
+  pub within : row < m
+  pub best-is : best ≡ score row
+
+module _ {A : Type 0} {less : A → A → Bool} {score : ℕ → A} {m : ℕ} where
+  pub far-start : {i : ℕ} {best : A} → i ≤ m → i ≤ 1 → best ≡ score 0 → FarSoFar less score m i 0 best
+  unfolding farthest
+  far-start {i} most low e = record { most = most; row-is = go i low; best-is = e }
+    where
+      go : (i : ℕ) → i ≤ 1 → 0 ≡ farthest less score i
+      go zero l = refl
+      go (suc zero) l = sym (farthest-one less score)
+      go (suc (suc i)) l = absurd (omega arith)
+
+  module _ {i row : ℕ} {best s : A} (f : FarSoFar less score m i row best) (l : i < m) (e : s ≡ score i) where
+    tested : less (score (farthest less score i)) (score i) ≡ less best s
+    tested = ap₂ less (sym (f .best-is ∙ ap score (f .row-is))) (sym e)
+
+    pub far-replaced : {row' : ℕ} {best' : A} → less best s ≡ true → row' ≡ i → best' ≡ s → FarSoFar less score m (i + 1) row' best'
+    far-replaced h p q =
+        record { most = omega arith; row-is = p ∙ sym (farthest-taken less score i (tested ∙ h)); best-is = q ∙ e ∙ ap score (sym p) }
+
+    pub far-kept : {row' : ℕ} {best' : A} → less best s ≡ false → row' ≡ row → best' ≡ best → FarSoFar less score m (i + 1) row' best'
+    far-kept h p q =
+        record {
+          most = omega arith;
+          row-is = p ∙ f .row-is ∙ sym (farthest-kept less score i (tested ∙ h));
+          best-is = q ∙ f .best-is ∙ ap score (sym p);
+        }
+
+  pub far-done : {i row : ℕ} {best : A} → FarSoFar less score m i row best → m ≤ i → 0 < m → Picked score m (farthest less score m) row best
+  far-done {i} f h some =
+      let all : i ≡ m = omega (arith, f .most) in
+      let found = f .row-is ∙ ap (farthest less score) all in
+      record { row-is = found; within = subst (λ j. j < m) (sym found) (farthest-within less score m some); best-is = f .best-is }
+
+-- before the first row of weight above 0: `above` is kept, above every score
+pub record Unmet {A : Type 0} (w : ℕ → ℕ) (above : A) (i row : ℕ) (best : A) : Type 0 where
+  pub none : (j : ℕ) → j < i → w j ≡ 0
+  pub row-is : row ≡ 0
+  pub best-is : best ≡ above
+
+-- and after it
+pub record Met {A : Type 0} (less : A → A → Bool) (w : ℕ → ℕ) (score : ℕ → A) (i row : ℕ) (best : A) : Type 0 where
+  pub weighted : 0 < w row
+  pub row-is : row ≡ nearest less w score i
+  pub best-is : best ≡ score row
+
+pub record NearSoFar {A : Type 0} (less : A → A → Bool) (w : ℕ → ℕ) (score : ℕ → A) (above : A) (m i row : ℕ) (best : A) : Type 0 where
+  pub most : i ≤ m
+  pub so-far : Unmet w above i row best ⊎ Met less w score i row best
+
+module _ {A : Type 0} (less : A → A → Bool) (w : ℕ → ℕ) (score : ℕ → A) where
+  -- a row without weight is not the near row
+  passed-over : (i : ℕ) → w i ≡ 0 → nearest less w score (i + 1) ≡ nearest less w score i
+  unfolding replaces
+  passed-over i h =
+      let j = nearest less w score i in
+      nearest-kept less w score i (ap (λ t. t && (eqb (w j) 0 || less (score i) (score j))) (le-ltb 0 (w i) (omega arith)))
+
+  none-yet : (i : ℕ) → ((j : ℕ) → j < i → w j ≡ 0) → nearest less w score i ≡ 0
+  unfolding nearest
+  none-yet zero h = refl
+  none-yet (suc i) h =
+      ap (nearest less w score) (sym (add-one i)) ∙ passed-over i (h i (le-refl (suc i))) ∙ none-yet i (λ j l. h j (omega arith))
+
+module _ {A : Type 0} {less : A → A → Bool} {w : ℕ → ℕ} {score : ℕ → A} {above : A} {m : ℕ} where
+  pub near-start : NearSoFar less w score above m 0 0 above
+  near-start = record { most = omega arith; so-far = inl record { none = λ j l. absurd (omega arith); row-is = refl; best-is = refl } }
+
+  module _ {i row : ℕ} {best : A} (f : NearSoFar less w score above m i row best) (l : i < m) where
+    pub near-light : {row' : ℕ} {best' : A} → w i ≤ 0 → row' ≡ row → best' ≡ best → NearSoFar less w score above m (i + 1) row' best'
+    near-light {row'} {best'} light p q = record { most = omega arith; so-far = go (f .so-far) }
+      where
+        go : Unmet w above i row best ⊎ Met less w score i row best → Unmet w above (i + 1) row' best' ⊎ Met less w score (i + 1) row' best'
+        go (inl u) = inl record { none = below-more (λ j. w j ≡ 0) i (u .none) (omega arith); row-is = p ∙ u .row-is; best-is = q ∙ u .best-is }
+        go (inr k) =
+            inr record {
+              weighted = subst (λ r. 0 < w r) (sym p) (k .weighted);
+              row-is = p ∙ k .row-is ∙ sym (passed-over less w score i (omega arith));
+              best-is = q ∙ k .best-is ∙ ap score (sym p);
+            }
+
+    module _ {s : A} (e : s ≡ score i) (h : 0 < w i) where
+      -- the definition's test at row i, where the row kept so far is j
+      test : {j : ℕ} → nearest less w score i ≡ j → replaces less w score (nearest less w score i) i ≡ (eqb (w j) 0 || less (score i) (score j))
+      unfolding replaces
+      test p = ap₂ _&&_ (lt-ltb 0 (w i) h) (ap (λ j. eqb (w j) 0 || less (score i) (score j)) p)
+
+      -- and where that row has weight, the test of the two scores
+      against : Met less w score i row best → replaces less w score (nearest less w score i) i ≡ less s best
+      against k = test (sym (k .row-is)) ∙ ap₂ _||_ (ne-eqb (w row) 0 (omega (arith, k .weighted))) (ap₂ less (sym e) (sym (k .best-is)))
+
+      taken : less s best ≡ true → nearest less w score (i + 1) ≡ i
+      taken below = go (f .so-far) (eq-zero-or-pos i)
+        where
+          go : Unmet w above i row best ⊎ Met less w score i row best → (i ≡ 0) ⊎ (0 < i) → nearest less w score (i + 1) ≡ i
+          go (inl u) (inl z) = ap (λ k. nearest less w score (k + 1)) z ∙ nearest-one less w score ∙ sym z
+          go (inl u) (inr p) =
+              nearest-taken less w score i
+              (test (none-yet less w score i (u .none)) ∙ ap (λ t. t || less (score i) (score 0)) (eq-eqb (w 0) 0 (u .none 0 p)))
+          go (inr k) _ = nearest-taken less w score i (against k ∙ below)
+
+      pub near-replaced : {row' : ℕ} {best' : A} → less s best ≡ true → row' ≡ i → best' ≡ s → NearSoFar less w score above m (i + 1) row' best'
+      near-replaced below p q =
+          record {
+            most = omega arith;
+            so-far = inr record {
+              weighted = subst (λ r. 0 < w r) (sym p) h;
+              row-is = p ∙ sym (taken below);
+              best-is = q ∙ e ∙ ap score (sym p);
+            };
+          }
+
+      -- every score is below what is kept before the first row of weight above 0
+      pub near-kept : {row' : ℕ} {best' : A} → less s above ≡ true → less s best ≡ false → row' ≡ row → best' ≡ best
+          → NearSoFar less w score above m (i + 1) row' best'
+      near-kept {row'} {best'} lower not-below p q = record { most = omega arith; so-far = inr (go (f .so-far)) }
+        where
+          go : Unmet w above i row best ⊎ Met less w score i row best → Met less w score (i + 1) row' best'
+          go (inl u) = clash lower (ap (less s) (sym (u .best-is)) ∙ not-below)
+          go (inr k) =
+              record {
+                weighted = subst (λ r. 0 < w r) (sym p) (k .weighted);
+                row-is = p ∙ k .row-is ∙ sym (nearest-kept less w score i (against k ∙ not-below));
+                best-is = q ∙ k .best-is ∙ ap score (sym p);
+              }
+
+  -- some row has weight
+  pub near-done : {i row : ℕ} {best : A} → NearSoFar less w score above m i row best → m ≤ i → 0 < sumℕ m w
+      → Picked score m (nearest less w score m) row best
+  near-done {i} {row} {best} f h some = go (f .so-far)
+    where
+      go : Unmet w above i row best ⊎ Met less w score i row best → Picked score m (nearest less w score m) row best
+      go (inl u) = let p = sumℕ-positive w m some in absurd (omega (arith, u .none (p .0) (omega (arith, p .1)), p .2))
+      go (inr k) =
+          let all : i ≡ m = omega (arith, f .most) in
+          let found = k .row-is ∙ ap (nearest less w score) all in
+          let rows : 0 < m = omega (arith, sumℕ-positive w m some .1) in
+          record { row-is = found; within = subst (λ j. j < m) (sym found) (nearest-within less w score m rows); best-is = k .best-is }
 
 -- ---- over ℕ
 

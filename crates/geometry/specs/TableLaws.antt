@@ -6,8 +6,9 @@
 --     row-end                              a row's places end within the table
 --     within-limits, within-table          the test of the limits, as the record
 --     table-row                            a row of such a table
---     weight-most                          a weight is at most the total
---     weights-passed, weights-next         the weights of the first rows are within the total
+--     weights-within                       weights of sum D are within what D is at most
+--     weight-most                          a weight is at most what the sum is at most
+--     weights-passed, weights-next         so are the weights of the first rows
 --     row-held, centre-held                an element of a row and of X, as a callee is passed it
 use Prim.Native.Nat.{ℕ, zero, suc, _+_, _*_, _≤_, _<_, zero-le}
 use mathlib.Core.Path.{_≡_, refl, sym, _∙_, ap, ap₂}
@@ -34,7 +35,7 @@ use Rattle.geometry.specs.Table.{coordinate, placesWithin, rowsWithin}
 use Rattle.limits.specs.Limits.{total, rowLimit, channelLimit, coordinateLimit, centreLimit}
 use Rattle.geometry.specs.Move.{weightOf}
 use Rattle.geometry.specs.Places.{weightsTotal, centreOf}
-use Rattle.geometry.specs.Contracts.{CentreWithin, RowAt, TableWithin, Table, WeightsOf}
+use Rattle.geometry.specs.Contracts.{CentreWithin, RowAt, TableWithin, Table, WeightsWithin, WeightsOf}
 
 module _ (bound : ℕ) (l : List ℤ) where
   -- the test of one place
@@ -133,17 +134,22 @@ module _ {rows : List ℤ} {m n : ℕ} (t : Table rows m n) where
         bound = λ k l. t .bound i k h l;
       }
 
-pub weight-most : {m : ℕ} {ws : List ℕ} → WeightsOf m ws → (i : ℕ) → i < m → getD ws i 0 ≤ total
-unfolding weightsTotal
-weight-most {m} {ws} g i h = omega (arith, sumℕ-term (weightOf ws) m i h, g .sum)
+pub weights-within : {D B m : ℕ} {ws : List ℕ} → D ≤ B → WeightsOf D m ws → WeightsWithin B m ws
+weights-within h g = record { places = g .places; most = omega (arith, g .sum) }
 
--- the weights of the rows passed and of the next row are within the total
-pub weights-passed : {m : ℕ} {ws : List ℕ} → WeightsOf m ws → (i : ℕ) → i ≤ m → sumℕ i (weightOf ws) ≤ total
-unfolding weightsTotal
-weights-passed {m} {ws} g i l = omega (arith, sumℕ-part (weightOf ws) m i l, g .sum)
+module _ {B m : ℕ} {ws : List ℕ} (g : WeightsWithin B m ws) (i : ℕ) where
+  pub weight-most : i < m → getD ws i 0 ≤ B
+  unfolding weightsTotal
+  weight-most l = omega (arith, sumℕ-term (weightOf ws) m i l, g .most)
 
-pub weights-next : {m : ℕ} {ws : List ℕ} → WeightsOf m ws → (i : ℕ) → i < m → sumℕ i (weightOf ws) + weightOf ws i ≤ total
-weights-next {m} {ws} g i l = omega (arith, sumℕ-next (weightOf ws) i, weights-passed g (i + 1) (omega arith))
+  -- the weights of the rows passed, and with the next row's
+  pub weights-passed : i ≤ m → sumℕ i (weightOf ws) ≤ B
+  unfolding weightsTotal
+  weights-passed l = omega (arith, sumℕ-part (weightOf ws) m i l, g .most)
+
+  pub weights-next : i < m → sumℕ i (weightOf ws) + weightOf ws i ≤ B
+  unfolding weightsTotal
+  weights-next l = omega (arith, sumℕ-next (weightOf ws) i, sumℕ-part (weightOf ws) m (i + 1) (omega arith), g .most)
 
 -- ---- an element of a row and of X, as a callee is passed it
 

@@ -4,6 +4,7 @@
 --     printed-heading    the printing of codes within the limit is read as them
 --     heading-free       no byte that stands in no label stands in the printing of codes, the comma apart
 --     heading-length     how many bytes the printing of codes has at most, where no tag has more than three
+--     heading-most       the same where there are no more codes than channels
 use Prim.Native.Nat.{ℕ, zero, suc, _+_, _*_, _^_, _≤_, _<_}
 use mathlib.Core.Path.{_≡_, refl, sym, _∙_, ap, ap₂}
 use mathlib.Core.Bool.{Bool, true, false, cond, _&&_}
@@ -23,9 +24,11 @@ use Rattle.number.specs.NumberLaws.{plain-print, print-plain, print-free, magni
 use Rattle.label.specs.Label.{isLabel, isLabelByte}
 use Rattle.label.specs.LabelLaws.{label-free, no-digit, no-hyphen}
 use Rattle.channel.specs.Channel.{Types, codeOf, tagOf}
-use Rattle.limits.specs.Limits.{tagLimit}
+use Rattle.limits.specs.Limits.{channelLimit, tagLimit, channelDigits}
+use Rattle.limits.specs.LimitLaws.{channel-digits}
 use Rattle.channel.specs.ContractLaws.{ShortTags, type-short}
 use Rattle.channel.specs.ChannelLaws.{SoundTypes, Known, code-tag, tag-code, known-code, known-some, tags-free}
+use Rattle.heading.specs.Contracts.{headingMost}
 use Rattle.heading.specs.Heading.{countWithin, channelCount, andCode, codesOf, headingFields, headingOf, printHeading, CodesWithin}
 
 module _ (limit : ℕ) where
@@ -170,3 +173,7 @@ module _ (types : Types) (short : ShortTags types) where
   heading-length k word codes some-digit below =
       let count = print (pos (length codes)) in
       omega (arith, join-length comma word count (map (tagOf types) codes), magnitude-short k (length codes) some-digit below, tags-length count codes)
+
+  pub heading-most : (word codes : List ℕ) → length codes ≤ channelLimit → length (printHeading word types codes) ≤ headingMost word (length codes)
+  heading-most word codes within =
+      omega (arith, heading-length channelDigits word codes (omega arith) (omega (arith, channel-digits .below)))

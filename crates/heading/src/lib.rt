@@ -1,14 +1,14 @@
 // The heading of a reference text or a record: a word, n and n tags.
 ghost use mathlib.Core.Path.{_≡_};
 ghost use mathlib.Core.Option.{none};
-ghost use Prim.Native.Nat.{_+_, _*_, _≤_};
+ghost use Prim.Native.Nat.{_+_, _≤_};
 ghost use lib.ListN.{length, take};
 ghost use Rattle.limits.specs.Limits.{channelLimit, tagLimit};
 ghost use Rattle.text.specs.Parts.{comma, partsFrom};
 ghost use Rattle.printing.specs.Contracts.{Put};
 ghost use Rattle.channel.specs.Channel.{channelTypes, tagOf};
 ghost use Rattle.heading.specs.Heading.{headingOf, channelCount, printHeading};
-ghost use Rattle.heading.specs.Contracts.{headingRead, tagsRead};
+ghost use Rattle.heading.specs.Contracts.{headingRead, tagsRead, headingRoom};
 use channel::Code;
 use limits::CHANNELS;
 use number::Plain;
@@ -116,7 +116,7 @@ pub fn put_tag(out: &mut [u8], at: usize, code: Code) -> usize
 
 // The heading with this word and the first n codes, printed into a lent slice. Answers the index after it.
 pub fn put_heading(out: &mut [u8], at: usize, word: &[u8], codes: &[Code], n: usize) -> usize
-    requires { ⌜ (n ≤ channelLimit) × ((n ≤ length (now codes)) × (at + length (now word) + 21 + n * 4 ≤ length (now out))) ⌝ }
+    requires { ⌜ (n ≤ channelLimit) × ((n ≤ length (now codes)) × (at + headingRoom (now word) n ≤ length (now out))) ⌝ }
     ensures { λ r.
         ⌜ Put (printHeading (now (word .entry)) channelTypes (take n (now (codes .entry)))) (now (out .entry)) at (now (out .exit)) r ⌝ }
 {

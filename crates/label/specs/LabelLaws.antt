@@ -3,7 +3,7 @@
 --     digit-most                       a digit is at most 37
 --     key-long, key-short              the key of a field that is too long for a label, and of any other
 --     key-stop, key-further, key-done  the key from an index on, by the digit of the byte there, and at the end
---     digit-below, digit-fits          one digit more is one power of 38 more; up to 12 digits are below 38 ^ 12
+--     digit-below, digit-fits          one digit more is one power of 38 more; no more than a label has are below 38 ^ labelLimit
 --     key-label                        the key is 0 where the field is no label, and only there
 --     label-short                      a label has at most 12 bytes
 --     label-empty, label-long          a field of no bytes, or of more than 12, is no label
@@ -82,13 +82,13 @@ digit-most b = digit-read b .most
 
 -- ---- keys
 
-pub key-long : (f : List ℕ) → labelLimit < length f → labelKey f ≡ 0
+pub key-long : (f : List ℕ) → leb (length f) labelLimit ≡ false → labelKey f ≡ 0
 unfolding labelKey
-key-long f h = ap (λ t. cond t (keyFrom f 0) 0) (lt-leb (length f) labelLimit h)
+key-long f h = ap (λ t. cond t (keyFrom f 0) 0) h
 
-pub key-short : (f : List ℕ) → length f ≤ labelLimit → labelKey f ≡ keyFrom f 0
+pub key-short : (f : List ℕ) → leb (length f) labelLimit ≡ true → labelKey f ≡ keyFrom f 0
 unfolding labelKey
-key-short f h = ap (λ t. cond t (keyFrom f 0) 0) (le-leb (length f) labelLimit h)
+key-short f h = ap (λ t. cond t (keyFrom f 0) 0) h
 
 pub key-done : (f : List ℕ) (i k : ℕ) → length f ≤ i → keyFrom (drop i f) k ≡ k
 unfolding keyFrom
@@ -109,13 +109,13 @@ module _ (f : List ℕ) (i k d : ℕ) (h : i < length f) (e : d ≡ labelDigit (
   pub key-further : (d ≡ 0 → ⊥) → keyFrom (drop i f) k ≡ keyFrom (drop (i + 1) f) (k * 38 + d)
   key-further n = key-at ∙ after d (keyFrom (drop (i + 1) f)) k n
 
-power-most : (i : ℕ) → i ≤ labelLimit → 38 ^ i ≤ 38 ^ 12
+power-most : (i : ℕ) → i ≤ labelLimit → 38 ^ i ≤ 38 ^ labelLimit
 power-most i h = pow-le-pow-right (omega arith) h
 
 pub digit-below : (k i d : ℕ) → k < 38 ^ i → d ≤ 37 → k * 38 + d < 38 ^ (i + 1)
 digit-below k i d h m = omega (arith, ap (λ j. 38 ^ j) (add-one i) ∙ pow-suc 38 i)
 
-pub digit-fits : (k i : ℕ) → k < 38 ^ i → i < labelLimit → k * 38 + 37 < 38 ^ 12
+pub digit-fits : (k i : ℕ) → k < 38 ^ i → i < labelLimit → k * 38 + 37 < 38 ^ labelLimit
 digit-fits k i h l = omega (arith, power-most (i + 1) (omega arith), digit-below k i 37 h (omega arith))
 
 from-most : (l : List ℕ) (k i : ℕ) → k < 38 ^ i → keyFrom l k < 38 ^ (i + length l)
@@ -177,11 +177,11 @@ module _ (l : List ℕ) where
     unfolding isLabel
     by-limit t h = ap₂ (λ x y. (x && y) && labelBytes l) (le-leb 1 (length l) some) h
 
-    pub label-long : labelLimit < length l → isLabel l ≡ false
-    label-long h = by-limit false (lt-leb (length l) labelLimit h)
+    pub label-long : leb (length l) labelLimit ≡ false → isLabel l ≡ false
+    label-long = by-limit false
 
-    pub label-within : length l ≤ labelLimit → isLabel l ≡ labelBytes l
-    label-within h = by-limit true (le-leb (length l) labelLimit h)
+    pub label-within : leb (length l) labelLimit ≡ true → isLabel l ≡ labelBytes l
+    label-within = by-limit true
 
 pub bytes-done : (f : List ℕ) (i : ℕ) → length f ≤ i → labelBytes (drop i f) ≡ true
 unfolding labelBytes
@@ -236,14 +236,15 @@ spell-from (b ∷ l) k n h =
         ap (λ m. spell m (keyFrom l (k * 38 + suc d)) []) e ∙ f (k * 38 + suc d) (suc n)
         ∙ spell-digit n k d b l (omega (arith, r .most)) (r .back t)
 
-spell-key : (l : List ℕ) → isLabel l ≡ true → spell 12 (labelKey l) [] ≡ l
+spell-key : (l : List ℕ) → isLabel l ≡ true → spell labelLimit (labelKey l) [] ≡ l
 spell-key l h =
     let m = label-short l h in
-    let e : 12 ≡ 12 - length l + length l = omega arith in
-    ap₂ (λ n k. spell n k []) e (key-short l m) ∙ spell-from l 0 (12 - length l) (label-parts l h .1) ∙ spell-zero (12 - length l) l
+    let left = labelLimit - length l in
+    let e : labelLimit ≡ left + length l = omega arith in
+    ap₂ (λ n k. spell n k []) e (key-short l (label-parts l h .0)) ∙ spell-from l 0 left (label-parts l h .1) ∙ spell-zero left l
 
 pub key-injective : (k l : List ℕ) → isLabel k ≡ true → isLabel l ≡ true → labelKey k ≡ labelKey l → k ≡ l
-key-injective k l h g e = sym (spell-key k h) ∙ ap (λ n. spell 12 n []) e ∙ spell-key l g
+key-injective k l h g e = sym (spell-key k h) ∙ ap (λ n. spell labelLimit n []) e ∙ spell-key l g
 
 -- ---- the bytes of a label
 

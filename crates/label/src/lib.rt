@@ -1,9 +1,21 @@
 // Labels: 1 to 12 bytes of A-Z, 0-9 and hyphen. There are 37 such bytes and 38^12 is below 2^64, so that a label is told from
 // every other one by a number.
+pub mod row;
+
 ghost use mathlib.Core.Path.{_≡_};
+ghost use lib.Dec.{leb};
+ghost use lib.ListN.{length};
+ghost use Rattle.limits.specs.Limits.{labelLimit};
 ghost use Rattle.label.specs.Label.{isLabel};
 ghost use Rattle.label.specs.Key.{labelDigit, labelKey};
 use limits::LABEL_MOST;
+
+// Whether a field is short enough for a label.
+fn is_short(field: &[u8]) -> bool
+    ensures { λ r. ⌜ r ≡ leb (length (now (field .entry))) labelLimit ⌝ }
+{
+    field.len() <= LABEL_MOST
+}
 
 // 1 to 26 for a letter, 27 to 36 for a digit, 37 for a hyphen, 0 for any other byte.
 fn label_digit(byte: u8) -> u64
@@ -21,7 +33,7 @@ fn label_digit(byte: u8) -> u64
 pub fn label_key(field: &[u8]) -> u64
     ensures { λ r. ⌜ r ≡ labelKey (now (field .entry)) ⌝ }
 {
-    if LABEL_MOST < field.len() {
+    if !is_short(field) {
         return 0;
     }
     let mut key: u64 = 0;
@@ -44,7 +56,7 @@ pub fn is_label(field: &[u8]) -> bool
     if field.len() == 0 {
         return false;
     }
-    if LABEL_MOST < field.len() {
+    if !is_short(field) {
         return false;
     }
     let mut i = 0;

@@ -12,6 +12,7 @@ use Prim.Native.Nat.{ℕ, _+_}
 use mathlib.Core.List.{List, _++_}
 use lib.IntN.{pos}
 use Rattle.number.specs.Number.{print}
+use Rattle.printing.specs.Contracts.{numberRoom}
 use Rattle.message.specs.Ascii.{ascii}
 use Rattle.message.specs.Name.{escapedStart, escapedName, startRoom, nameRoom}
 
@@ -48,9 +49,8 @@ streamRoom = 15
 abbrev pub programRoom : ℕ
 programRoom = startRoom + 2
 
--- a number takes at most 20 bytes
 abbrev pub argumentRoom : ℕ
-argumentRoom = programRoom + 9 + 20
+argumentRoom = programRoom + 9 + numberRoom
 
 abbrev pub namedRoom : ℕ
 namedRoom = argumentRoom + 1 + nameRoom

@@ -26,6 +26,7 @@ use crate::name::START_ROOM;
 use crate::name::put_name;
 use crate::name::put_start;
 use libc::STDERR_FILENO;
+use printing::NUMBER_ROOM;
 use printing::put_bytes;
 use printing::put_number;
 
@@ -42,9 +43,6 @@ const STANDARD_OUTPUT: [u8; 15] = *b"standard output";
 const MISSING: [u8; 10] = *b": missing\n";
 
 const EXCESS: [u8; 15] = *b": one too many\n";
-
-// room for a number
-const NUMBER_ROOM: usize = 20;
 
 // room for every message; the longest is that of an argument which is one too many, with these parts
 const MESSAGE_ROOM: usize = START_ROOM + 2 + 9 + NUMBER_ROOM + 1 + NAME_ROOM + 15;

@@ -5,14 +5,14 @@ pub mod step;
 // A row that a pass over the rows found, and its s.
 pub struct Selected {
     pub row: usize,
-    pub distance: u64,
+    pub scaled_squared_distance: u64,
 }
 
 // The two rows of a move, s of the far row, g and d².
 pub struct Pair {
     pub far: usize,
     pub near: usize,
-    pub distance: u64,
+    pub scaled_squared_distance: u64,
     pub difference: u64,
     pub separation: u64,
 }

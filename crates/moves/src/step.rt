@@ -2,12 +2,11 @@
 ghost use mathlib.Core.Path.{_≡_};
 ghost use Prim.Native.Nat.{_≤_, _<_};
 ghost use lib.IntN.{natAbs, pos, _+ℤ_, _-ℤ_, _*ℤ_};
-ghost use Rattle.geometry.specs.Move.{cappedStep, weightOf, transfer, moved};
-ghost use Rattle.geometry.specs.Table.{coordinate};
+ghost use Rattle.geometry.specs.Move.{cappedStep, moveWeight};
 ghost use Rattle.limits.specs.Limits.{total, coordinateLimit, centreLimit, separationLimit, differenceLimit};
 ghost use Rattle.integers.specs.Reading.{Bounded};
 ghost use Rattle.geometry.specs.Contracts.{CentreWithin, RowAt, Table, WeightsOf, IsCentre};
-ghost use Rattle.moves.specs.Contracts.{Paired, shiftCentre};
+ghost use Rattle.moves.specs.Contracts.{Paired, Movable, shiftCentre};
 use crate::Pair;
 use crate::select::farthest_row;
 use crate::select::nearest_row;
@@ -17,21 +16,22 @@ use limits::CHANNELS;
 use limits::ROWS;
 use limits::TOTAL;
 
-// The far and the near row of the weights whose X is `centre`, with g and d².
-pub fn pair_of(rows: &[i32], m: usize, n: usize, weights: &[u32], centre: &[i64]) -> Pair
-    requires { ⌜ Table (now rows) m n × (WeightsOf m (now weights) × IsCentre (now rows) m n (now weights) (now centre)) ⌝ }
-    ensures { λ r. ⌜ Paired (now (rows .entry)) m n (now (weights .entry)) r ⌝ }
+// The far and the near row of the weights whose X is `scaled_centre`, with g and d².
+pub fn pair_of(rows: &[i32], m: usize, n: usize, weights: &[u32], scaled_centre: &[i64]) -> Pair
+    requires { ⌜ Table (now rows) m n × (WeightsOf total m (now weights) × IsCentre (now rows) m n (now weights) (now «scaled_centre»)) ⌝ }
+    ensures { λ r. ⌜ Paired total (now (rows .entry)) m n (now (weights .entry)) r ⌝ }
 {
-    let far = farthest_row(rows, m, n, centre);
-    let near = nearest_row(rows, m, n, weights, centre);
+    let far = farthest_row(rows, m, n, scaled_centre);
+    let near = nearest_row(rows, m, n, weights, scaled_centre);
     let far_row = far.row;
     let near_row = near.row;
-    let difference = (far.distance - near.distance) / (TOTAL as u64);
+    let gap = far.scaled_squared_distance - near.scaled_squared_distance;
+    let difference = gap / (TOTAL as u64);
     let separation = squared_distance(rows, n, far_row, near_row);
     Pair {
         far: far_row,
         near: near_row,
-        distance: far.distance,
+        scaled_squared_distance: far.scaled_squared_distance,
         difference,
         separation,
     }
@@ -50,21 +50,11 @@ pub fn transfer_of(difference: u64, separation: u64, weight: u32) -> u32
     weight
 }
 
-// The weights after one move: the near row loses t, the far row gains t. The body does not read rows, m and n; the contract
-// names the move by them.
-pub fn one_move(
-    rows: &[i32],
-    m: usize,
-    n: usize,
-    pair: Pair,
-    t: u32,
-    weights: [u32; ROWS],
-) -> [u32; ROWS]
-    requires { ⌜ Table (now rows) m n × (WeightsOf m weights × (Paired (now rows) m n weights pair × (t ≡ transfer total m n (coordinate (now rows) n) (weightOf weights)))) ⌝ }
-    ensures { λ r. ⌜ r ≡ moved total m n (coordinate (now (rows .entry)) n) weights ⌝ }
+// The weights after t has moved from one row to another (formula 31).
+pub fn one_move(weights: [u32; ROWS], from: usize, to: usize, t: u32) -> [u32; ROWS]
+    requires { ⌜ Movable t from to weights ⌝ }
+    ensures { λ r. ⌜ r ≡ moveWeight t from to weights ⌝ }
 {
-    let from = pair.near;
-    let to = pair.far;
     let mut changed = weights;
     changed[from] = changed[from] - t;
     changed[to] = changed[to] + t;
@@ -72,24 +62,24 @@ pub fn one_move(
 }
 
 // t times the difference of two coordinates, added to a coordinate of X.
-fn shifted(centre: i64, t: u32, gains: i32, loses: i32) -> i64
-    requires { ⌜ (natAbs centre ≤ centreLimit total) × ((t ≤ total) × ((natAbs gains ≤ coordinateLimit) × (natAbs loses ≤ coordinateLimit))) ⌝ }
-    ensures { λ r. ⌜ r ≡ centre +ℤ pos t *ℤ (gains -ℤ loses) ⌝ }
+fn shifted(scaled_centre: i64, t: u32, gains: i32, loses: i32) -> i64
+    requires { ⌜ (natAbs «scaled_centre» ≤ centreLimit total) × ((t ≤ total) × ((natAbs gains ≤ coordinateLimit) × (natAbs loses ≤ coordinateLimit))) ⌝ }
+    ensures { λ r. ⌜ r ≡ «scaled_centre» +ℤ pos t *ℤ (gains -ℤ loses) ⌝ }
 {
-    centre + (t as i64) * ((gains as i64) - (loses as i64))
+    scaled_centre + (t as i64) * ((gains as i64) - (loses as i64))
 }
 
 // X after t has moved from one row to another (formula 31).
 pub fn shift_centre(
-    centre: [i64; CHANNELS],
+    scaled_centre: [i64; CHANNELS],
     rows: &[i32],
     n: usize,
     from: usize,
     to: usize,
     t: u32,
 ) -> [i64; CHANNELS]
-    requires { ⌜ RowAt (now rows) n from × (RowAt (now rows) n to × (CentreWithin n centre × (t ≤ total))) ⌝ }
-    ensures { λ r. ⌜ r ≡ shiftCentre (now (rows .entry)) n from to t centre ⌝ }
+    requires { ⌜ RowAt (now rows) n from × (RowAt (now rows) n to × (CentreWithin n «scaled_centre» × (t ≤ total))) ⌝ }
+    ensures { λ r. ⌜ r ≡ shiftCentre (now (rows .entry)) n from to t «scaled_centre» ⌝ }
 {
     let mut changed = [0i64; CHANNELS];
     let from_base = from * n;
@@ -97,7 +87,7 @@ pub fn shift_centre(
     let count = channels(n);
     let mut k = 0;
     while k < count {
-        changed[k] = shifted(centre[k], t, rows[to_base + k], rows[from_base + k]);
+        changed[k] = shifted(scaled_centre[k], t, rows[to_base + k], rows[from_base + k]);
         k += 1;
     }
     changed

@@ -1,13 +1,14 @@
 -- What the code keeps of a number: its sign, and its magnitude up to 10^19.
---     magnitudeLimit      10^19
+--     magnitudeLimit      10^19, the least number with more digits than the largest s has
 --     saturated n         n, or 10^19 where n is larger
 --     grown n b           n with one more digit, the byte b
 --     magnitudeRead o     what the code answers for a number without a sign
 --     plainRead o         what the code answers for a plain number
-use Prim.Native.Nat.{ℕ, suc, _+_, _-_, _*_, min}
+use Prim.Native.Nat.{ℕ, suc, _+_, _-_, _*_, _^_, min}
 use mathlib.Core.Bool.{true, false}
 use mathlib.Core.Option.{Option, none, some}
 use lib.IntN.{ℤ, pos, negsuc}
+use Rattle.limits.specs.Limits.{distanceDigits}
 use Rattle.number.specs.Number.{digitZero}
 use Rattle.number.specs.declared.Magnitude.{Magnitude}
 use Rattle.number.specs.declared.Magnitude.the-variants as magnitude
@@ -15,7 +16,7 @@ use Rattle.number.specs.declared.Plain.{Plain}
 use Rattle.number.specs.declared.Plain.the-variants as written
 
 abbrev pub magnitudeLimit : ℕ
-magnitudeLimit = 10000000000000000000
+magnitudeLimit = 10 ^ distanceDigits
 
 abbrev pub saturated : ℕ → ℕ
 saturated n = min n magnitudeLimit

@@ -24,7 +24,7 @@ use Rattle.text.specs.Parts.{comma, lineEnd, join}
 use Rattle.text.specs.PartsLaws.{join-more}
 use Rattle.number.specs.Number.{decimal, printMagnitude, print}
 use Rattle.number.specs.NumberLaws.{decimal-more, print-short}
-use Rattle.printing.specs.Contracts.{numbersAfter, Put}
+use Rattle.printing.specs.Contracts.{numberDigits, fieldRoom, numbersAfter, Put}
 
 pub put-none : (out : List ℕ) (at : ℕ) → Put [] out at out at
 put-none out at = record { next = omega arith; is = sym (append-nil (take at out)); same-length = refl }
@@ -185,12 +185,12 @@ numbers-short k word (z ∷ zs) some-digit below =
     omega (arith, length-append word (comma ∷ join comma (print z ∷ map print zs)), mul-suc (k + 2) (length zs))
 
 pub numbers-room : (word : List ℕ) (count : ℕ) (zs : List ℤ) → count ≤ length zs → ((k : ℕ) → k < count → natAbs (getD zs k (pos 0)) < 2 ^ 63)
-    → length (numbersAfter word (take count zs)) ≤ length word + count * 21
+    → length (numbersAfter word (take count zs)) ≤ length word + count * fieldRoom
 numbers-room word count zs h small =
     let places : length (take count zs) ≡ count = length-take-le count zs h in
-    let below : (k : ℕ) → k < length (take count zs) → natAbs (getD (take count zs) k (pos 0)) < 10 ^ 19 =
+    let below : (k : ℕ) → k < length (take count zs) → natAbs (getD (take count zs) k (pos 0)) < 10 ^ numberDigits =
     λ k l. omega (arith, ap natAbs (getD-take count zs k (pos 0) (omega arith)), small k (omega arith)) in
-    omega (arith, numbers-short 19 word (take count zs) (omega arith) below)
+    omega (arith, numbers-short numberDigits word (take count zs) (omega arith) below)
 
 pub put-ended : {w out out′ : List ℕ} {at r : ℕ} → Put w out at out′ r → r < length out′ → Put (w ++ (lineEnd ∷ [])) out at (set out′ r lineEnd) (r + 1)
 put-ended {out′ = out′} {r = r} f h = put-then f (put-byte out′ r lineEnd h)

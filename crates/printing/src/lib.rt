@@ -5,9 +5,13 @@ ghost use lib.IntN.{pos, natAbs};
 ghost use lib.ListN.{length, getD, take};
 ghost use Rattle.number.specs.Number.{printMagnitude, print};
 ghost use Rattle.number.specs.Contracts.{magnitudeLimit};
-ghost use Rattle.printing.specs.Contracts.{numbersAfter, printNumbers, Put};
+ghost use Rattle.printing.specs.Contracts.{numberDigits, numberRoom, fieldRoom, numbersAfter, printNumbers, Put};
+use limits::DISTANCE_DIGITS;
 use text::parts::COMMA;
 use text::parts::LINE_END;
+
+// the room of a number: a hyphen and as many digits as the largest number that is printed has
+pub const NUMBER_ROOM: usize = 1 + DISTANCE_DIGITS;
 
 const ZERO: u8 = 48;
 
@@ -38,9 +42,9 @@ fn width(magnitude: u64) -> usize
     digits
 }
 
-// The digits of a number of at most 19, from the last to the first.
+// The digits of a number, from the last to the first.
 fn put_magnitude(out: &mut [u8], at: usize, magnitude: u64) -> usize
-    requires { ⌜ (magnitude < magnitudeLimit) × (at + 19 ≤ length (now out)) ⌝ }
+    requires { ⌜ (magnitude < magnitudeLimit) × (at + numberDigits ≤ length (now out)) ⌝ }
     ensures { λ r. ⌜ Put (printMagnitude magnitude) (now (out .entry)) at (now (out .exit)) r ⌝ }
 {
     let end = at + width(magnitude);
@@ -55,7 +59,7 @@ fn put_magnitude(out: &mut [u8], at: usize, magnitude: u64) -> usize
 }
 
 pub fn put_number(out: &mut [u8], at: usize, number: i64) -> usize
-    requires { ⌜ (natAbs number < 2 ^ 63) × (at + 20 ≤ length (now out)) ⌝ }
+    requires { ⌜ (natAbs number < 2 ^ 63) × (at + numberRoom ≤ length (now out)) ⌝ }
     ensures { λ r. ⌜ Put (print number) (now (out .entry)) at (now (out .exit)) r ⌝ }
 {
     if number < 0 {
@@ -68,7 +72,7 @@ pub fn put_number(out: &mut [u8], at: usize, number: i64) -> usize
 // A word and the first `count` numbers, each after a comma.
 pub fn put_numbers(out: &mut [u8], at: usize, word: &[u8], numbers: &[i64], count: usize) -> usize
     requires { ⌜ (count ≤ length (now numbers)) × (((k : ℕ) → k < count → natAbs (getD (now numbers) k (pos 0)) < 2 ^ 63)
-        × (at + length (now word) + count * 21 ≤ length (now out))) ⌝ }
+        × (at + length (now word) + count * fieldRoom ≤ length (now out))) ⌝ }
     ensures { λ r.
         ⌜ Put (numbersAfter (now (word .entry)) (take count (now (numbers .entry)))) (now (out .entry)) at (now (out .exit)) r ⌝ }
 {
@@ -85,7 +89,7 @@ pub fn put_numbers(out: &mut [u8], at: usize, word: &[u8], numbers: &[i64], coun
 // The same as a line, with its byte 10.
 pub fn put_line(out: &mut [u8], at: usize, word: &[u8], numbers: &[i64], count: usize) -> usize
     requires { ⌜ (count ≤ length (now numbers)) × (((k : ℕ) → k < count → natAbs (getD (now numbers) k (pos 0)) < 2 ^ 63)
-        × (at + length (now word) + count * 21 < length (now out))) ⌝ }
+        × (at + length (now word) + count * fieldRoom < length (now out))) ⌝ }
     ensures { λ r.
         ⌜ Put (printNumbers (now (word .entry)) (take count (now (numbers .entry)))) (now (out .entry)) at (now (out .exit)) r ⌝ }
 {

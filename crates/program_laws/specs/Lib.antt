@@ -1,5 +1,6 @@
--- What holds of the programs, in reading order: what follows enough bytes of a text changes no output; draw, verify and judge together;
--- what the first line of an output tells.
+-- What holds of the programs, in reading order: what follows enough bytes of a text changes no output; the rows of a reference text
+-- are Quiet; draw, verify and judge together; what the first line of an output tells.
 pub mod LongLaws
+pub mod QuietLaws
 pub mod TripLaws
 pub mod ToldLaws

@@ -23,9 +23,10 @@ use Rattle.text.specs.Parts.{comma, lineEnd, textWithin, cut, join, same, free,
 use Rattle.text.specs.PartsLaws.{same-eq, same-refl, join-cut, cut-join, cut-free, cut-keeps-free, join-free, join-length}
 use Rattle.label.specs.Label.{isLabel, isLabelByte}
 use Rattle.label.specs.LabelLaws.{label-free, label-short, no-digit, no-hyphen}
-use Rattle.channel.specs.Channel.{Types, typeOf, tagOf, codesKnown}
+use Rattle.channel.specs.Channel.{Types, tagOf, codesKnown}
+use Rattle.channel.specs.Contracts.{rangeOf}
 use Rattle.channel.specs.ChannelLaws.{SoundTypes, Known, tag-label, tags-free}
-use Rattle.value.specs.Value.{Written, lessThan, inRange, printValue}
+use Rattle.value.specs.Value.{Written, lessThan, valueInRange, printValue}
 use Rattle.value.specs.ValueLaws.{value-free, valueLimit, value-short}
 use Rattle.value.specs.Values.{valuesOf, valuesInRange}
 use Rattle.value.specs.ValuesLaws.{values-printed, printed-values}
@@ -245,7 +246,7 @@ module _ (types : Types) where
     pairs-short [] values known-each h first = omega arith
     pairs-short (code ∷ codes) [] known-each h first = omega arith
     pairs-short (code ∷ codes) (v ∷ values) known-each h first =
-        let tests = both (inRange (typeOf types code) v) (valuesInRange types codes values) h in
+        let tests = both (valueInRange (rangeOf types code) v) (valuesInRange types codes values) h in
         let fields = pairFields (map (tagOf types) codes) values in
         let tag = label-short (tagOf types code) (tag-label types sound code (each-head (Known types) 0 code codes known-each)) in
         let value = value-short types sound code v (tests .0) in

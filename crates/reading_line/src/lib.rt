@@ -46,7 +46,8 @@ fn read_pairs(line: &[u8], at: usize, codes: &[Code], n: usize, places: &mut [i3
         tags_agree = channel::is_tag(&line[from..tag_end], code) & tags_agree;
         let value_at = tag_end + 1;
         let end = field_end(line, value_at);
-        let value = read_value(&line[value_at..end], code);
+        let range = channel::range_of(code);
+        let value = read_value(&line[value_at..end], range);
         match value {
             Value::Malformed => return Line::Malformed,
             Value::OutOfRange => out_of_range = true,

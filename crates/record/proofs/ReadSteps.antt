@@ -33,11 +33,14 @@ use Rattle.channel.specs.Channel.{Types}
 use Rattle.channel.specs.ChannelLaws.{SoundTypes}
 use Rattle.envelope.specs.Figures.{figuresOf}
 use Rattle.envelope.specs.Agreement.{agrees}
+use Rattle.envelope.specs.declared.Figures.{Figures}
+use Rattle.envelope.specs.declared.Envelope.{Envelope}
 use Rattle.record_form.specs.Record.{Record, Form, faulty, sound, form}
 use Rattle.record_form.specs.RecordLaws.{form-printed, form-faults}
 use Rattle.record_form.specs.Contracts.{statedForm}
 use Rattle.record_form.specs.declared.form.Stated.{Stated}
 use Rattle.record.specs.declared.EnvelopeRead.{EnvelopeRead}
+use Rattle.record.specs.Made.{filledBall, envelopeOf}
 use Rattle.record.specs.Contracts.{notRead, statedBall, formAnswer, ballAnswer, statedAnswer}
 use Rattle.record.specs.HeldLaws.{Holding, held-answer}
 
@@ -50,26 +53,18 @@ none-below : {P : Type 0} (k : ℕ) → ltZ (pos k) (pos 0) ≡ true → P
 none-below k h = absurd (omega (arith, ltb-true k 0 h))
 
 pub record Signs (s : Stated) : Type 0 where
-  pub radius-fits : SFits w64 (s .radius)
-  pub floor-fits : SFits w64 (s .floor)
-  pub radius-not : ltZ (back w64 (s .radius)) (pos 0) ≡ false
-  pub floor-not : ltZ (back w64 (s .floor)) (pos 0) ≡ false
+  pub radius-fits : SFits w64 (s .«scaled_squared_radius»)
+  pub floor-fits : SFits w64 (s .«scaled_lower_bound»)
+  pub radius-not : ltZ (back w64 (s .«scaled_squared_radius»)) (pos 0) ≡ false
+  pub floor-not : ltZ (back w64 (s .«scaled_lower_bound»)) (pos 0) ≡ false
 
 abbrev pub ballRead : Stated → Ball
 ballRead s =
-    record {
-      «scaled_centre» = s .centre;
-      «scaled_squared_radius» = natAbs (back w64 (s .radius));
-      «scaled_lower_bound» = natAbs (back w64 (s .floor));
-      settled = s .settled;
-    }
+    filledBall (s .«scaled_centre») (natAbs (back w64 (s .«scaled_squared_radius»))) (natAbs (back w64 (s .«scaled_lower_bound»))) (s .settled)
 
 abbrev pub envelopeRead : Stated → EnvelopeRead
 envelopeRead s =
-    record {
-      outcome = Accepted;
-      envelope = record { figures = figuresOf (s .n) (s .codes) (ballRead s) (s .moves); weights = s .weights };
-    }
+    record { outcome = Accepted; envelope = envelopeOf (figuresOf (s .n) (s .codes) (ballRead s) (s .moves)) (s .weights) }
 
 module _ (D limit : ℕ) (rows : List ℤ) (m : ℕ) (codes : List ℕ) (s : Stated) where
   abbrev turned : EnvelopeRead
@@ -77,35 +72,35 @@ module _ (D limit : ℕ) (rows : List ℤ) (m : ℕ) (codes : List ℕ) (s : Sta
 
   pub codes-differ : same codes (take (s .n) (s .codes)) ≡ false → turned ≡ statedAnswer D limit rows m codes s
   unfolding statedAnswer
-  codes-differ e = go (statedBall (s .centre) (s .radius) (s .floor) (s .settled))
+  codes-differ e = go (statedBall (s .«scaled_centre») (s .«scaled_squared_radius») (s .«scaled_lower_bound») (s .settled))
     where
       go : (o : Option Ball) → turned ≡ ballAnswer D limit rows m codes s o
       go none = refl
       go (some ball) = rw e
 
-  pub radius-below : SFits w64 (s .radius) → ltZ (back w64 (s .radius)) (pos 0) ≡ true → turned ≡ statedAnswer D limit rows m codes s
+  pub radius-below : SFits w64 (s .«scaled_squared_radius») → ltZ (back w64 (s .«scaled_squared_radius»)) (pos 0) ≡ true → turned ≡ statedAnswer D limit rows m codes s
   unfolding statedAnswer
-  radius-below f h = go (s .radius) (ap (λ x. ltZ x (pos 0)) (sym (toZ-ofZ f)) ∙ h)
+  radius-below f h = go (s .«scaled_squared_radius») (ap (λ x. ltZ x (pos 0)) (sym (toZ-ofZ f)) ∙ h)
     where
-      go : (M : ℤ) → ltZ M (pos 0) ≡ true → turned ≡ ballAnswer D limit rows m codes s (statedBall (s .centre) M (s .floor) (s .settled))
+      go : (M : ℤ) → ltZ M (pos 0) ≡ true → turned ≡ ballAnswer D limit rows m codes s (statedBall (s .«scaled_centre») M (s .«scaled_lower_bound») (s .settled))
       go (pos k) h = none-below k h
       go (negsuc k) h = refl
 
-  pub floor-below : SFits w64 (s .floor) → ltZ (back w64 (s .floor)) (pos 0) ≡ true → turned ≡ statedAnswer D limit rows m codes s
+  pub floor-below : SFits w64 (s .«scaled_lower_bound») → ltZ (back w64 (s .«scaled_lower_bound»)) (pos 0) ≡ true → turned ≡ statedAnswer D limit rows m codes s
   unfolding statedAnswer
-  floor-below f h = go (s .radius) (s .floor) (ap (λ x. ltZ x (pos 0)) (sym (toZ-ofZ f)) ∙ h)
+  floor-below f h = go (s .«scaled_squared_radius») (s .«scaled_lower_bound») (ap (λ x. ltZ x (pos 0)) (sym (toZ-ofZ f)) ∙ h)
     where
-      go : (M L : ℤ) → ltZ L (pos 0) ≡ true → turned ≡ ballAnswer D limit rows m codes s (statedBall (s .centre) M L (s .settled))
+      go : (M L : ℤ) → ltZ L (pos 0) ≡ true → turned ≡ ballAnswer D limit rows m codes s (statedBall (s .«scaled_centre») M L (s .settled))
       go (pos j) (pos k) h = none-below k h
       go (pos j) (negsuc k) h = refl
       go (negsuc j) L h = refl
 
   module _ (signs : Signs s) where
-    stated : statedBall (s .centre) (s .radius) (s .floor) (s .settled) ≡ some (ballRead s)
+    stated : statedBall (s .«scaled_centre») (s .«scaled_squared_radius») (s .«scaled_lower_bound») (s .settled) ≡ some (ballRead s)
     stated =
-        ap₂ (λ M L. statedBall (s .centre) M L (s .settled))
-        (sym (toZ-ofZ (signs .radius-fits)) ∙ abs-nonneg (back w64 (s .radius)) (signs .radius-not))
-        (sym (toZ-ofZ (signs .floor-fits)) ∙ abs-nonneg (back w64 (s .floor)) (signs .floor-not))
+        ap₂ (λ M L. statedBall (s .«scaled_centre») M L (s .settled))
+        (sym (toZ-ofZ (signs .radius-fits)) ∙ abs-nonneg (back w64 (s .«scaled_squared_radius»)) (signs .radius-not))
+        (sym (toZ-ofZ (signs .floor-fits)) ∙ abs-nonneg (back w64 (s .«scaled_lower_bound»)) (signs .floor-not))
 
     -- n and the tags are those given
     module _ (n : ℕ) (count : length codes ≡ n) (agreed : same codes (take (s .n) (s .codes)) ≡ true) where
@@ -117,11 +112,22 @@ module _ (D limit : ℕ) (rows : List ℤ) (m : ℕ) (codes : List ℕ) (s : Sta
           (sym h ∙ ap (λ j. agrees D limit rows m j (ballRead s) (s .weights)) (sym count))
           ∙ ap (ballAnswer D limit rows m codes s) (sym stated)
 
-      pub disagreeing : agrees D limit rows m n (ballRead s) (s .weights) ≡ false → turned ≡ statedAnswer D limit rows m codes s
-      disagreeing = answer false
+      -- the ball as it is made
+      module _ {ball : Ball} (is : ball ≡ ballRead s) where
+        tested : (t : Bool) → agrees D limit rows m n ball (s .weights) ≡ t
+            → choose t (λ _. envelopeRead s) (λ _. turned) ≡ statedAnswer D limit rows m codes s
+        tested t h = answer t (ap (λ (b : Ball). agrees D limit rows m n b (s .weights)) (sym is) ∙ h)
 
-      pub agreeing : agrees D limit rows m n (ballRead s) (s .weights) ≡ true → envelopeRead s ≡ statedAnswer D limit rows m codes s
-      agreeing = answer true
+        pub disagreeing : agrees D limit rows m n ball (s .weights) ≡ false → turned ≡ statedAnswer D limit rows m codes s
+        disagreeing = tested false
+
+        pub agreeing : {figures : Figures} {envelope : Envelope} → figures ≡ figuresOf (s .n) (s .codes) ball (s .moves)
+            → envelope ≡ envelopeOf figures (s .weights) → agrees D limit rows m n ball (s .weights) ≡ true
+            → record { outcome = Accepted; envelope = envelope } ≡ statedAnswer D limit rows m codes s
+        agreeing f e h =
+            ap (λ (x : Envelope). record { outcome = Accepted; envelope = x })
+            (e ∙ ap (λ (x : Figures). envelopeOf x (s .weights)) (f ∙ ap (λ (b : Ball). figuresOf (s .n) (s .codes) b (s .moves)) is))
+            ∙ tested true h
 
 -- ---- a text
 

@@ -1,21 +1,15 @@
 -- What stands in the buffer after a text is written.
 --     printed-length, -text, -fits          a record's text stands in the first places of what was printed into
-use Prim.Native.Nat.{ℕ, suc, _≤_}
-use mathlib.Core.Path.{_≡_, sym, ap}
-use mathlib.Core.List.{List, _++_}
+use Prim.Native.Nat.{ℕ, _≤_}
+use mathlib.Core.Path.{_≡_, ap}
+use mathlib.Core.List.{List}
 use native.Mathlib.Omega.{arith}
-use lib.ListN.{length, take, drop, length-take}
-use lib.Seq.{length-take-le}
-use Rattle.lent.specs.Filled.{filled, filled-refused, filled-length}
-use Rattle.refusal.specs.Outcome.{numberOf, refused}
+use lib.ListN.{length, take, length-take}
 use Rattle.printing.specs.Contracts.{Put}
 use Rattle.channel.specs.Channel.{Types}
 use Rattle.envelope.specs.declared.Envelope.{Envelope}
 use Rattle.record_form.specs.Record.{printRecord}
 use Rattle.record_print.specs.Printed.{recordOf, recordText}
-use Rattle.lent.specs.declared.TextWritten.{TextWritten}
-use Rattle.lent.specs.Contracts.{notWritten, Part, textWritten}
-use Rattle.lent.specs.ContractLaws.{text-most}
 
 -- ---- what is written
 

@@ -1,6 +1,5 @@
 -- What the two calls on records answer, for any total D, row limit and table of types.
---     noEnvelope limit                               what stands beside a refusal: every figure and weight 0
---     notRead limit outcome                          a refused record
+--     notRead limit outcome                          a refused record: every figure and weight 0
 --     statedBall X M L settled                       the ball of these figures, if M and L are 0 or more
 --     ballOfRecord r                                 the ball that a record states, X in its eight places
 --     statedEnvelope limit r ball                    the envelope that a record states, with this ball
@@ -15,20 +14,19 @@
 use Prim.Native.Nat.{ℕ, _≤_}
 use mathlib.Core.Path.{_≡_}
 use mathlib.Core.Bool.{Bool, true, _&&_}
-use mathlib.Core.List.{List, []}
+use mathlib.Core.List.{List}
 use mathlib.Core.Option.{Option, none, some}
 use lib.Dec.{leb}
 use lib.IntN.{ℤ, pos, negsuc}
-use lib.ListN.{length, take, replicate}
+use lib.ListN.{length, take}
 use Rattle.lists.specs.Padded.{padded}
-use Rattle.refusal.specs.Number.{text-length, outside-limits, record-form, disagreement, buffer-short}
+use Rattle.refusal.specs.Number.{text-length, outside-limits, record-form, disagreement}
 use Rattle.refusal.specs.Outcome.{refused, refusedAt, choose}
 use Rattle.refusal.specs.declared.Outcome.{Outcome}
 use Rattle.refusal.specs.declared.Outcome.the-variants.{Accepted}
 use Rattle.geometry.specs.Table.{rowsWithin}
 use Rattle.limits.specs.Limits.{channelLimit, rowLimit}
 use Rattle.geometry.specs.Places.{centreList, centreOf}
-use Rattle.ball.specs.Ball.{noBall}
 use Rattle.ball.specs.declared.Ball.{Ball}
 use Rattle.text.specs.Parts.{textWithin, same}
 use Rattle.channel.specs.Channel.{Types, codesKnown}
@@ -40,33 +38,28 @@ use Rattle.record_form.specs.Weights.{weightsOf}
 use Rattle.record_form.specs.declared.form.Stated.{Stated}
 use Rattle.record_print.specs.Printed.{recordText}
 use Rattle.lent.specs.Contracts.{notWritten, textWritten}
+use Rattle.record.specs.Made.{filledBall, envelopeOf, emptyEnvelope}
 use Rattle.record.specs.declared.EnvelopeRead.{EnvelopeRead}
 use Rattle.lent.specs.declared.TextWritten.{TextWritten}
 
 -- ---- reading
 
-abbrev pub noEnvelope : ℕ → Envelope
-noEnvelope limit = record { figures = figuresOf 0 (padded channelLimit []) noBall 0; weights = replicate limit 0 }
-
 abbrev pub notRead : ℕ → Outcome → EnvelopeRead
-notRead limit o = record { outcome = o; envelope = noEnvelope limit }
+notRead limit o = record { outcome = o; envelope = emptyEnvelope limit }
 
 abbrev pub statedBall : List ℤ → ℤ → ℤ → Bool → Option Ball
-statedBall X (pos M) (pos L) s = some (record { «scaled_centre» = X; «scaled_squared_radius» = M; «scaled_lower_bound» = L; settled = s })
+statedBall X (pos M) (pos L) s = some (filledBall X M L s)
 statedBall X (pos M) (negsuc k) s = none
 statedBall X (negsuc k) L s = none
 
 abbrev pub ballOfRecord : Record → Option Ball
 ballOfRecord r =
-    statedBall (centreList (length (r .codes)) (centreOf (r .centre))) (r .result .radius) (r .result .floor) (r .result .settled)
+    statedBall (centreList (length (r .codes)) (centreOf (r .scaledCentre))) (r .result .scaledSquaredRadius) (r .result .scaledLowerBound) (r .result .settled)
 
 -- a row without a `W` line has weight 0; moves are taken as written
 abbrev pub statedEnvelope : ℕ → Record → Ball → Envelope
 statedEnvelope limit r ball =
-    record {
-      figures = figuresOf (length (r .codes)) (padded channelLimit (r .codes)) ball (r .result .moves);
-      weights = weightsOf limit (r .weights);
-    }
+    envelopeOf (figuresOf (length (r .codes)) (padded channelLimit (r .codes)) ball (r .result .moves)) (weightsOf limit (r .weights))
 
 -- n and tags are those given, and figures, letter and rows agree with the check; else 12
 abbrev pub agreedRecord : ℕ → ℕ → List ℤ → ℕ → List ℕ → Record → Option Ball → EnvelopeRead
@@ -98,11 +91,11 @@ abbrev pub ballAnswer : ℕ → ℕ → List ℤ → ℕ → List ℕ → Stated
 ballAnswer D limit rows m codes s none = notRead limit (refused disagreement)
 ballAnswer D limit rows m codes s (some ball) =
     choose (same codes (take (s .n) (s .codes)) && agrees D limit rows m (length codes) ball (s .weights))
-    (λ _. record { outcome = Accepted; envelope = record { figures = figuresOf (s .n) (s .codes) ball (s .moves); weights = s .weights } })
+    (λ _. record { outcome = Accepted; envelope = envelopeOf (figuresOf (s .n) (s .codes) ball (s .moves)) (s .weights) })
     (λ _. notRead limit (refused disagreement))
 
 unfoldable pub statedAnswer : ℕ → ℕ → List ℤ → ℕ → List ℕ → Stated → EnvelopeRead
-statedAnswer D limit rows m codes s = ballAnswer D limit rows m codes s (statedBall (s .centre) (s .radius) (s .floor) (s .settled))
+statedAnswer D limit rows m codes s = ballAnswer D limit rows m codes s (statedBall (s .«scaled_centre») (s .«scaled_squared_radius») (s .«scaled_lower_bound») (s .settled))
 
 pub record Agreeing (rows : List ℤ) (m n : ℕ) (codes : List ℕ) (s : Stated) : Type 0 where
   pub within : rowsWithin rowLimit rows m n ≡ true

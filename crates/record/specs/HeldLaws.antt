@@ -1,7 +1,6 @@
 -- A record as it is read keeps a number that an i64 or a u32 does not hold as the largest that it does. It answers what the record
 -- itself does: figures that agree are below that, and a number that was cut is above every limit.
 --     Holding D, holding-total     no figure for the total D is cut; so it is for the total that the contracts fix
---     held-size, held-same         the size of a kept number, and a number that is kept as it is
 --     weights-held                 the weights of kept `W` lines are the weights, kept
 --     held-answer                  the record as it is read answers what the record does
 use Prim.Native.Nat.{ℕ, zero, suc, _-_, _≤_, _<_, min}
@@ -10,10 +9,9 @@ use mathlib.Core.Bool.{Bool, true, false, _&&_}
 use mathlib.Core.List.{List, [], _∷_, map}
 use native.Mathlib.Omega.{arith}
 use lib.Dec.{lit<}
-use lib.IntN.{ℤ, pos, negsuc, negℤ, natAbs}
+use lib.IntN.{ℤ, pos, negsuc, natAbs}
 use lib.ListN.{length, getD, set, replicate, length-map, List·getD-map}
 use lib.Seq.{ext-getD}
-use Rattle.integers.specs.Absolute.{abs-neg}
 use Rattle.lists.specs.Padded.{padded, padded-take}
 use Rattle.refusal.specs.Number.{disagreement}
 use Rattle.refusal.specs.Outcome.{refused, choose}
@@ -27,11 +25,14 @@ use Rattle.text.specs.PartsLaws.{same-eq}
 use Rattle.envelope.specs.Figures.{figuresOf}
 use Rattle.envelope.specs.Agreement.{agrees}
 use Rattle.envelope.specs.AgreementLaws.{agrees-agreed, agreed-tight, agreed-weight}
-use Rattle.record_form.specs.Lines.{Weight}
+use Rattle.record_lines.specs.Lines.{Weight}
 use Rattle.record_form.specs.Record.{Record, sound}
 use Rattle.record_form.specs.Weights.{placedIn, weightsOf}
-use Rattle.record_form.specs.Contracts.{heldLimit, heldWeightLimit, held, heldWeight, heldWeights, heldRecord, statedRecord}
+use Rattle.record_lines.specs.Contracts.{heldLimit, heldWeightLimit, held, heldWeight}
+use Rattle.record_lines.specs.ContractLaws.{held-size, held-same, held-negative}
+use Rattle.record_form.specs.Contracts.{heldWeights, heldRecord, statedRecord}
 use Rattle.record.specs.declared.EnvelopeRead.{EnvelopeRead}
+use Rattle.record.specs.Made.{filledBall, envelopeOf}
 use Rattle.record.specs.Contracts.{notRead, statedBall, agreedRecord, formAnswer, ballAnswer, statedAnswer}
 
 -- ---- numbers
@@ -44,20 +45,6 @@ pub record Holding (D : ℕ) : Type 0 where
 
 pub holding-total : Holding total
 holding-total = record { positive = lit< tt; centre-below = lit< tt; distance-below = lit< tt; weight-below = lit< tt }
-
-pub held-size : (z : ℤ) → natAbs (held z) ≡ min (natAbs z) heldLimit
-held-size (pos k) = refl
-held-size (negsuc k) = abs-neg (pos (min (suc k) heldLimit))
-
-pub held-same : (z : ℤ) → natAbs z < heldLimit → held z ≡ z
-held-same (pos k) h = ap pos (omega arith)
-held-same (negsuc k) h = let e : min (suc k) heldLimit ≡ suc k = omega arith in ap (λ j. negℤ (pos j)) e
-
--- a number below 0 is kept as one below 0
-held-negative : (k : ℕ) → (j : ℕ) × (held (negsuc k) ≡ negsuc j)
-held-negative k =
-    let e : min (suc k) heldLimit ≡ suc (min (suc k) heldLimit - 1) = omega arith in
-    (min (suc k) heldLimit - 1, ap (λ j. negℤ (pos j)) e)
 
 -- ---- weights
 
@@ -84,8 +71,7 @@ weights-held limit ws = ap (λ (l : List ℕ). placedIn l (heldWeights ws)) (sym
 -- ---- figures that are not cut
 
 abbrev ballWith : ℕ → List ℤ → ℕ → ℕ → Bool → Ball
-ballWith n X M L settled =
-    record { «scaled_centre» = centreList n (centreOf X); «scaled_squared_radius» = M; «scaled_lower_bound» = L; settled = settled }
+ballWith n X M L settled = filledBall (centreList n (centreOf X)) M L settled
 
 -- X in its n places, M, L and the weights are within these limits
 record Most (n : ℕ) (X : List ℤ) (M L : ℕ) (ws : List ℕ) (centre-most distance-most weight-most : ℕ) : Type 0 where
@@ -186,8 +172,7 @@ module _ (D : ℕ) (holding : Holding D) (rows : List ℤ) (m : ℕ) (codes : Li
       (λ _.
       record {
         outcome = Accepted;
-        envelope =
-            record { figures = figuresOf (length (r .codes)) (padded channelLimit (r .codes)) ball (r .result .moves); weights = ws };
+        envelope = envelopeOf (figuresOf (length (r .codes)) (padded channelLimit (r .codes)) ball (r .result .moves)) ws;
       })
       (λ _. notRead rowLimit (refused disagreement))
 
@@ -201,23 +186,23 @@ module _ (D : ℕ) (holding : Holding D) (rows : List ℤ) (m : ℕ) (codes : Li
 
   pub held-answer : statedAnswer D rowLimit rows m codes (statedRecord (heldRecord r)) ≡ formAnswer D rowLimit rows m codes (sound r)
   unfolding statedAnswer
-  held-answer = go (r .result .radius) (r .result .floor)
+  held-answer = go (r .result .scaledSquaredRadius) (r .result .scaledLowerBound)
     where
       go : (M L : ℤ)
           → ballAnswer D rowLimit rows m codes (statedRecord (heldRecord r))
-          (statedBall (centreList (length (r .codes)) (centreOf (map held (r .centre)))) (held M) (held L) (r .result .settled))
+          (statedBall (centreList (length (r .codes)) (centreOf (map held (r .scaledCentre)))) (held M) (held L) (r .result .settled))
           ≡ agreedRecord D rowLimit rows m codes r
-          (statedBall (centreList (length (r .codes)) (centreOf (r .centre))) M L (r .result .settled))
+          (statedBall (centreList (length (r .codes)) (centreOf (r .scaledCentre))) M L (r .result .settled))
       go (pos M) (pos L) =
-          ap₂ (λ tags ws. answerWith tags (ballWith (length (r .codes)) (map held (r .centre)) (min M heldLimit) (min L heldLimit) (r .result .settled)) ws)
+          ap₂ (λ tags ws. answerWith tags (ballWith (length (r .codes)) (map held (r .scaledCentre)) (min M heldLimit) (min L heldLimit) (r .result .settled)) ws)
           (padded-take channelLimit (r .codes) channels) (weights-held rowLimit (r .weights))
-          ∙ kept-by D rowLimit rows m (length (r .codes)) holding channels (r .result .settled) (r .centre) M L (weightsOf rowLimit (r .weights))
+          ∙ kept-by D rowLimit rows m (length (r .codes)) holding channels (r .result .settled) (r .scaledCentre) M L (weightsOf rowLimit (r .weights))
           (answerWith (r .codes)) (notRead rowLimit (refused disagreement)) turned
       go (pos M) (negsuc k) =
           ap (λ z. ballAnswer D rowLimit rows m codes (statedRecord (heldRecord r))
-          (statedBall (centreList (length (r .codes)) (centreOf (map held (r .centre)))) (held (pos M)) z (r .result .settled)))
+          (statedBall (centreList (length (r .codes)) (centreOf (map held (r .scaledCentre)))) (held (pos M)) z (r .result .settled)))
           (held-negative k .1)
       go (negsuc k) L =
           ap (λ z. ballAnswer D rowLimit rows m codes (statedRecord (heldRecord r))
-          (statedBall (centreList (length (r .codes)) (centreOf (map held (r .centre)))) z (held L) (r .result .settled)))
+          (statedBall (centreList (length (r .codes)) (centreOf (map held (r .scaledCentre)))) z (held L) (r .result .settled)))
           (held-negative k .1)

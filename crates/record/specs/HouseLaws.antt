@@ -2,7 +2,7 @@
 --     Arrays e                       what every envelope of the code has: 256 weights of 32 bits
 --     house-room                     a record is within recordRoom
 --     house-text                     so that it has at most 65,536 bytes, and 1 never meets one of ours
---     house-most                     a record that is written has at most recordMost bytes, 12 for each of its m rows and 180 besides
+--     house-most                     a record that is written has at most recordMost bytes
 --     house-enough                   so that 13 never answers a buffer of so many places
 --     house-written-read             2.11: a written record, read against the same rows and codes, gives its own envelope, cleared
 --     house-drawn-most               the record of a drawn envelope has at most recordMost bytes
@@ -21,7 +21,7 @@ use Rattle.refusal.specs.Number.{disagreement, buffer-short}
 use Rattle.refusal.specs.Outcome.{refused, numberOf}
 use Rattle.refusal.specs.declared.Outcome.the-variants.{Accepted}
 use Rattle.geometry.specs.Table.{rowsWithin}
-use Rattle.limits.specs.Limits.{total, rowLimit, channelLimit, textLimit}
+use Rattle.limits.specs.Limits.{total, rowLimit, channelLimit, textLimit, rowDigits, weightDigits, centreDigits, distanceDigits, movesDigits}
 use Rattle.geometry.specs.TableLaws.{within-limits}
 use Rattle.ball.specs.Draw.{drawing}
 use Rattle.ball.specs.DrawnWeights.{drawing-length}
@@ -34,7 +34,8 @@ use Rattle.envelope.specs.FigureLaws.{known-within, known-coded}
 use Rattle.envelope.specs.Agreement.{cleared, drawnEnvelope}
 use Rattle.envelope.specs.AgreementLaws.{agrees-agreed, agreed-weight}
 use Rattle.envelope.specs.declared.Envelope.{Envelope}
-use Rattle.record_print.specs.Printed.{recordOf, recordText, recordRoom, recordMost}
+use Rattle.record_print.specs.Printed.{recordOf, recordText, recordMost}
+use Rattle.record_print.specs.Contracts.{recordRoom}
 use Rattle.record_print.specs.PrintedLaws.{heading-short, centre-short, result-short, lines-short, record-length, record-room}
 use Rattle.record.specs.Contracts.{recordRead, recordWritten}
 use Rattle.lent.specs.Contracts.{notWritten, written}
@@ -84,11 +85,11 @@ module _ (rows : List ℤ) (m : ℕ) (e : Envelope) where
         few,
         figures .channels,
         record-length channelTypes (recordOf f (e .weights)),
-        heading-short f channelTypes house-short (omega (arith, figures .channels)) (known-coded total channelTypes f (writing .figures-kept) .typed),
-        centre-short 9 (f .n) (ball .«scaled_centre») (omega arith) (figures .places) (λ k h. omega (arith, figures .centre-limit k h)),
-        result-short 19 7 (ball .«scaled_squared_radius») (ball .«scaled_lower_bound») (f .moves) (omega arith) (omega arith)
+        heading-short f channelTypes house-short (figures .channels) (known-coded total channelTypes f (writing .figures-kept) .typed),
+        centre-short centreDigits (f .n) (ball .«scaled_centre») (omega arith) (figures .places) (λ k h. omega (arith, figures .centre-limit k h)),
+        result-short distanceDigits movesDigits (ball .«scaled_squared_radius») (ball .«scaled_lower_bound») (f .moves) (omega arith) (omega arith)
             (omega (arith, figures .radius-limit)) (omega (arith, figures .floor-limit)) (omega (arith, figures .moves-limit)) (ball .settled),
-        lines-short 3 5 (omega arith) (omega arith) 1 m (e .weights) (λ i h. omega (arith, few))
+        lines-short rowDigits weightDigits (omega arith) (omega arith) 1 m (e .weights) (λ i h. omega (arith, few))
             (λ i h. omega (arith, agreed-weight total rowLimit rows m (f .n) ball (e .weights) agreed i)) (agreed .rest),
       )
 

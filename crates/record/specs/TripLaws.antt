@@ -45,12 +45,13 @@ use Rattle.channel.specs.CodesLaws.{codes-each, each-codes}
 use Rattle.envelope.specs.Agreement.{agrees, withCentre, clearedBall, cleared}
 use Rattle.envelope.specs.AgreementLaws.{agrees-agreed, agrees-cleared, agreed-within, agreed-tight, agreed-some}
 use Rattle.envelope.specs.declared.Envelope.{Envelope}
-use Rattle.record_form.specs.Lines.{Weight}
+use Rattle.record_lines.specs.Lines.{Weight}
 use Rattle.record_form.specs.Record.{Record, Form, sound, printRecord, weightsWithin, Within}
 use Rattle.record_form.specs.RecordLaws.{form-printed, printed-form, printed-count}
 use Rattle.record_form.specs.Weights.{weightsOf, listed}
 use Rattle.record_form.specs.WeightsLaws.{ShortWeight, placed-listed, listed-placed, listed-within, listed-some}
 use Rattle.record_print.specs.Printed.{recordOf, recordText}
+use Rattle.record.specs.Made.{filledBall}
 use Rattle.record.specs.Contracts.{statedBall, ballOfRecord, statedEnvelope, givenWithin, recordRead, recordWritten}
 use Rattle.lent.specs.Contracts.{notWritten, written}
 use Rattle.record.specs.declared.EnvelopeRead.{EnvelopeRead}
@@ -68,7 +69,7 @@ record Stating (X : List ℤ) (M L : ℤ) (s : Bool) (b : Ball) : Type 0 where
 ball-stated : (X : List ℤ) (M L : ℤ) (s : Bool) (b : Ball) → statedBall X M L s ≡ some b → Stating X M L s b
 ball-stated X (pos M) (pos L) s b e = go cc
   where
-    go : record { «scaled_centre» = X; «scaled_squared_radius» = M; «scaled_lower_bound» = L; settled = s } ≡ b → Stating X (pos M) (pos L) s b
+    go : filledBall X M L s ≡ b → Stating X (pos M) (pos L) s b
     go h =
         record {
           centre = sym (ap (λ (x : Ball). x .«scaled_centre») h);
@@ -92,18 +93,18 @@ put-back : (X : List ℤ) (n : ℕ) → n ≤ channelLimit → centreList n (cen
 put-back X n most = centreList-cong n (centreOf (take n X)) (centreOf X) most (λ k h. getD-take n X k (pos 0) h)
 
 module _ (limit : ℕ) (types : Types) (r : Record) (ball : Ball) (within : Within limit types r) (states : ballOfRecord r ≡ some ball) where
-  stated : Stating (centreList (length (r .codes)) (centreOf (r .centre))) (r .result .radius) (r .result .floor) (r .result .settled) ball
-  stated = ball-stated (centreList (length (r .codes)) (centreOf (r .centre))) (r .result .radius) (r .result .floor) (r .result .settled) ball states
+  stated : Stating (centreList (length (r .codes)) (centreOf (r .scaledCentre))) (r .result .scaledSquaredRadius) (r .result .scaledLowerBound) (r .result .settled) ball
+  stated = ball-stated (centreList (length (r .codes)) (centreOf (r .scaledCentre))) (r .result .scaledSquaredRadius) (r .result .scaledLowerBound) (r .result .settled) ball states
 
   stated-record : recordOf (statedEnvelope limit r ball .figures) (statedEnvelope limit r ball .weights) ≡ r
   stated-record =
       same _ _ _ _ _ _ (padded-take channelLimit (r .codes) (within .heading .channels))
-      (ap (take (length (r .codes))) (stated .centre) ∙ taken (r .centre) (length (r .codes)) (within .complete) (within .heading .channels))
+      (ap (take (length (r .codes))) (stated .centre) ∙ taken (r .scaledCentre) (length (r .codes)) (within .complete) (within .heading .channels))
       (stated .radius) (stated .floor) (stated .ending) (placed-listed limit (r .weights) (within .each-weight))
     where
-      same : (codes : List ℕ) (centre : List ℤ) (M L : ℤ) (s : Bool) (ws : List Weight) → codes ≡ r .codes → centre ≡ r .centre → M ≡ r .result .radius
-          → L ≡ r .result .floor → s ≡ r .result .settled → ws ≡ r .weights
-          → _≡_ {A = Record} (record { codes = codes; centre = centre; result = record { radius = M; floor = L; moves = r .result .moves; settled = s }; weights = ws }) r
+      same : (codes : List ℕ) (centre : List ℤ) (M L : ℤ) (s : Bool) (ws : List Weight) → codes ≡ r .codes → centre ≡ r .scaledCentre → M ≡ r .result .scaledSquaredRadius
+          → L ≡ r .result .scaledLowerBound → s ≡ r .result .settled → ws ≡ r .weights
+          → _≡_ {A = Record} (record { codes = codes; scaledCentre = centre; result = record { scaledSquaredRadius = M; scaledLowerBound = L; moves = r .result .moves; settled = s }; weights = ws }) r
       same codes centre M L s ws a b c d e f = rw (a, b, c, d, e, f)
 
 -- ---- accepted records
@@ -125,13 +126,13 @@ module _ (D limit : ℕ) (types : Types) (types-sound : SoundTypes types) where
         ap (λ (x : Envelope). recordOf (x .figures) (x .weights)) (a .envelope-is)
         ∙ stated-record limit types (a .stated) (a .ball) (printed .0) (a .states)
 
-    centre-is : a .ball .«scaled_centre» ≡ centreList (length (a .stated .codes)) (centreOf (a .stated .centre))
+    centre-is : a .ball .«scaled_centre» ≡ centreList (length (a .stated .codes)) (centreOf (a .stated .scaledCentre))
     centre-is = stated limit types (a .stated) (a .ball) (printed .0) (a .states) .centre
 
     ball-cleared : clearedBall (length (a .stated .codes)) (a .ball) ≡ a .ball
     ball-cleared =
         let count = length (a .stated .codes) in
-        let X = centreOf (a .stated .centre) in
+        let X = centreOf (a .stated .scaledCentre) in
         let again : centreList count (centreOf (a .ball .«scaled_centre»)) ≡ a .ball .«scaled_centre» =
         ap (λ (l : List ℤ). centreList count (centreOf l)) centre-is
         ∙ centreList-cong count (centreOf (centreList count X)) X (printed .0 .heading .channels) (λ k h. centreList-at count X k (printed .0 .heading .channels) h)
@@ -166,7 +167,7 @@ module _ (D limit : ℕ) (types : Types) (types-sound : SoundTypes types) where
                 agreed-within D limit rows m count (a .ball) (weightsOf limit (r .weights))
                 (agrees-agreed D limit rows m count (a .ball) (weightsOf limit (r .weights)) agreed) positive types (padded channelLimit (r .codes))
                 (r .result .moves) (omega (arith, most, padded-length channelLimit (r .codes)))
-                (omega (arith, most, ap length centre-is, length-centreList count (centreOf (r .centre))))
+                (omega (arith, most, ap length centre-is, length-centreList count (centreOf (r .scaledCentre))))
                 (ap (codesKnown types) codes-are ∙ each-codes types (r .codes) (printed .0 .heading .each-known)) (printed .0 .moves-most);
             rows-kept = ap (rowsWithin limit rows m) many ∙ given-within limit types rows m n codes (a .given) .0;
             agreeing = agreed;
@@ -380,7 +381,7 @@ module _ (D limit : ℕ) (types : Types) (e : Envelope) (typed : length (e .figu
       where
         recordWith : List ℕ → List ℤ → Record
         recordWith codes centre =
-            record { codes = codes; centre = centre; result = recordOf (e .figures) (e .weights) .result; weights = listed 1 (e .weights) }
+            record { codes = codes; scaledCentre = centre; result = recordOf (e .figures) (e .weights) .result; weights = listed 1 (e .weights) }
 
     figures-kept : figuresKnown D types (cleared e .figures) ≡ figuresKnown D types (e .figures)
     figures-kept =

@@ -8,12 +8,12 @@
 --     each-written                       what holds of each answer holds of the call
 --     written-writing, writing-written   an envelope is written exactly then, to a buffer that holds its text
 --     writing-refused                    12 is met only where limits are kept and agreement is not
-use Prim.Native.Nat.{ℕ, _≤_, _<_, zero-le}
+use Prim.Native.Nat.{ℕ, _≤_, _<_}
 use mathlib.Core.Path.{_≡_, refl, _∙_, ap}
 use mathlib.Core.Bool.{Bool, true, false, _&&_}
 use mathlib.Core.List.{List}
 use native.Mathlib.Omega.{arith}
-use borrow.Author.Tests.{leb-true, leb-false, le-leb, lt-leb}
+use borrow.Author.Tests.{leb-true, leb-false}
 use lib.Dec.{leb}
 use lib.IntN.{ℤ}
 use lib.ListN.{length}
@@ -29,7 +29,8 @@ use Rattle.envelope.specs.FigureLaws.{known-within, known-coded}
 use Rattle.envelope.specs.Agreement.{agrees}
 use Rattle.envelope.specs.declared.Figures.{Figures}
 use Rattle.envelope.specs.declared.Envelope.{Envelope}
-use Rattle.record_print.specs.Printed.{recordText, Printing}
+use Rattle.record_print.specs.Printed.{recordText}
+use Rattle.record_print.specs.Contracts.{Printing}
 use Rattle.lent.specs.ContractLaws.{text-short, text-fits}
 use Rattle.record.specs.Contracts.{recordWritten}
 use Rattle.lent.specs.Contracts.{notWritten, written, textWritten}

@@ -8,32 +8,70 @@ ghost use Rattle.lent.specs.Filled.{filled};
 ghost use Rattle.channel.specs.Channel.{channelTypes};
 ghost use Rattle.record_print.specs.Printed.{recordText};
 ghost use Rattle.record.specs.Contracts.{notRead, givenWithin, Agreeing, statedAnswer, recordRead, recordWritten};
-ghost use Rattle.lent.specs.Contracts.{notWritten, Part, textWritten};
-use ball::Ball;
+
+mod made;
+
+use crate::made::empty_envelope;
+use crate::made::filled_ball;
+use crate::made::filled_envelope;
+use crate::made::filled_figures;
 use channel::Code;
 use channel::codes_known;
 use channel::same_codes;
 use envelope::Envelope;
-use envelope::Figures;
 use envelope::agreement::agrees;
 use envelope::figures_known;
 use figures::table::rows_within;
 use lent::TextWritten;
 use lent::hand_out;
 use lent::not_written;
+use limits::CENTRE_DIGITS;
+use limits::CHANNEL_DIGITS;
 use limits::CHANNELS;
+use limits::DISTANCE_DIGITS;
+use limits::MOVES_DIGITS;
+use limits::ROW_DIGITS;
 use limits::ROWS;
+use limits::TAG_MOST;
+use limits::WEIGHT_DIGITS;
 use record_form::form::Stated;
 use record_form::form::read_form;
+use record_lines::words::LETTER_BYTES;
+use record_lines::words::LINE_WORD_BYTES;
+use record_lines::words::RECORD_WORD_BYTES;
 use record_print::print_record;
 use refusal::Outcome;
 use text::parts::text_within;
 
-// room for the printing of every record
-const RECORD_ROOM: usize = 320 + ROWS * 18;
+// The most bytes of a heading, of a `C`, an `R` and a `W` line, each with its byte 10, and of a record that is written. Each field is a
+// comma and a tag, a number of so many digits (those of X after a hyphen), or a letter.
+const HEADING_MOST: usize = RECORD_WORD_BYTES
+    + (1 + CHANNEL_DIGITS)
+    + CHANNELS * (1 + TAG_MOST)
+    + 1;
 
-// a record that is written has at most so many bytes
-pub const RECORD_MOST: usize = 38 + 90 + 52 + 12 * ROWS;
+const CENTRE_LINE_MOST: usize = LINE_WORD_BYTES + CHANNELS * (2 + CENTRE_DIGITS) + 1;
+
+const RESULT_LINE_MOST: usize = LINE_WORD_BYTES
+    + 2 * (1 + DISTANCE_DIGITS)
+    + (1 + MOVES_DIGITS)
+    + (1 + LETTER_BYTES)
+    + 1;
+
+const WEIGHT_LINE_MOST: usize = LINE_WORD_BYTES + (1 + ROW_DIGITS) + (1 + WEIGHT_DIGITS) + 1;
+
+pub const RECORD_MOST: usize = HEADING_MOST
+    + CENTRE_LINE_MOST
+    + RESULT_LINE_MOST
+    + ROWS * WEIGHT_LINE_MOST;
+
+// Room for the printing of every record: a number may take a hyphen and as many digits as the largest.
+const FIELD_ROOM: usize = 2 + DISTANCE_DIGITS;
+
+const RECORD_ROOM: usize = HEADING_MOST
+    + (LINE_WORD_BYTES + CHANNELS * FIELD_ROOM + 1)
+    + (LINE_WORD_BYTES + 3 * FIELD_ROOM + (1 + LETTER_BYTES) + 1)
+    + ROWS * (LINE_WORD_BYTES + 2 * FIELD_ROOM + 1);
 
 // What reading a record answers. In a refusal every figure and weight is 0.
 pub struct EnvelopeRead {
@@ -45,25 +83,9 @@ pub struct EnvelopeRead {
 pub fn not_read(number: u32, line: u32) -> EnvelopeRead
     ensures { λ r. ⌜ r ≡ notRead rowLimit (refusedAt number line) ⌝ }
 {
-    let ball = Ball {
-        scaled_centre: [0i64; CHANNELS],
-        scaled_squared_radius: 0,
-        scaled_lower_bound: 0,
-        settled: false,
-    };
-    let figures = Figures {
-        n: 0,
-        codes: [0; CHANNELS],
-        ball,
-        moves: 0,
-    };
-    let envelope = Envelope {
-        figures,
-        weights: [0; ROWS],
-    };
     EnvelopeRead {
         outcome: refusal::refused_at(number, line),
-        envelope,
+        envelope: empty_envelope(),
     }
 }
 
@@ -89,34 +111,29 @@ fn agreed(rows: &[i32], m: usize, n: usize, codes: &[Code], stated: Stated) -> E
     if !same_codes(codes, &stated_codes[..stated.n]) {
         return not_read(refusal::DISAGREEMENT, 0);
     }
-    if stated.radius < 0 {
+    if stated.scaled_squared_radius < 0 {
         return not_read(refusal::DISAGREEMENT, 0);
     }
-    if stated.floor < 0 {
+    if stated.scaled_lower_bound < 0 {
         return not_read(refusal::DISAGREEMENT, 0);
     }
-    let radius = stated.radius as u64;
-    let floor = stated.floor as u64;
-    let centre = stated.centre;
-    let ball = Ball {
-        scaled_centre: centre,
-        scaled_squared_radius: radius,
-        scaled_lower_bound: floor,
-        settled: stated.settled,
-    };
+    let scaled_squared_radius = stated.scaled_squared_radius as u64;
+    let scaled_lower_bound = stated.scaled_lower_bound as u64;
+    let scaled_centre = stated.scaled_centre;
+    let ball = filled_ball(
+        scaled_centre,
+        scaled_squared_radius,
+        scaled_lower_bound,
+        stated.settled,
+    );
     let weights = stated.weights;
     if !agrees(rows, m, n, ball, &weights) {
         return not_read(refusal::DISAGREEMENT, 0);
     }
-    let figures = Figures {
-        n: stated.n,
-        codes: stated_codes,
-        ball,
-        moves: stated.moves,
-    };
+    let figures = filled_figures(stated.n, stated_codes, ball, stated.moves);
     EnvelopeRead {
         outcome: Outcome::Accepted,
-        envelope: Envelope { figures, weights },
+        envelope: filled_envelope(figures, weights),
     }
 }
 

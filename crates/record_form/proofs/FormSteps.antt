@@ -30,14 +30,15 @@ use Rattle.channel.specs.Channel.{Types}
 use Rattle.heading.specs.Heading.{headingOf}
 use Rattle.heading.specs.declared.Heading.{Heading}
 use Rattle.heading.proofs.Headed.{Headed, codesIn}
-use Rattle.record_form.specs.Lines.{recordWord, Result, centreLine, resultLine, Weight}
+use Rattle.record_lines.specs.Lines.{recordWord, Result, centreLine, resultLine, Weight}
 use Rattle.record_form.specs.Record.{Record, Form, faulty, sound, lineAs, andLine, weightsFrom, withWeights, formOf, form}
 use Rattle.record_form.specs.RecordLaws.{weights-faults}
 use Rattle.record_form.specs.Weights.{weightsOf}
-use Rattle.record_form.specs.Contracts.{held, isThere, resultRead, weightsFault, WeightsRead, statedForm, formAfterCentre, AfterCentreRead}
-use Rattle.record_form.specs.declared.line.ResultRead.{ResultRead}
+use Rattle.record_lines.specs.Contracts.{held, isThere, resultRead}
+use Rattle.record_form.specs.Contracts.{weightsFault, WeightsRead, statedForm, formAfterCentre, AfterCentreRead}
+use Rattle.record_lines.specs.declared.line.ResultRead.{ResultRead}
 use Rattle.record_form.specs.declared.form.Stated.{Stated}
-use Rattle.record_form.proofs.LineSteps.{held-fits}
+use Rattle.record_lines.specs.ContractLaws.{held-fits}
 
 -- ---- the first three lines
 
@@ -137,16 +138,16 @@ module _ (codes : List ℕ) (X : List ℤ) (text : List ℕ) (at : ℕ) where
   pub record AtWeights (result : Result) (next : ℕ) : Type 0 where
     pub is : rest ≡ fromWeights codes X result (partsFrom lineEnd text next)
 
--- the answer from n, types, X and the answers to the lines after them
+-- the answer from n, the codes and X in their places, and the answers to the lines after them
 abbrev statedBy : ℕ → List ℕ → List ℤ → ResultRead → List ℕ → Stated
-statedBy n types centre r weights =
+statedBy n code-places centre-places r weights =
     record {
       line = 0;
       n = n;
-      codes = types;
-      centre = centre;
-      radius = back w64 (r .radius);
-      floor = back w64 (r .floor);
+      codes = code-places;
+      «scaled_centre» = centre-places;
+      «scaled_squared_radius» = back w64 (r .«scaled_squared_radius»);
+      «scaled_lower_bound» = back w64 (r .«scaled_lower_bound»);
       moves = r .moves;
       settled = r .settled;
       weights = weights;
@@ -173,16 +174,16 @@ module _ {codes : List ℕ} {X : List ℤ} {text : List ℕ} {at next : ℕ} {re
           absurd (omega (arith, weights-faults rowLimit 4 0 (partsFrom lineEnd text next) l f))
       go (sound ws) f = (ws, f)
 
-  pub rest-stated : {n : ℕ} {types : List ℕ} {centre : List ℤ} {r : ResultRead} → line ≡ 0 → r ≡ resultRead (some result) → n ≡ length codes
-      → types ≡ padded channelLimit codes → centre ≡ centreList (length codes) (centreOf (map held X))
-      → statedBy n types centre r lent ≡ statedForm (rest codes X text at)
+  pub rest-stated : {n : ℕ} {code-places : List ℕ} {centre-places : List ℤ} {r : ResultRead} → line ≡ 0 → r ≡ resultRead (some result) → n ≡ length codes
+      → code-places ≡ padded channelLimit codes → centre-places ≡ centreList (length codes) (centreOf (map held X))
+      → statedBy n code-places centre-places r lent ≡ statedForm (rest codes X text at)
   unfolding weightsOf
-  rest-stated {n} {types} {centre} {r} z read count tags point =
+  rest-stated {n} {code-places} {centre-places} {r} z read count tags point =
       let found = weights-sound z in
       let is = here .is ∙ ap (withWeights codes X result) (found .1) in
-      ap₂ (λ n types. statedBy n types centre r lent) count tags
+      ap₂ (λ j places. statedBy j places centre-places r lent) count tags
       ∙ ap₂ (λ x s. statedBy (length codes) (padded channelLimit codes) x s lent) point read
-      ∙ rw (held-back (result .radius), held-back (result .floor), w .written (found .0) (found .1)) (ap statedForm (sym is))
+      ∙ rw (held-back (result .scaledSquaredRadius), held-back (result .scaledLowerBound), w .written (found .0) (found .1)) (ap statedForm (sym is))
 
 pub form-stated : {types : Types} {text first : List ℕ} {h : Heading} {centre : List ℤ} {at : ℕ} {r : Stated} (X : List ℤ)
     → AfterCentreRead text at (h .n) (h .codes) centre r → Headed recordWord types first h

@@ -1,6 +1,3 @@
--- How the code reads the lines of a record field by field, its `W` lines one by one, and a record line by line.
-pub mod LineSteps
-pub mod ResultSteps
-pub mod WeightSteps
+-- How the code reads the `W` lines of a record one by one, and a record line by line.
 pub mod WalkSteps
 pub mod FormSteps

@@ -1,9 +1,7 @@
--- The form of a record, in reading order: the lines, the whole text and what may stand in it, the weights in their places; then the
--- laws, and what the functions answer.
-pub mod Lines
+-- The form of a record, in reading order: the whole text and what may stand in it, the weights in their places; then the laws, and
+-- what the functions answer.
 pub mod Record
 pub mod Weights
-pub mod LinesLaws
 pub mod RecordLaws
 pub mod WeightsLaws
 pub mod Contracts

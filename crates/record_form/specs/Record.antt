@@ -27,12 +27,12 @@ use Rattle.text.specs.Lines.{printLines, endedLine}
 use Rattle.number.specs.Contracts.{magnitudeLimit}
 use Rattle.channel.specs.Channel.{Types}
 use Rattle.heading.specs.Heading.{headingOf, printHeading, CodesWithin}
-use Rattle.record_form.specs.Lines.{recordWord, Result, Weight, centreLine, resultLine, weightLine, weightWithin, printCentre, printResult, printWeight}
+use Rattle.record_lines.specs.Lines.{recordWord, Result, Weight, centreLine, resultLine, weightLine, weightWithin, printCentre, printResult, printWeight}
 
 -- the codes of its tags, X, what its `R` line states, its `W` lines
 pub record Record : Type 0 where
   pub codes : List ℕ
-  pub centre : List ℤ
+  pub scaledCentre : List ℤ
   pub result : Result
   pub weights : List Weight
 
@@ -64,16 +64,16 @@ weightsFrom limit line last (part ∷ next ∷ parts) =
     andLine line (weightLine limit last part) (λ w. withWeight w (weightsFrom limit (suc line) (w .row) (next ∷ parts)))
 
 abbrev pub withWeights : List ℕ → List ℤ → Result → Form (List Weight) → Form Record
-withWeights codes centre result (faulty line) = faulty line
-withWeights codes centre result (sound ws) = sound (record { codes = codes; centre = centre; result = result; weights = ws })
+withWeights codes scaledCentre result (faulty line) = faulty line
+withWeights codes scaledCentre result (sound ws) = sound (record { codes = codes; scaledCentre = scaledCentre; result = result; weights = ws })
 
 -- a missing line is the one after the last
 unfoldable pub formOf : ℕ → Types → List (List ℕ) → Form Record
 formOf limit types parts =
     andLine 1 (lineAs (headingOf recordWord channelLimit types) (endedLine parts))
     (λ codes. andLine 2 (lineAs (centreLine (length codes)) (endedLine (drop 1 parts)))
-    (λ centre. andLine 3 (lineAs resultLine (endedLine (drop 2 parts)))
-    (λ result. withWeights codes centre result (weightsFrom limit 4 0 (drop 3 parts)))))
+    (λ scaledCentre. andLine 3 (lineAs resultLine (endedLine (drop 2 parts)))
+    (λ result. withWeights codes scaledCentre result (weightsFrom limit 4 0 (drop 3 parts)))))
 
 unfoldable pub form : ℕ → Types → List ℕ → Form Record
 form limit types text = formOf limit types (cut lineEnd text)
@@ -83,7 +83,7 @@ form limit types text = formOf limit types (cut lineEnd text)
 unfoldable pub printRecord : Types → Record → List ℕ
 printRecord types r =
     printLines
-    (printHeading recordWord types (r .codes) ∷ printCentre (r .centre) ∷ printResult (r .result) ∷ map printWeight (r .weights))
+    (printHeading recordWord types (r .codes) ∷ printCentre (r .scaledCentre) ∷ printResult (r .result) ∷ map printWeight (r .weights))
 
 -- ---- what may be written
 
@@ -94,10 +94,10 @@ weightsWithin limit last (w ∷ ws) = (weightWithin limit last w && ltb (w .weig
 -- the default of getD is never met
 pub record Within (limit : ℕ) (types : Types) (r : Record) : Type 0 where
   pub heading : CodesWithin channelLimit types (r .codes)
-  pub complete : length (r .centre) ≡ length (r .codes)
-  pub centre-short : (k : ℕ) → k < length (r .centre) → natAbs (getD (r .centre) k (pos 0)) < magnitudeLimit
-  pub radius-short : natAbs (r .result .radius) < magnitudeLimit
-  pub floor-short : natAbs (r .result .floor) < magnitudeLimit
+  pub complete : length (r .scaledCentre) ≡ length (r .codes)
+  pub centre-short : (k : ℕ) → k < length (r .scaledCentre) → natAbs (getD (r .scaledCentre) k (pos 0)) < magnitudeLimit
+  pub radius-short : natAbs (r .result .scaledSquaredRadius) < magnitudeLimit
+  pub floor-short : natAbs (r .result .scaledLowerBound) < magnitudeLimit
   pub moves-most : r .result .moves ≤ budgetLimit
   pub some-weight : 1 ≤ length (r .weights)
   pub each-weight : weightsWithin limit 0 (r .weights) ≡ true

@@ -29,7 +29,7 @@ use Rattle.channel.specs.Channel.{Types}
 use Rattle.channel.specs.ChannelLaws.{SoundTypes}
 use Rattle.heading.specs.Heading.{headingOf, printHeading, CodesWithin}
 use Rattle.heading.specs.HeadingLaws.{heading-within, heading-printed, printed-heading, heading-free}
-use Rattle.record_form.specs.Lines.{
+use Rattle.record_lines.specs.Lines.{
   recordWord,
   Result,
   Weight,
@@ -41,7 +41,7 @@ use Rattle.record_form.specs.Lines.{
   printResult,
   printWeight,
 }
-use Rattle.record_form.specs.LinesLaws.{
+use Rattle.record_lines.specs.LinesLaws.{
   centre-printed,
   printed-centre,
   result-printed,
@@ -159,18 +159,18 @@ module _ (limit : ℕ) where
 
 with-weights : (codes : List ℕ) (centre : List ℤ) (result : Result) (f : Form (List Weight)) (r : Record)
     → withWeights codes centre result f ≡ sound r
-    → (f ≡ sound (r .weights)) × (r ≡ record { codes = codes; centre = centre; result = result; weights = r .weights })
+    → (f ≡ sound (r .weights)) × (r ≡ record { codes = codes; scaledCentre = centre; result = result; weights = r .weights })
 with-weights codes centre result (faulty line) r e = faulty-sound e
 with-weights codes centre result (sound ws) r e =
-    let made : record { codes = codes; centre = centre; result = result; weights = ws } ≡ r = cc in
+    let made : record { codes = codes; scaledCentre = centre; result = result; weights = ws } ≡ r = cc in
     rw (← made) (refl, refl)
 
 linesOf : Types → Record → List (List ℕ)
-linesOf types r = printHeading recordWord types (r .codes) ∷ printCentre (r .centre) ∷ printResult (r .result) ∷ map printWeight (r .weights)
+linesOf types r = printHeading recordWord types (r .codes) ∷ printCentre (r .scaledCentre) ∷ printResult (r .result) ∷ map printWeight (r .weights)
 
 pub form-read : (limit : ℕ) (types : Types) (parts : List (List ℕ)) (r : Record) → formOf limit types parts ≡ sound r
     → (lineAs (headingOf recordWord channelLimit types) (endedLine parts) ≡ some (r .codes))
-    × (lineAs (centreLine (length (r .codes))) (endedLine (drop 1 parts)) ≡ some (r .centre))
+    × (lineAs (centreLine (length (r .codes))) (endedLine (drop 1 parts)) ≡ some (r .scaledCentre))
     × (lineAs resultLine (endedLine (drop 2 parts)) ≡ some (r .result))
     × (weightsFrom limit 4 0 (drop 3 parts) ≡ sound (r .weights))
 unfolding formOf
@@ -187,9 +187,9 @@ module _ (limit : ℕ) (types : Types) (types-sound : SoundTypes types) where
   parts-printed parts r e =
       let read = form-read limit types parts r e in
       let heading = line-there (headingOf recordWord channelLimit types) 0 parts (r .codes) (read .0) in
-      let centre = line-there (centreLine (length (r .codes))) 1 parts (r .centre) (read .1) in
+      let centre = line-there (centreLine (length (r .codes))) 1 parts (r .scaledCentre) (read .1) in
       let result = line-there resultLine 2 parts (r .result) (read .2) in
-      let centre-read = centre-printed (length (r .codes)) (centre .0) (r .centre) (centre .2) in
+      let centre-read = centre-printed (length (r .codes)) (centre .0) (r .scaledCentre) (centre .2) in
       let result-read = result-printed (result .0) (r .result) (result .2) in
       let weights-read = weights-printed limit 4 0 (drop 3 parts) (r .weights) (read .3) in (
         record {
@@ -218,7 +218,7 @@ module _ (limit : ℕ) (types : Types) (types-sound : SoundTypes types) where
   lines-free r heading =
       rw (
         heading-free types types-sound recordWord channelLimit refl lineEnd refl (λ e. omega arith) (r .codes) heading,
-        centre-free (r .centre),
+        centre-free (r .scaledCentre),
         result-free (r .result),
       )
       (go (r .weights))
@@ -247,7 +247,7 @@ module _ (limit : ℕ) (types : Types) (types-sound : SoundTypes types) where
     printed-parts below =
         rw (
           printed-heading types types-sound recordWord channelLimit refl (r .codes) (within .heading),
-          printed-centre (length (r .codes)) (r .centre) (within .complete) (within .centre-short),
+          printed-centre (length (r .codes)) (r .scaledCentre) (within .complete) (within .centre-short),
           there-line resultLine (printResult (r .result)) (map printWeight (r .weights)),
           printed-result (r .result)
               (record { radius-short = within .radius-short; floor-short = within .floor-short; moves-most = within .moves-most }),

@@ -5,7 +5,7 @@
 use Prim.Native.Nat.{ℕ, zero, suc, _-_}
 use mathlib.Core.List.{List, [], _∷_}
 use lib.ListN.{replicate, set}
-use Rattle.record_form.specs.Lines.{Weight}
+use Rattle.record_lines.specs.Lines.{Weight}
 
 -- rows count from 1, places from 0
 unfoldable pub placedIn : List ℕ → List Weight → List ℕ

@@ -17,8 +17,8 @@ use lib.ListN.{length, getD, set, replicate, length-append, length-set, length-r
 use lib.Seq.{append-snoc, set-at}
 use Rattle.lists.specs.Each.{Each, each-head, each-tail}
 use Rattle.number.specs.Contracts.{magnitudeLimit}
-use Rattle.record_form.specs.Lines.{Weight, weightWithin}
-use Rattle.record_form.specs.LinesLaws.{weight-within, within-weight}
+use Rattle.record_lines.specs.Lines.{Weight, weightWithin}
+use Rattle.record_lines.specs.LinesLaws.{weight-within, within-weight}
 use Rattle.record_form.specs.Record.{weightsWithin}
 use Rattle.record_form.specs.RecordLaws.{weights-first, first-weights}
 use Rattle.record_form.specs.Weights.{placedIn, weightsOf, listed}

@@ -6,14 +6,14 @@ ghost use Rattle.limits.specs.Limits.{rowLimit};
 ghost use Rattle.channel.specs.Channel.{channelTypes};
 ghost use Rattle.record_form.specs.Record.{form};
 ghost use Rattle.record_form.specs.Contracts.{WeightsRead, AfterCentreRead, statedFault, statedForm};
-use crate::line::read_centre;
-use crate::line::read_result;
-use crate::line::read_weight;
-use crate::words::RECORD_WORD;
 use channel::Code;
 use heading::read_heading;
 use limits::CHANNELS;
 use limits::ROWS;
+use record_lines::line::read_centre;
+use record_lines::line::read_result;
+use record_lines::line::read_weight;
+use record_lines::words::RECORD_WORD;
 use text::parts::line_end;
 
 // What a record in form states. `line` is the first faulty line, and 0 where the record is in form; at a fault every figure is 0.
@@ -21,9 +21,9 @@ pub struct Stated {
     pub line: u32,
     pub n: usize,
     pub codes: [Code; CHANNELS],
-    pub centre: [i64; CHANNELS],
-    pub radius: i64,
-    pub floor: i64,
+    pub scaled_centre: [i64; CHANNELS],
+    pub scaled_squared_radius: i64,
+    pub scaled_lower_bound: i64,
     pub moves: u32,
     pub settled: bool,
     pub weights: [u32; ROWS],
@@ -36,9 +36,9 @@ fn faulty(line: u32) -> Stated
         line,
         n: 0,
         codes: [0; CHANNELS],
-        centre: [0; CHANNELS],
-        radius: 0,
-        floor: 0,
+        scaled_centre: [0; CHANNELS],
+        scaled_squared_radius: 0,
+        scaled_lower_bound: 0,
         moves: 0,
         settled: false,
         weights: [0; ROWS],
@@ -82,10 +82,10 @@ fn read_after_centre(
     at: usize,
     n: usize,
     codes: [Code; CHANNELS],
-    centre: [i64; CHANNELS],
+    scaled_centre: [i64; CHANNELS],
 ) -> Stated
     requires { ⌜ at ≤ length (now text) ⌝ }
-    ensures { λ r. ⌜ AfterCentreRead (now (text .entry)) at n codes centre r ⌝ }
+    ensures { λ r. ⌜ AfterCentreRead (now (text .entry)) at n codes «scaled_centre» r ⌝ }
 {
     let end = line_end(text, at);
     if end == text.len() {
@@ -104,9 +104,9 @@ fn read_after_centre(
         line: 0,
         n,
         codes,
-        centre,
-        radius: result.radius,
-        floor: result.floor,
+        scaled_centre,
+        scaled_squared_radius: result.scaled_squared_radius,
+        scaled_lower_bound: result.scaled_lower_bound,
         moves: result.moves,
         settled: result.settled,
         weights,
@@ -131,10 +131,10 @@ pub fn read_form(text: &[u8]) -> Stated
     if centre_end == text.len() {
         return faulty(2);
     }
-    let mut centre = [0i64; CHANNELS];
-    if !read_centre(&text[centre_at..centre_end], n, &mut centre) {
+    let mut scaled_centre = [0i64; CHANNELS];
+    if !read_centre(&text[centre_at..centre_end], n, &mut scaled_centre) {
         return faulty(2);
     }
     let codes = heading.codes;
-    read_after_centre(text, centre_end + 1, n, codes, centre)
+    read_after_centre(text, centre_end + 1, n, codes, scaled_centre)
 }

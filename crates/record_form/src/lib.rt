@@ -1,5 +1,3 @@
-// The form of a record (document 01, "Texts"): the lines `ENV`, `C`, `R` and `W` as they are read. Whether the record agrees with
-// rows is not asked here. The words and letters are fixed byte strings, compared here and written by the printing of a record.
+// The form of a record (document 01, "Texts"): its lines as they are read one after another. Whether the record agrees with rows is
+// not asked here.
 pub mod form;
-mod line;
-pub mod words;

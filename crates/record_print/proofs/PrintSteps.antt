@@ -22,17 +22,18 @@ use Rattle.text.specs.Parts.{comma, lineEnd}
 use Rattle.text.specs.Lines.{printLines}
 use Rattle.printing.specs.Contracts.{numbersAfter, printNumbers, Put}
 use Rattle.printing.specs.ContractLaws.{put-none, put-byte, put-then, put-as, put-ended}
-use Rattle.number.specs.UnsignedLaws.{Below, below-none, below-more, held-signed}
+use Rattle.printing.specs.UnsignedLaws.{Below, below-none, below-more, held-signed}
 use Rattle.channel.specs.Channel.{channelTypes}
 use Rattle.channel.specs.ContractLaws.{house-short}
 use Rattle.heading.specs.Heading.{printHeading}
 use Rattle.envelope.specs.Figures.{channelCodes}
 use Rattle.envelope.specs.declared.Figures.{Figures}
-use Rattle.record_form.specs.Lines.{recordWord, centreWord, resultWord, weightWord, letterOf, printCentre, printResult, printWeight}
+use Rattle.record_lines.specs.Lines.{recordWord, centreWord, resultWord, weightWord, letterOf, printCentre, printResult, printWeight}
 use Rattle.record_form.specs.Record.{printRecord}
 use Rattle.record_form.specs.Weights.{listed}
-use Rattle.record_print.specs.Printed.{recordOf, weightLines, lineRoom, recordRoom, Printing}
-use Rattle.record_print.specs.PrintedLaws.{result-numbers, result-length, weight-length, weightLimit, linesFrom, record-lines, heading-most}
+use Rattle.record_print.specs.Printed.{resultFor, recordOf}
+use Rattle.record_print.specs.Contracts.{weightLines, lineRoom, resultRoom, recordRoom, Printing}
+use Rattle.record_print.specs.PrintedLaws.{result-numbers, result-length, weight-length, linesFrom, record-lines, heading-most}
 
 -- a line that is printed, with room for its byte 10
 pub record Line (line out : List ℕ) (at : ℕ) (out′ : List ℕ) (r : ℕ) : Type 0 where
@@ -45,33 +46,32 @@ ending {line} {out} {out′} {at} {r} f h =
     let within : r < length out′ = omega (arith, f .next, f .same-length) in
     record { room = omega (arith, f .next); within = within; ended = put-ended f within }
 
-pub weight-below : (row weight : ℕ) → row < 10 ^ 4 → weight < weightLimit → Below (2 ^ 63) (row ∷ weight ∷ [])
-weight-below row weight few small = below-more (2 ^ 63) row (weight ∷ []) (omega arith) (below-more (2 ^ 63) weight [] (omega arith) (below-none (2 ^ 63)))
+pub weight-below : (row weight : ℕ) → row < 2 ^ 63 → weight < 2 ^ 63 → Below (2 ^ 63) (row ∷ weight ∷ [])
+weight-below row weight few small = below-more (2 ^ 63) row (weight ∷ []) few (below-more (2 ^ 63) weight [] small (below-none (2 ^ 63)))
 
 module _ {out out′ : List ℕ} {at r : ℕ} where
   pub centre-put : (X : List ℤ) → Put (printNumbers centreWord X) out at out′ r → Put (printCentre X ++ (lineEnd ∷ [])) out at out′ r
   unfolding printCentre
   centre-put X f = f
 
-  pub weight-put : (row weight : ℕ) → row < 10 ^ 4 → weight < weightLimit
+  pub weight-put : (row weight : ℕ) → Below (2 ^ 63) (row ∷ weight ∷ [])
       → Put (printNumbers weightWord (map (toZ w64) (row ∷ weight ∷ []))) out at out′ r
       → Put (printWeight (record { row = row; weight = weight }) ++ (lineEnd ∷ [])) out at out′ r
   unfolding printWeight
-  weight-put row weight few small f =
-      put-as f (ap (printNumbers weightWord) (held-signed (row ∷ weight ∷ []) (weight-below row weight few small))) refl
+  weight-put row weight below f = put-as f (ap (printNumbers weightWord) (held-signed (row ∷ weight ∷ []) below)) refl
 
   module _ (M L moves : ℕ) (below : Below (2 ^ 63) (M ∷ L ∷ moves ∷ [])) where
     pub numbers-put : Put (numbersAfter resultWord (map (toZ w64) (M ∷ L ∷ moves ∷ []))) out at out′ r
-        → (r ≤ at + 64) × Put (numbersAfter resultWord (map pos (M ∷ L ∷ moves ∷ []))) out at out′ r
+        → (r < at + lineRoom resultWord 3) × Put (numbersAfter resultWord (map pos (M ∷ L ∷ moves ∷ []))) out at out′ r
     numbers-put f =
         let ns = M ∷ L ∷ moves ∷ [] in
         let printed : Put (numbersAfter resultWord (map pos ns)) out at out′ r = put-as f (ap (numbersAfter resultWord) (held-signed ns below)) refl in
         (omega (arith, printed .next, result-numbers M L moves below), printed)
 
-    pub result-put : (settled : Bool) (letter : List ℕ) {out″ : List ℕ} {s : ℕ} → letter ≡ letterOf settled → at + 67 ≤ length out
+    pub result-put : (settled : Bool) (letter : List ℕ) {out″ : List ℕ} {s : ℕ} → letter ≡ letterOf settled → at + resultRoom ≤ length out
         → Put (numbersAfter resultWord (map (toZ w64) (M ∷ L ∷ moves ∷ []))) out at out′ r
         → Put letter (set out′ r comma) (r + 1) out″ s
-        → Line (printResult (record { radius = pos M; floor = pos L; moves = moves; settled = settled })) out at out″ s
+        → Line (printResult (resultFor M L moves settled)) out at out″ s
     unfolding printResult
     result-put settled letter e h f g =
         let printed = numbers-put f in
@@ -101,7 +101,7 @@ lines-more row (suc w) weights h = sym (append-snoc (printWeight (record { row =
 -- before turn i of the walk over the weights: what is printed so far and the lines from the next row on are the whole
 pub record WeightsSoFar (weights out₀ : List ℕ) (at : ℕ) (out : List ℕ) (from i : ℕ) : Type 0 where
   pub within : i ≤ length weights
-  pub room : from ≤ at + i * lineRoom
+  pub room : from ≤ at + i * lineRoom weightWord 2
   pub printed : List ℕ
   pub put : Put printed out₀ at out from
   pub continues : printed ++ linesFrom (suc i) (drop i weights) ≡ weightLines weights
@@ -137,10 +137,10 @@ module _ {weights out₀ : List ℕ} {at : ℕ} {out : List ℕ} {from i : ℕ} 
               ∙ next;
         }
 
-    pub weights-more : (getD weights i 0 ≡ 0 → ⊥) → i + 1 < 10 ^ 4 → getD weights i 0 < weightLimit → {out′ : List ℕ} {r : ℕ}
+    pub weights-more : (getD weights i 0 ≡ 0 → ⊥) → Below (2 ^ 63) ((i + 1) ∷ getD weights i 0 ∷ []) → {out′ : List ℕ} {r : ℕ}
         → Put (printWeight (record { row = i + 1; weight = getD weights i 0 }) ++ (lineEnd ∷ [])) out from out′ r
         → WeightsSoFar weights out₀ at out′ r (i + 1)
-    weights-more some few small p =
+    weights-more some below p =
         let weight = getD weights i 0 in
         let line = printWeight (record { row = i + 1; weight = weight }) ++ (lineEnd ∷ []) in
         let rest = linesFrom (suc (i + 1)) (drop (i + 1) weights) in
@@ -152,7 +152,7 @@ module _ {weights out₀ : List ℕ} {at : ℕ} {out : List ℕ} {from i : ℕ} 
                 f .room,
                 p .next,
                 length-append (printWeight (record { row = i + 1; weight = weight })) (lineEnd ∷ []),
-                weight-length (i + 1) weight few small,
+                weight-length (i + 1) weight below,
               );
           printed = f .printed ++ line;
           put = put-then (f .put) p;

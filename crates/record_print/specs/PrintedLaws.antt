@@ -1,4 +1,4 @@
--- Laws of the text of a record, for any table of types whose tags have at most three bytes.
+-- Laws of the text of a record, for any table of types whose tags are within their limit.
 --     Small limit n X, taken-small                    the first n numbers are below the limit; so is each of the list of them
 --     heading-short, centre-short,                    how many bytes the lines of a record have at most, without their byte 10, for any
 --     result-short, weight-short                      numbers of digits
@@ -7,10 +7,9 @@
 --     letter-length                                   a letter is one byte
 --     linesFrom row weights                           the `W` lines of weights, the first of which is that of this row
 --     record-lines, record-length                     a record is its lines, each with its byte 10, and as long as they are
---     weightLimit                                     a number that is above any weight of 32 bits
 --     result-below                                    the numbers of an `R` line are below 2 ^ 63 where each is
---     result-numbers, result-length, weight-length    how many bytes `R` and `W` lines have at most, where these are their limits
---     heading-most, centre-most, result-most          how many bytes the first three lines of an envelope's record have at most
+--     result-numbers, result-length, weight-length    `R` and `W` lines of such numbers are within their room
+--     heading-most, centre-most, result-most          so are the first three lines of an envelope's record
 --     record-room                                     the text of the record is within recordRoom
 use Prim.Native.Nat.{ℕ, zero, suc, _+_, _*_, _^_, _≤_, _<_}
 use mathlib.Core.Path.{_≡_, refl, sym, ap, _∙_}
@@ -21,23 +20,25 @@ use native.Mathlib.Omega.{arith}
 use lib.IntN.{ℤ, pos, natAbs}
 use lib.ListN.{length, getD, take, length-append, List·getD-eq-default}
 use lib.Seq.{length-take-le, getD-take}
+use Rattle.limits.specs.Limits.{channelLimit, channelDigits, distanceDigits}
 use Rattle.text.specs.Parts.{comma, lineEnd, join}
 use Rattle.text.specs.Lines.{printLines}
 use Rattle.number.specs.Number.{print}
 use Rattle.number.specs.NumberLaws.{magnitude-short}
 use Rattle.printing.specs.Contracts.{numbersAfter}
 use Rattle.printing.specs.ContractLaws.{numbers-short}
-use Rattle.number.specs.UnsignedLaws.{Below, below-none, below-more}
+use Rattle.printing.specs.UnsignedLaws.{Below, below-none, below-more}
 use Rattle.channel.specs.Channel.{Types}
 use Rattle.channel.specs.ContractLaws.{ShortTags}
 use Rattle.heading.specs.Heading.{printHeading}
 use Rattle.heading.specs.HeadingLaws.{heading-length}
 use Rattle.envelope.specs.Figures.{channelCodes}
 use Rattle.envelope.specs.declared.Figures.{Figures}
-use Rattle.record_form.specs.Lines.{recordWord, centreWord, resultWord, letterOf, printCentre, printResult, printWeight}
+use Rattle.record_lines.specs.Lines.{recordWord, centreWord, resultWord, weightWord, letterOf, printCentre, printResult, printWeight}
 use Rattle.record_form.specs.Record.{Record, printRecord}
 use Rattle.record_form.specs.Weights.{listed}
-use Rattle.record_print.specs.Printed.{recordOf, lineRoom, recordRoom, Printing}
+use Rattle.record_print.specs.Printed.{resultFor, recordOf, unsignedMost, signedMost, headingMost, centreMost, resultMost, weightMost}
+use Rattle.record_print.specs.Contracts.{lineRoom, resultRoom, centreStart, recordRoom, Printing}
 
 -- ---- the lines, for numbers of so many digits
 
@@ -50,20 +51,20 @@ taken-small limit n X h small k l =
     let places : length (take n X) ≡ n = length-take-le n X h in
     omega (arith, ap natAbs (getD-take n X k (pos 0) (omega arith)), small k (omega arith))
 
-pub heading-short : (f : Figures) (types : Types) → ShortTags types → f .n < 10 → f .n ≤ length (f .codes)
-    → length (printHeading recordWord types (channelCodes f)) ≤ 5 + 4 * f .n
+pub heading-short : (f : Figures) (types : Types) → ShortTags types → f .n ≤ channelLimit → f .n ≤ length (f .codes)
+    → length (printHeading recordWord types (channelCodes f)) ≤ headingMost recordWord (f .n)
 heading-short f types short few typed =
     let codes : length (channelCodes f) ≡ f .n = length-take-le (f .n) (f .codes) typed in
-    omega (arith, heading-length types short 1 recordWord (channelCodes f) (omega arith) (omega arith))
+    omega (arith, heading-length types short channelDigits recordWord (channelCodes f) (omega arith) (omega arith))
 
 -- a hyphen, digits and a comma for each place
 pub centre-short : (digits n : ℕ) (X : List ℤ) → 1 ≤ digits → n ≤ length X → Small (10 ^ digits) n X
-    → length (printCentre (take n X)) ≤ 1 + (digits + 2) * n
+    → length (printCentre (take n X)) ≤ centreMost digits n
 unfolding printCentre
 centre-short digits n X some places small =
     omega (
       arith,
-      ap (λ (k : ℕ). (digits + 2) * k) (length-take-le n X places),
+      ap (λ (k : ℕ). signedMost digits * k) (length-take-le n X places),
       numbers-short digits centreWord (take n X) some (taken-small (10 ^ digits) n X places small),
     )
 
@@ -72,7 +73,7 @@ letter-length true = refl
 letter-length false = refl
 
 result-ended : (M L moves : ℕ) (settled : Bool)
-    → length (printResult (record { radius = pos M; floor = pos L; moves = moves; settled = settled }))
+    → length (printResult (resultFor M L moves settled))
     ≡ length (numbersAfter resultWord (pos M ∷ pos L ∷ pos moves ∷ [])) + 2
 unfolding printResult
 result-ended M L moves settled =
@@ -81,7 +82,7 @@ result-ended M L moves settled =
 -- M and L of so many digits, and moves of so many
 module _ (distance made M L moves : ℕ) (some-distance : 1 ≤ distance) (some-made : 1 ≤ made) (radius : M < 10 ^ distance) (floor : L < 10 ^ distance)
     (few : moves < 10 ^ made) where
-  pub result-numbers-short : length (numbersAfter resultWord (pos M ∷ pos L ∷ pos moves ∷ [])) ≤ 4 + 2 * distance + made
+  pub result-numbers-short : length (numbersAfter resultWord (pos M ∷ pos L ∷ pos moves ∷ [])) + unsignedMost 1 ≤ resultMost distance made
   unfolding numbersAfter join print
   result-numbers-short =
       omega (
@@ -94,7 +95,7 @@ module _ (distance made M L moves : ℕ) (some-distance : 1 ≤ distance) (some-
       )
 
   pub result-short : (settled : Bool)
-      → length (printResult (record { radius = pos M; floor = pos L; moves = moves; settled = settled })) ≤ 6 + 2 * distance + made
+      → length (printResult (resultFor M L moves settled)) ≤ resultMost distance made
   result-short settled = omega (arith, result-ended M L moves settled, result-numbers-short)
 
 abbrev pub linesFrom : ℕ → List ℕ → List ℕ
@@ -103,7 +104,7 @@ linesFrom row weights = printLines (map printWeight (listed row weights))
 -- rows and weights of so many digits
 module _ (row-digits weight-digits : ℕ) (some-row : 1 ≤ row-digits) (some-weight : 1 ≤ weight-digits) where
   pub weight-short : (row weight : ℕ) → row < 10 ^ row-digits → weight < 10 ^ weight-digits
-      → length (printWeight (record { row = row; weight = weight })) ≤ 3 + row-digits + weight-digits
+      → length (printWeight (record { row = row; weight = weight })) ≤ weightMost row-digits weight-digits
   unfolding printWeight numbersAfter join print
   weight-short row weight r w =
       omega (
@@ -115,7 +116,7 @@ module _ (row-digits weight-digits : ℕ) (some-row : 1 ≤ row-digits) (some-we
 
   -- so many rows, and no weight past them
   pub lines-short : (row count : ℕ) (weights : List ℕ) → ((i : ℕ) → i < count → row + i < 10 ^ row-digits) → Below (10 ^ weight-digits) weights
-      → ((i : ℕ) → count ≤ i → getD weights i 0 ≡ 0) → length (linesFrom row weights) ≤ count * (4 + row-digits + weight-digits)
+      → ((i : ℕ) → count ≤ i → getD weights i 0 ≡ 0) → length (linesFrom row weights) ≤ count * (weightMost row-digits weight-digits + 1)
   unfolding listed printLines
   lines-short row count [] few below rest = omega arith
   lines-short row zero (zero ∷ weights) few below rest =
@@ -124,14 +125,14 @@ module _ (row-digits weight-digits : ℕ) (some-row : 1 ≤ row-digits) (some-we
   lines-short row (suc count) (zero ∷ weights) few below rest =
       omega (
         arith,
-        suc-mul count (4 + row-digits + weight-digits),
+        suc-mul count (weightMost row-digits weight-digits + 1),
         lines-short (suc row) count weights (λ i h. omega (arith, few (suc i) (omega arith))) (λ i h. below (suc i) (omega arith))
             (λ i h. rest (suc i) (omega arith)),
       )
   lines-short row (suc count) (suc w ∷ weights) few below rest =
       omega (
         arith,
-        suc-mul count (4 + row-digits + weight-digits),
+        suc-mul count (weightMost row-digits weight-digits + 1),
         length-append (printWeight (record { row = row; weight = suc w })) (lineEnd ∷ linesFrom (suc row) weights),
         weight-short row (suc w) (omega (arith, few 0 (omega arith))) (below 0 (omega arith)),
         lines-short (suc row) count weights (λ i h. omega (arith, few (suc i) (omega arith))) (λ i h. below (suc i) (omega arith))
@@ -143,7 +144,7 @@ module _ (row-digits weight-digits : ℕ) (some-row : 1 ≤ row-digits) (some-we
 pub record-lines : (types : Types) (r : Record)
     → printRecord types r
     ≡ (printHeading recordWord types (r .codes) ++ (lineEnd ∷ []))
-    ++ ((printCentre (r .centre) ++ (lineEnd ∷ []))
+    ++ ((printCentre (r .scaledCentre) ++ (lineEnd ∷ []))
     ++ ((printResult (r .result) ++ (lineEnd ∷ []))
     ++ printLines (map printWeight (r .weights))))
 unfolding printRecord printLines
@@ -156,12 +157,12 @@ line-length line rest = length-append (line ++ (lineEnd ∷ [])) rest ∙ ap (λ
 pub record-length : (types : Types) (r : Record)
     → length (printRecord types r)
     ≡ (length (printHeading recordWord types (r .codes)) + 1)
-    + (length (printCentre (r .centre)) + 1)
+    + (length (printCentre (r .scaledCentre)) + 1)
     + (length (printResult (r .result)) + 1)
     + length (printLines (map printWeight (r .weights)))
 record-length types r =
     let heading = printHeading recordWord types (r .codes) in
-    let centre = printCentre (r .centre) in
+    let centre = printCentre (r .scaledCentre) in
     let result = printResult (r .result) in
     let lines = printLines (map printWeight (r .weights)) in
     omega (
@@ -172,10 +173,7 @@ record-length types r =
       line-length result lines,
     )
 
--- ---- the room: 19 digits for X, M, L and moves, 4 for a row and 10 for a weight
-
-abbrev pub weightLimit : ℕ
-weightLimit = 10 ^ 10
+-- ---- the room: as many digits for each number
 
 pub result-below : (M L moves : ℕ) → M < 2 ^ 63 → L < 2 ^ 63 → moves < 2 ^ 63 → Below (2 ^ 63) (M ∷ L ∷ moves ∷ [])
 result-below M L moves radius floor made =
@@ -183,39 +181,45 @@ result-below M L moves radius floor made =
     below-more most M (L ∷ moves ∷ []) radius (below-more most L (moves ∷ []) floor (below-more most moves [] made (below-none most)))
 
 module _ (M L moves : ℕ) (below : Below (2 ^ 63) (M ∷ L ∷ moves ∷ [])) where
-  pub result-numbers : length (numbersAfter resultWord (pos M ∷ pos L ∷ pos moves ∷ [])) ≤ 64
+  pub result-numbers : length (numbersAfter resultWord (pos M ∷ pos L ∷ pos moves ∷ [])) < lineRoom resultWord 3
   result-numbers =
       omega (
         arith,
-        result-numbers-short 19 19 M L moves (omega arith) (omega arith) (omega (arith, below 0 (omega arith))) (omega (arith, below 1 (omega arith)))
-            (omega (arith, below 2 (omega arith))),
+        result-numbers-short distanceDigits distanceDigits M L moves (omega arith) (omega arith) (omega (arith, below 0 (omega arith)))
+            (omega (arith, below 1 (omega arith))) (omega (arith, below 2 (omega arith))),
       )
 
-  pub result-length : (settled : Bool) → length (printResult (record { radius = pos M; floor = pos L; moves = moves; settled = settled })) ≤ 66
+  pub result-length : (settled : Bool) → length (printResult (resultFor M L moves settled)) < resultRoom
   result-length settled = omega (arith, result-ended M L moves settled, result-numbers)
 
-pub weight-length : (row weight : ℕ) → row < 10 ^ 4 → weight < 10 ^ 10 → length (printWeight (record { row = row; weight = weight })) < lineRoom
-weight-length row weight r w = omega (arith, weight-short 4 10 (omega arith) (omega arith) row weight r w)
+pub weight-length : (row weight : ℕ) → Below (2 ^ 63) (row ∷ weight ∷ [])
+    → length (printWeight (record { row = row; weight = weight })) < lineRoom weightWord 2
+weight-length row weight below =
+    omega (
+      arith,
+      weight-short distanceDigits distanceDigits (omega arith) (omega arith) row weight (omega (arith, below 0 (omega arith)))
+          (omega (arith, below 1 (omega arith))),
+    )
 
 module _ (f : Figures) (weights : List ℕ) (p : Printing f weights) where
-  pub heading-most : (types : Types) → ShortTags types → length (printHeading recordWord types (channelCodes f)) ≤ 37
-  heading-most types short = omega (arith, p .channels, heading-short f types short (omega (arith, p .channels)) (p .typed))
+  pub heading-most : (types : Types) → ShortTags types → length (printHeading recordWord types (channelCodes f)) < centreStart
+  heading-most types short = omega (arith, p .channels, heading-short f types short (p .channels) (p .typed))
 
-  pub centre-most : length (printCentre (recordOf f weights .centre)) ≤ 169
+  pub centre-most : length (printCentre (recordOf f weights .scaledCentre)) < lineRoom centreWord channelLimit
   centre-most =
       omega (
         arith,
         p .channels,
-        centre-short 19 (f .n) (f .ball .«scaled_centre») (omega arith) (p .places) (λ k h. omega (arith, p .centre-small k h)),
+        centre-short distanceDigits (f .n) (f .ball .«scaled_centre») (omega arith) (p .places) (λ k h. omega (arith, p .centre-small k h)),
       )
 
-  pub result-most : f .moves < 2 ^ 63 → length (printResult (recordOf f weights .result)) ≤ 66
+  pub result-most : f .moves < 2 ^ 63 → length (printResult (recordOf f weights .result)) < resultRoom
   result-most made =
       let M = f .ball .«scaled_squared_radius» in
       let L = f .ball .«scaled_lower_bound» in
       result-length M L (f .moves) (result-below M L (f .moves) (p .radius-small) (p .floor-small) made) (f .ball .settled)
 
-  pub record-room : (types : Types) → ShortTags types → f .moves < 2 ^ 63 → Below weightLimit weights
+  pub record-room : (types : Types) → ShortTags types → f .moves < 2 ^ 63 → Below (2 ^ 63) weights
       → length (printRecord types (recordOf f weights)) ≤ recordRoom (length weights)
   record-room types short made below =
       omega (
@@ -224,6 +228,6 @@ module _ (f : Figures) (weights : List ℕ) (p : Printing f weights) where
         heading-most types short,
         centre-most,
         result-most made,
-        lines-short 4 10 (omega arith) (omega arith) 1 (length weights) weights (λ i h. omega (arith, p .rows)) below
-            (λ i h. List·getD-eq-default weights 0 h),
+        lines-short distanceDigits distanceDigits (omega arith) (omega arith) 1 (length weights) weights (λ i h. omega (arith, p .rows))
+            (λ i h. omega (arith, below i h)) (λ i h. List·getD-eq-default weights 0 h),
       )

@@ -4,51 +4,57 @@ ghost use mathlib.Core.List.{[], _∷_, _++_};
 ghost use Prim.Native.Nat.{ℕ, _+_, _*_, _^_, _≤_, _<_};
 ghost use lib.IntN.{pos, natAbs};
 ghost use lib.ListN.{length, getD, take};
+ghost use Rattle.limits.specs.Limits.{rowLimit};
 ghost use Rattle.text.specs.Parts.{lineEnd};
 ghost use Rattle.printing.specs.Contracts.{Put};
 ghost use Rattle.channel.specs.Channel.{channelTypes};
-ghost use Rattle.record_form.specs.Lines.{printCentre, printResult, printWeight};
+ghost use Rattle.record_lines.specs.Lines.{centreWord, weightWord, printCentre, printResult, printWeight};
 ghost use Rattle.record_form.specs.Record.{printRecord};
-ghost use Rattle.record_print.specs.Printed.{recordOf, lineRoom, recordRoom, Printing, weightLines};
+ghost use Rattle.record_print.specs.Printed.{resultFor, recordOf};
+ghost use Rattle.record_print.specs.Contracts.{weightLines, lineRoom, resultRoom, recordRoom, Printing};
 use envelope::Figures;
 use heading::put_heading;
 use printing::put_bytes;
 use printing::put_line;
 use printing::put_numbers;
-use record_form::words::BUDGET_LETTER;
-use record_form::words::CENTRE_WORD;
-use record_form::words::RECORD_WORD;
-use record_form::words::RESULT_WORD;
-use record_form::words::SETTLED_LETTER;
-use record_form::words::WEIGHT_WORD;
+use record_lines::words::BUDGET_LETTER;
+use record_lines::words::CENTRE_WORD;
+use record_lines::words::RECORD_WORD;
+use record_lines::words::RESULT_WORD;
+use record_lines::words::SETTLED_LETTER;
+use record_lines::words::WEIGHT_WORD;
 use text::parts::COMMA;
 use text::parts::LINE_END;
 
 // `C` and X, with its byte 10.
-fn put_centre(out: &mut [u8], at: usize, centre: &[i64], n: usize) -> usize
-    requires { ⌜ (n ≤ length (now centre)) × (((k : ℕ) → k < n → natAbs (getD (now centre) k (pos 0)) < 2 ^ 63)
-        × (at + 2 + n * 21 ≤ length (now out))) ⌝ }
+fn put_centre(out: &mut [u8], at: usize, scaled_centre: &[i64], n: usize) -> usize
+    requires { ⌜ (n ≤ length (now «scaled_centre»)) × (((k : ℕ) → k < n → natAbs (getD (now «scaled_centre») k (pos 0)) < 2 ^ 63)
+        × (at + lineRoom centreWord n ≤ length (now out))) ⌝ }
     ensures { λ r.
-        ⌜ Put (printCentre (take n (now (centre .entry))) ++ (lineEnd ∷ [])) (now (out .entry)) at (now (out .exit)) r ⌝ }
+        ⌜ Put (printCentre (take n (now («scaled_centre» .entry))) ++ (lineEnd ∷ [])) (now (out .entry)) at (now (out .exit)) r ⌝ }
 {
-    put_line(out, at, &CENTRE_WORD, centre, n)
+    put_line(out, at, &CENTRE_WORD, scaled_centre, n)
 }
 
 // `R`, M, L, moves and the letter, with its byte 10.
 fn put_result(
     out: &mut [u8],
     at: usize,
-    radius: u64,
-    floor: u64,
+    scaled_squared_radius: u64,
+    scaled_lower_bound: u64,
     moves: u32,
     settled: bool,
 ) -> usize
-    requires { ⌜ (radius < 2 ^ 63) × ((floor < 2 ^ 63) × (at + 67 ≤ length (now out))) ⌝ }
+    requires { ⌜ («scaled_squared_radius» < 2 ^ 63) × ((«scaled_lower_bound» < 2 ^ 63) × (at + resultRoom ≤ length (now out))) ⌝ }
     ensures { λ r.
-        ⌜ Put (printResult (record { radius = pos radius; floor = pos floor; moves = moves; settled = settled }) ++ (lineEnd ∷ []))
-        (now (out .entry)) at (now (out .exit)) r ⌝ }
+        ⌜ Put (printResult (resultFor «scaled_squared_radius» «scaled_lower_bound» moves settled) ++ (lineEnd ∷ [])) (now (out .entry)) at
+        (now (out .exit)) r ⌝ }
 {
-    let numbers = [radius as i64, floor as i64, moves as i64];
+    let numbers = [
+        scaled_squared_radius as i64,
+        scaled_lower_bound as i64,
+        moves as i64,
+    ];
     let end = put_numbers(out, at, &RESULT_WORD, &numbers, 3);
     out[end] = COMMA;
     let letter = if settled {
@@ -63,7 +69,7 @@ fn put_result(
 
 // `W`, row and weight, with its byte 10.
 fn put_weight(out: &mut [u8], at: usize, row: usize, weight: u32) -> usize
-    requires { ⌜ (row ≤ 9999) × (at + 44 ≤ length (now out)) ⌝ }
+    requires { ⌜ (row ≤ rowLimit) × (at + lineRoom weightWord 2 ≤ length (now out)) ⌝ }
     ensures { λ r.
         ⌜ Put (printWeight (record { row = row; weight = weight }) ++ (lineEnd ∷ [])) (now (out .entry)) at (now (out .exit)) r ⌝ }
 {
@@ -73,7 +79,7 @@ fn put_weight(out: &mut [u8], at: usize, row: usize, weight: u32) -> usize
 
 // The `W` lines of the weights above 0.
 fn put_weights(out: &mut [u8], at: usize, weights: &[u32]) -> usize
-    requires { ⌜ (length (now weights) ≤ 9999) × (at + length (now weights) * lineRoom + 44 ≤ length (now out)) ⌝ }
+    requires { ⌜ (length (now weights) ≤ rowLimit) × (at + length (now weights) * lineRoom weightWord 2 ≤ length (now out)) ⌝ }
     ensures { λ r. ⌜ Put (weightLines (now (weights .entry))) (now (out .entry)) at (now (out .exit)) r ⌝ }
 {
     let mut from = at;
@@ -96,10 +102,10 @@ pub fn print_record(figures: Figures, weights: &[u32], out: &mut [u8]) -> usize
     let n = figures.n;
     let codes = figures.codes;
     let ball = figures.ball;
-    let centre = ball.scaled_centre;
+    let scaled_centre = ball.scaled_centre;
     let heading_end = put_heading(out, 0, &RECORD_WORD, &codes, n);
     out[heading_end] = LINE_END;
-    let centre_end = put_centre(out, heading_end + 1, &centre, n);
+    let centre_end = put_centre(out, heading_end + 1, &scaled_centre, n);
     let result_end = put_result(
         out,
         centre_end,

@@ -16,7 +16,7 @@ use Rattle.geometry.specs.Move.{scaledSquaredDistanceOf, farRow, nearRow, diffe
 use Rattle.geometry.specs.Table.{coordinate, placesWithin, rowsWithin}
 use Rattle.limits.specs.Limits.{total, rowLimit}
 use Rattle.geometry.specs.Places.{tabulate, centreList}
-use Rattle.ball.specs.Ball.{ballOf, noBall}
+use Rattle.ball.specs.Ball.{ballOf, emptyBall}
 use Rattle.ball.specs.Draw.{run, start, runFrom, drawing}
 use Rattle.ball.specs.declared.Drawing.{Drawing}
 use Rattle.text.specs.Parts.{join}
@@ -27,7 +27,7 @@ use Rattle.channel.specs.Channel.{channelTypes, houseTypes, typeIn, knownIn, ty
 use Rattle.heading.specs.Heading.{printHeading}
 use Rattle.envelope.specs.Figures.{figuresWithin, codesWithin, figuresKnown, figuresOf}
 use Rattle.envelope.specs.Agreement.{withCentre, drawnEnvelope}
-use Rattle.record_form.specs.Lines.{printCentre, printResult, printWeight}
+use Rattle.record_lines.specs.Lines.{printCentre, printResult, printWeight}
 use Rattle.record_form.specs.Record.{printRecord}
 use Rattle.record_form.specs.Weights.{listed}
 use Rattle.record_print.specs.Printed.{recordText}
@@ -69,7 +69,7 @@ right-triangle = numbers (0 ∷ 0 ∷ 6 ∷ 0 ∷ 0 ∷ 8 ∷ [])
 -- the refusal's number, 0 where there is none, and what the panel shows of one channel, of type TMP, with this X
 shown : ℤ → List ℤ
 shown x =
-    let panel = panelShown total channelTypes (figuresOf 1 (5 ∷ []) (withCentre noBall (x ∷ [])) 0) in
+    let panel = panelShown total channelTypes (figuresOf 1 (5 ∷ []) (withCentre emptyBall (x ∷ [])) 0) in
     pos (numberOf (panel .outcome)) ∷ take 1 (panel .steps)
 
 -- `ENV`, 2, `TOC`, `CND`; `C`, 196608, 262144; `R`, 107374182400, 107374182400, 2, `S`; `W`, 2, 32768; `W`, 3, 32768

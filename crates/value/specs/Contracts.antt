@@ -1,18 +1,15 @@
 -- A number that the code keeps as sign and magnitude, under a range.
 --     RangeWithin range         both ends of the range are within 4,000 of 0
---     typed range               a type with this range
 --     signed negative n         the whole number with this sign and magnitude
 --     under form range p        the number as a value of this form
 --     plainUnder range p        the number as a value of its own
 --     belowUnder range p        the number as one that stands after `<`
 use Prim.Native.Nat.{ℕ, _≤_}
 use mathlib.Core.Bool.{Bool, true, false}
-use mathlib.Core.List.{[]}
 use mathlib.Core.Option.{some}
 use lib.IntN.{ℤ, pos, negℤ, natAbs}
 use Rattle.number.specs.declared.Plain.{Plain}
 use Rattle.number.specs.declared.Plain.the-variants as written
-use Rattle.channel.specs.Channel.{ChannelType}
 use Rattle.limits.specs.Limits.{coordinateLimit}
 use Rattle.channel.specs.declared.Range.{Range}
 use Rattle.value.specs.Value.{Written, number, below, valueUnder}
@@ -27,12 +24,9 @@ abbrev pub signed : Bool → ℕ → ℤ
 signed false n = pos n
 signed true n = negℤ (pos n)
 
-abbrev pub typed : Range → ChannelType
-typed range = record { code = 0; tag = []; low = range .low; high = range .high }
-
 abbrev pub under : (ℤ → Written) → Range → Plain → Value
 under form range written.Malformed = Malformed
-under form range (written.Number negative n) = valueUnder (typed range) (some (form (signed negative n)))
+under form range (written.Number negative n) = valueUnder range (some (form (signed negative n)))
 
 abbrev pub plainUnder : Range → Plain → Value
 plainUnder = under number

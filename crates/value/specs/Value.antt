@@ -2,11 +2,13 @@
 --     Written                    a value as it is written
 --     lessThan                   the byte `<`
 --     valueOf l                  the value that the field l is, if it is one
---     inRange t v                the value is within the range of the type t
+--     inRange range z            the whole number is within the range
+--     belowRange range           where a number may be that stands after `<`: from 1 to the high
+--     valueInRange range v       the value is within the range
 --     reads v                    the number that a value reads as
 --     printValue v               the field of a value
---     valueUnder t o             what the functions answer for a value under the type t, if it is one
---     valueRead types code l     the same for the field l under the type with this code
+--     valueUnder range o         what the functions answer for a value under a range, if it is one
+--     valueRead range l          the same for the field l
 use Prim.Native.Nat.{ℕ}
 use mathlib.Core.Bool.{Bool, cond, _&&_}
 use mathlib.Core.List.{List, [], _∷_}
@@ -15,7 +17,7 @@ use lib.Dec.{eqb}
 use lib.IntN.{ℤ, pos}
 use lib.Signed.{leZ}
 use Rattle.number.specs.Number.{plain, print}
-use Rattle.channel.specs.Channel.{Types, ChannelType, typeOf}
+use Rattle.channel.specs.declared.Range.{Range}
 use Rattle.value.specs.declared.Value.{Value}
 use Rattle.value.specs.declared.Value.the-variants.{Malformed, OutOfRange, Reads}
 
@@ -30,10 +32,15 @@ unfoldable pub valueOf : List ℕ → Option Written
 valueOf [] = none
 valueOf (b ∷ l) = cond (eqb b lessThan) (Option·map below (plain l)) (Option·map number (plain (b ∷ l)))
 
--- a plain one from low to high; after `<` one from 1 to high
-abbrev pub inRange : ChannelType → Written → Bool
-inRange t (number z) = leZ (t .low) z && leZ z (t .high)
-inRange t (below z) = leZ (pos 1) z && leZ z (t .high)
+abbrev pub inRange : Range → ℤ → Bool
+inRange range z = leZ (range .low) z && leZ z (range .high)
+
+abbrev pub belowRange : Range → Range
+belowRange range = record { low = pos 1; high = range .high }
+
+abbrev pub valueInRange : Range → Written → Bool
+valueInRange range (number z) = inRange range z
+valueInRange range (below z) = inRange (belowRange range) z
 
 -- below detection reads as 0
 abbrev pub reads : Written → ℤ
@@ -44,9 +51,9 @@ unfoldable pub printValue : Written → List ℕ
 printValue (number z) = print z
 printValue (below z) = lessThan ∷ print z
 
-abbrev pub valueUnder : ChannelType → Option Written → Value
-valueUnder t none = Malformed
-valueUnder t (some v) = cond (inRange t v) (Reads (reads v)) OutOfRange
+abbrev pub valueUnder : Range → Option Written → Value
+valueUnder range none = Malformed
+valueUnder range (some v) = cond (valueInRange range v) (Reads (reads v)) OutOfRange
 
-unfoldable pub valueRead : Types → ℕ → List ℕ → Value
-valueRead types code l = valueUnder (typeOf types code) (valueOf l)
+unfoldable pub valueRead : Range → List ℕ → Value
+valueRead range l = valueUnder range (valueOf l)

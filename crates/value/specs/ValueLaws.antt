@@ -25,9 +25,10 @@ use Rattle.integers.specs.Tests.{both, clash}
 use Rattle.number.specs.Number.{hyphen, isDigit, plain, print}
 use Rattle.number.specs.NumberLaws.{plain-print, print-plain, print-free, print-first, magnitude-short, print-short}
 use Rattle.channel.specs.Channel.{Types, typeOf}
+use Rattle.channel.specs.Contracts.{rangeOf}
 use Rattle.channel.specs.ChannelLaws.{SoundTypes, range-within, range-zero}
 use Rattle.limits.specs.Limits.{coordinateLimit}
-use Rattle.value.specs.Value.{Written, number, below, lessThan, valueOf, inRange, reads, printValue}
+use Rattle.value.specs.Value.{Written, number, below, lessThan, valueOf, valueInRange, reads, printValue}
 
 -- ---- printing
 
@@ -98,17 +99,17 @@ below-short (pos n) h k = omega (arith, magnitude-short 4 n (omega arith) (omega
 below-short (negsuc i) h k = clash h refl
 
 module _ (types : Types) (sound : SoundTypes types) (code : ℕ) where
-  pub reads-within : (v : Written) → inRange (typeOf types code) v ≡ true
+  pub reads-within : (v : Written) → valueInRange (rangeOf types code) v ≡ true
       → (leZ (typeOf types code .low) (reads v) ≡ true) × (leZ (reads v) (typeOf types code .high) ≡ true)
   reads-within (number z) h = both (leZ (typeOf types code .low) z) (leZ z (typeOf types code .high)) h
   reads-within (below z) h = range-zero types sound code
 
-  pub reads-most : (v : Written) → inRange (typeOf types code) v ≡ true → natAbs (reads v) ≤ coordinateLimit
+  pub reads-most : (v : Written) → valueInRange (rangeOf types code) v ≡ true → natAbs (reads v) ≤ coordinateLimit
   reads-most v h =
       let w = reads-within v h in
       between (typeOf types code .low) (typeOf types code .high) (reads v) (range-within types sound code) (ap₂ _&&_ (w .0) (w .1))
 
-  pub value-short : (v : Written) → inRange (typeOf types code) v ≡ true → length (printValue v) ≤ valueLimit
+  pub value-short : (v : Written) → valueInRange (rangeOf types code) v ≡ true → length (printValue v) ≤ valueLimit
   unfolding printValue
   value-short (number z) h = print-short 4 z (omega arith) (omega (arith, reads-most (number z) h))
   value-short (below z) h =

@@ -5,8 +5,9 @@ use Prim.Native.Nat.{ℕ}
 use mathlib.Core.Bool.{Bool, true, _&&_}
 use mathlib.Core.List.{List, [], _∷_}
 use mathlib.Core.Option.{Option, none, some, Option·map}
-use Rattle.channel.specs.Channel.{Types, typeOf}
-use Rattle.value.specs.Value.{Written, valueOf, inRange}
+use Rattle.channel.specs.Channel.{Types}
+use Rattle.channel.specs.Contracts.{rangeOf}
+use Rattle.value.specs.Value.{Written, valueOf, valueInRange}
 
 abbrev pub andValue : Option Written → Option (List Written) → Option (List Written)
 andValue none values = none
@@ -19,4 +20,4 @@ valuesOf (field ∷ fields) = andValue (valueOf field) (valuesOf fields)
 unfoldable pub valuesInRange : Types → List ℕ → List Written → Bool
 valuesInRange types [] values = true
 valuesInRange types (code ∷ codes) [] = true
-valuesInRange types (code ∷ codes) (v ∷ values) = inRange (typeOf types code) v && valuesInRange types codes values
+valuesInRange types (code ∷ codes) (v ∷ values) = valueInRange (rangeOf types code) v && valuesInRange types codes values

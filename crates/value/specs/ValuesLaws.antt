@@ -17,8 +17,9 @@ use Rattle.integers.specs.Tests.{both, unlike}
 use Rattle.text.specs.Parts.{allFree}
 use Rattle.label.specs.Label.{isLabelByte}
 use Rattle.label.specs.LabelLaws.{no-digit, no-hyphen}
-use Rattle.channel.specs.Channel.{Types, typeOf}
-use Rattle.value.specs.Value.{Written, number, lessThan, valueOf, inRange, printValue}
+use Rattle.channel.specs.Channel.{Types}
+use Rattle.channel.specs.Contracts.{rangeOf}
+use Rattle.value.specs.Value.{Written, number, lessThan, valueOf, valueInRange, printValue}
 use Rattle.value.specs.ValueLaws.{value-print, print-value, value-free}
 use Rattle.value.specs.Values.{andValue, valuesOf, valuesInRange}
 
@@ -49,16 +50,16 @@ values-free c h other (v ∷ vs) = rw (value-free c (no-digit c h) (no-hyphen c 
 
 module _ (types : Types) where
   pub in-range : (codes : List ℕ) (vs : List Written) → length vs ≡ length codes → valuesInRange types codes vs ≡ true
-      → (k : ℕ) → k < length codes → inRange (typeOf types (getD codes k 0)) (getD vs k (number (pos 0))) ≡ true
+      → (k : ℕ) → k < length codes → valueInRange (rangeOf types (getD codes k 0)) (getD vs k (number (pos 0))) ≡ true
   unfolding valuesInRange
   in-range [] vs same-length h k l = absurd (omega arith)
   in-range (code ∷ codes) [] same-length h k l = absurd (omega arith)
-  in-range (code ∷ codes) (v ∷ vs) same-length h zero l = both (inRange (typeOf types code) v) (valuesInRange types codes vs) h .0
+  in-range (code ∷ codes) (v ∷ vs) same-length h zero l = both (valueInRange (rangeOf types code) v) (valuesInRange types codes vs) h .0
   in-range (code ∷ codes) (v ∷ vs) same-length h (suc k) l =
-      in-range codes vs (omega arith) (both (inRange (typeOf types code) v) (valuesInRange types codes vs) h .1) k (le-of-suc-le-suc l)
+      in-range codes vs (omega arith) (both (valueInRange (rangeOf types code) v) (valuesInRange types codes vs) h .1) k (le-of-suc-le-suc l)
 
   pub range-in : (codes : List ℕ) (vs : List Written)
-      → ((k : ℕ) → k < length codes → inRange (typeOf types (getD codes k 0)) (getD vs k (number (pos 0))) ≡ true)
+      → ((k : ℕ) → k < length codes → valueInRange (rangeOf types (getD codes k 0)) (getD vs k (number (pos 0))) ≡ true)
       → valuesInRange types codes vs ≡ true
   unfolding valuesInRange
   range-in [] vs h = refl

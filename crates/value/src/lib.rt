@@ -1,17 +1,15 @@
-// A value field under a type, read: the one place where a written value meets its type's range. Below detection, `<` and a
-// number, reads as 0.
+// A value field under a range, read: the one place where a written value meets its range. Below detection, `<` and a number, reads
+// as 0.
 ghost use mathlib.Core.Path.{_≡_};
-ghost use Rattle.channel.specs.Channel.{channelTypes};
-ghost use Rattle.value.specs.Value.{valueRead};
+ghost use Rattle.value.specs.Value.{inRange, valueRead};
 ghost use Rattle.value.specs.Contracts.{RangeWithin, plainUnder, belowUnder};
-use channel::Code;
 use channel::Range;
 use number::Plain;
 use number::plain_number;
 
 const LESS_THAN: u8 = 60;
 
-// no type takes a value as far from 0 as this
+// no range has a number as far from 0 as this
 const OUTSIDE_ALL: u64 = 1_000_000;
 
 // What a value field holds.
@@ -19,6 +17,16 @@ pub enum Value {
     Malformed,
     OutOfRange,
     Reads(i32),
+}
+
+// Whether a whole number is within a range.
+pub fn in_range(whole: i32, range: Range) -> bool
+    ensures { λ r. ⌜ r ≡ inRange range whole ⌝ }
+{
+    if whole < range.low {
+        return false;
+    }
+    whole <= range.high
 }
 
 // A plain number under a range.
@@ -37,13 +45,11 @@ fn plain_value(number: Plain, range: Range) -> Value
             }
             let size = magnitude as i32;
             let whole = if negative { -size } else { size };
-            if whole < range.low {
-                return Value::OutOfRange;
+            if in_range(whole, range) {
+                Value::Reads(whole)
+            } else {
+                Value::OutOfRange
             }
-            if range.high < whole {
-                return Value::OutOfRange;
-            }
-            Value::Reads(whole)
         }
     }
 }
@@ -53,33 +59,23 @@ fn below_detection(number: Plain, range: Range) -> Value
     requires { ⌜ RangeWithin range ⌝ }
     ensures { λ r. ⌜ r ≡ belowUnder range number ⌝ }
 {
-    match number {
-        Plain::Malformed => Value::Malformed,
-        Plain::Number {
-            negative,
-            magnitude,
-        } => {
-            if negative {
-                return Value::OutOfRange;
-            }
-            if magnitude == 0 {
-                return Value::OutOfRange;
-            }
-            if OUTSIDE_ALL <= magnitude {
-                return Value::OutOfRange;
-            }
-            if range.high < (magnitude as i32) {
-                return Value::OutOfRange;
-            }
-            Value::Reads(0)
-        }
+    let detectable = Range {
+        low: 1,
+        high: range.high,
+    };
+    let value = plain_value(number, detectable);
+    match value {
+        Value::Malformed => Value::Malformed,
+        Value::OutOfRange => Value::OutOfRange,
+        Value::Reads(_) => Value::Reads(0),
     }
 }
 
-pub fn read_value(field: &[u8], code: Code) -> Value
-    ensures { λ r. ⌜ r ≡ valueRead channelTypes code (now (field .entry)) ⌝ }
+// A value field under a range.
+pub fn read_value(field: &[u8], range: Range) -> Value
+    requires { ⌜ RangeWithin range ⌝ }
+    ensures { λ r. ⌜ r ≡ valueRead range (now (field .entry)) ⌝ }
 {
-    let range = channel::range_of(code);
     if field.len() == 0 {
         return Value::Malformed;
     }

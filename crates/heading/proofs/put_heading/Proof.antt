@@ -1,6 +1,6 @@
 -- The word and n are printed as a word and a number. The loop's invariant: after them stand the tags of the first i codes, each after a
--- comma and in at most 4 bytes with it. The measure is how many codes are left.
-use Prim.Native.Nat.{ℕ, _+_, _-_, _*_, _^_, _≤_, _<_}
+-- comma and in its room. The measure is how many codes are left.
+use Prim.Native.Nat.{ℕ, _+_, _-_, _^_, _≤_, _<_}
 use mathlib.Core.Path.{_≡_, refl, sym, ap, ap₂, _∙_}
 use mathlib.Core.List.{List, [], _∷_, _++_}
 use native.Mathlib.Omega.{arith}
@@ -12,18 +12,19 @@ use mir.Val.{toZ}
 use Rattle.integers.specs.Absolute.{fits64}
 use Rattle.limits.specs.Limits.{channelLimit}
 use Rattle.text.specs.Parts.{comma}
-use Rattle.printing.specs.Contracts.{numbersAfter, Put}
+use Rattle.printing.specs.Contracts.{numberDigits, fieldRoom, numbersAfter, Put}
 use Rattle.printing.specs.ContractLaws.{put-none, put-byte, put-then, put-as, take-next, numbers-short}
-use Rattle.number.specs.UnsignedLaws.{Below, below-none, below-more, below-signed, held-signed, held-below}
+use Rattle.printing.specs.UnsignedLaws.{Below, below-none, below-more, below-signed, held-signed, held-below}
 use Rattle.channel.specs.Channel.{channelTypes, tagOf}
 use Rattle.channel.specs.ContractLaws.{house-short, type-short}
+use Rattle.heading.specs.Contracts.{tagRoom, headingRoom}
 use Rattle.heading.proofs.PrintSteps.{tagsAfter, tags-first, tags-more, heading-after}
 use Rattle.heading.proofs.put_heading.Statement.{statement}
 use Rattle.heading.proofs.put_heading.Tie as tie
 
 abbrev Inv-loop : tie.InvT-loop
 Inv-loop out₀ at word types n from₀ i₀ out from i =
-    (i ≤ n) × (from ≤ at + length word + 21 + i * 4) × Put (tagsAfter channelTypes (take i types)) out₀ from₀ out from
+    (i ≤ n) × (from ≤ at + headingRoom word i) × Put (tagsAfter channelTypes (take i types)) out₀ from₀ out from
 
 abbrev μ-loop : tie.MeasureT-loop
 μ-loop out₀ at word types n from₀ i₀ out from i = n - i
@@ -32,18 +33,18 @@ abbrev μ-loop : tie.MeasureT-loop
 alone : (limit n : ℕ) → n < limit → Below limit (n ∷ [])
 alone limit n h = below-more limit n [] h (below-none limit)
 
--- the word and n, in at most 21 bytes besides the word
+-- the word and n, in their room
 counted : (n : ℕ) → n ≤ channelLimit → (word : List ℕ) {out out′ : List ℕ} {at r : ℕ} → Put (numbersAfter word (toZ w64 n ∷ [])) out at out′ r
-    → (r ≤ at + length word + 21) × Put (numbersAfter word (pos n ∷ [])) out at out′ r
+    → (r ≤ at + length word + fieldRoom) × Put (numbersAfter word (pos n ∷ [])) out at out′ r
 counted n h word f =
     let printed : Put (numbersAfter word (pos n ∷ [])) _ _ _ _ = put-as f (ap (numbersAfter word) (held-signed (n ∷ []) (alone (2 ^ 63) n (omega arith)))) refl in
-    (omega (arith, printed .next, numbers-short 1 word (pos n ∷ []) (omega arith) (below-signed 10 (n ∷ []) (alone 10 n (omega arith)))), printed)
+    (omega (arith, printed .next, numbers-short numberDigits word (pos n ∷ []) (omega arith) (below-signed (10 ^ numberDigits) (n ∷ []) (alone (10 ^ numberDigits) n (omega arith)))), printed)
 
--- one tag more, of at most three bytes, after a comma
+-- one tag more, after a comma
 tag-more : (types : List ℕ) (i : ℕ) → i < length types → {out₀ out out′ : List ℕ} {from₀ from r : ℕ} → from < length out
     → Put (tagsAfter channelTypes (take i types)) out₀ from₀ out from
     → Put (tagOf channelTypes (getD types i 0)) (set out from comma) (from + 1) out′ r
-    → (r ≤ from + 4) × Put (tagsAfter channelTypes (take (i + 1) types)) out₀ from₀ out′ r
+    → (r ≤ from + tagRoom) × Put (tagsAfter channelTypes (take (i + 1) types)) out₀ from₀ out′ r
 tag-more types i h {out} {from = from} within f p = (
   omega (arith, p .next, type-short channelTypes house-short (getD types i 0)),
   put-as (put-then f (put-then (put-byte out from comma within) p))

@@ -3,6 +3,7 @@
 use Prim.Native.Nat.{_≤_, _-_}
 use mathlib.Core.Path.{_≡_, sym, _∙_}
 use native.Mathlib.Omega.{arith}
+use borrow.Author.Tests.{not-true, not-false}
 use lib.ListN.{length, drop}
 use Rattle.label.specs.Label.{isLabel, labelBytes}
 use Rattle.label.specs.LabelLaws.{label-empty, label-long, label-within, bytes-stop, bytes-further, bytes-done}
@@ -18,11 +19,14 @@ abbrev μ-loop : tie.MeasureT-loop
 returns : tie.Need-returns Inv-loop μ-loop
 returns c = sym (label-empty _ (c .if1 .taken))
 
+is-short-requires : tie.Need-is-short-requires Inv-loop μ-loop
+is-short-requires c κs = tt
+
 returns-2 : tie.Need-returns-2 Inv-loop μ-loop
-returns-2 c = sym (label-long _ (omega arith) (c .if2 .taken))
+returns-2 c = sym (label-long _ (omega arith) (sym (c .before .is-short .ensures) ∙ not-true _ (c .if2 .taken)))
 
 loop-holds : tie.Need-loop-holds Inv-loop μ-loop
-loop-holds c = (omega arith, label-within _ (omega arith) (c .if2 .left))
+loop-holds c = (omega arith, label-within _ (omega arith) (sym (c .before .is-short .ensures) ∙ not-false _ (c .if2 .left)))
 
 shared-slice-read-label-digit : tie.Need-shared-slice-read-label-digit Inv-loop μ-loop
 shared-slice-read-label-digit c = omega arith
@@ -60,6 +64,7 @@ is-label-spec =
     Inv-loop
     μ-loop
     returns
+    is-short-requires
     returns-2
     loop-holds
     shared-slice-read-label-digit

@@ -1,11 +1,11 @@
--- The number is printed as the number that it is, in at most 20 bytes.
+-- The number is printed as the number that it is, in its room.
 use mathlib.Core.Path.{refl, ap}
 use native.Mathlib.Omega.{arith}
 use lib.IntN.{pos, natAbs}
 use Rattle.integers.specs.Absolute.{back64}
 use Rattle.number.specs.Number.{print}
 use Rattle.number.specs.NumberLaws.{print-short}
-use Rattle.printing.specs.Contracts.{Put}
+use Rattle.printing.specs.Contracts.{numberDigits, Put}
 use Rattle.printing.specs.ContractLaws.{put-then, put-as}
 use Rattle.message.specs.PutLaws.{put-within}
 use borrow.Author.Needs.{needs}
@@ -39,7 +39,7 @@ returns c =
     let at-program = at-word .before .before .before .before .before in
     let index = at-program .before .before .before .before .args .index in
     let number : Put (print (pos index)) _ _ _ _ = put-as (at-number .put-number .ensures) (ap print (back64 (pos index) (omega arith))) refl in
-    let short = print-short 19 (pos index) (omega arith) (omega arith) in
+    let short = print-short numberDigits (pos index) (omega arith) (omega arith) in
     put-within (put-then (put-then (at-program .put-program .ensures .put) (at-word .put-bytes .ensures)) number) (omega (arith, number .next)) (omega (arith, number .next))
 
 pub put-argument-spec : {M : Type 1} → statement M

@@ -1,4 +1,4 @@
--- A number takes at most 21 bytes with its comma, so that there is room for byte 10.
+-- The numbers take no more than their fields' room, so that there is room for byte 10.
 use Prim.Native.Nat.{_<_}
 use native.Mathlib.Omega.{arith}
 use borrow.Author.Needs.{needs}

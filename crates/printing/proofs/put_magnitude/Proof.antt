@@ -6,6 +6,7 @@ use lib.ListN.{length}
 use Rattle.number.specs.Number.{printMagnitude}
 use Rattle.number.specs.NumberLaws.{magnitude-short}
 use Rattle.number.specs.Contracts.{magnitudeLimit}
+use Rattle.printing.specs.Contracts.{numberDigits}
 use Rattle.printing.specs.ContractLaws.{Printing, printing-none, printing-next, printing-done}
 use Rattle.printing.proofs.put_magnitude.Statement.{statement}
 use Rattle.printing.proofs.put_magnitude.Tie as tie
@@ -16,8 +17,8 @@ Inv-loop out₀ at magnitude end rest₀ place₀ out rest place = Printing (pri
 abbrev μ-loop : tie.MeasureT-loop
 μ-loop out₀ at magnitude end rest₀ place₀ out rest place = place - at
 
-width-most : (n : ℕ) → n < magnitudeLimit → length (printMagnitude n) ≤ 19
-width-most n h = magnitude-short 19 n (omega arith) (omega arith)
+width-most : (n : ℕ) → n < magnitudeLimit → length (printMagnitude n) ≤ numberDigits
+width-most n h = magnitude-short numberDigits n (omega arith) (omega arith)
 
 width-requires : tie.Need-width-requires Inv-loop μ-loop
 width-requires c κs = tt

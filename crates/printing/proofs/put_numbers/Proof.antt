@@ -1,5 +1,5 @@
--- `printing::put_numbers` meets its contract. The loop's invariant: the word and the first i numbers are printed, each number in at
--- most 20 bytes. The measure is how many numbers are left.
+-- `printing::put_numbers` meets its contract. The loop's invariant: the word and the first i numbers are printed, each number in
+-- its room. The measure is how many numbers are left.
 use Prim.Native.Nat.{ℕ, _+_, _-_, _*_, _^_, _≤_, _<_}
 use mathlib.Core.Path.{_≡_, refl, sym, ap, _∙_}
 use mathlib.Core.List.{List, []}
@@ -12,27 +12,27 @@ use Rattle.integers.specs.Reading.{back}
 use Rattle.text.specs.Parts.{comma}
 use Rattle.number.specs.Number.{print}
 use Rattle.number.specs.NumberLaws.{print-short}
-use Rattle.printing.specs.Contracts.{numbersAfter, Put}
+use Rattle.printing.specs.Contracts.{numberDigits, fieldRoom, numbersAfter, Put}
 use Rattle.printing.specs.ContractLaws.{put-none, put-byte, put-then, put-as, take-next, numbers-none, numbers-more, numbers-after}
 use Rattle.printing.proofs.put_numbers.Statement.{statement}
 use Rattle.printing.proofs.put_numbers.Tie as tie
 
 abbrev Inv-loop : tie.InvT-loop
 Inv-loop out₀ at word numbers count from₀ i₀ out from i =
-    (i ≤ count) × (from ≤ from₀ + i * 21) × Put (numbersAfter [] (take i numbers)) out₀ from₀ out from
+    (i ≤ count) × (from ≤ from₀ + i * fieldRoom) × Put (numbersAfter [] (take i numbers)) out₀ from₀ out from
 
 abbrev μ-loop : tie.MeasureT-loop
 μ-loop out₀ at word numbers count from₀ i₀ out from i = count - i
 
 module _ (numbers : List ℤ) (i : ℕ) (h : i < length numbers) (most : natAbs (getD numbers i (pos 0)) < 2 ^ 63) where
-  -- one number more, of at most 20 bytes, after a comma
+  -- one number more, after a comma
   number-more : {out₀ out out′ : List ℕ} {from₀ from r : ℕ} → from < length out → Put (numbersAfter [] (take i numbers)) out₀ from₀ out from
       → Put (print (back w64 (getD numbers i (pos 0)))) (set out from comma) (from + 1) out′ r
-      → (r ≤ from + 21) × Put (numbersAfter [] (take (i + 1) numbers)) out₀ from₀ out′ r
+      → (r ≤ from + fieldRoom) × Put (numbersAfter [] (take (i + 1) numbers)) out₀ from₀ out′ r
   number-more {out} {from = from} within f p =
       let z = getD numbers i (pos 0) in
       let printed : Put (print z) _ _ _ _ = put-as p (ap print (back64 z most)) refl in (
-        omega (arith, printed .next, print-short 19 z (omega arith) (omega arith)),
+        omega (arith, printed .next, print-short numberDigits z (omega arith) (omega arith)),
         put-as (put-then f (put-then (put-byte out from comma within) printed))
             (sym (numbers-more [] (take i numbers) z) ∙ ap (numbersAfter []) (take-next numbers i (pos 0) h)) refl,
       )

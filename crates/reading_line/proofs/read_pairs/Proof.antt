@@ -17,7 +17,8 @@ use mir.Facts.{toZ-ofZ}
 use Rattle.text.specs.Parts.{comma, partsFrom}
 use Rattle.text.specs.PartsLaws.{parts-none, parts-some, last-part}
 use Rattle.channel.specs.Channel.{channelTypes}
-use Rattle.value.proofs.ValuesSteps.{read-malformed, read-told, values-outside, values-within}
+use Rattle.value.specs.ContractLaws.{range-found}
+use Rattle.value.proofs.ValuesSteps.{read-under, read-malformed, read-told, values-outside, values-within}
 use Rattle.reading_line.proofs.LineSteps.{two-fields, PairsSoFar, pairs-none, pairs-next, value-here, pairs-malformed, pairs-few, pairs-many, pairs-done}
 use Rattle.reading_line.proofs.read_pairs.Statement.{statement}
 use Rattle.reading_line.proofs.read_pairs.Tie as tie
@@ -81,6 +82,9 @@ add-value-at c = omega arith
 field-end-requires-2 : tie.Need-field-end-requires-2 Inv-loop μ-loop
 field-end-requires-2 c κs = omega arith
 
+range-of-requires : tie.Need-range-of-requires Inv-loop μ-loop
+range-of-requires c κs = search needs
+
 sub-read-value : tie.Need-sub-read-value Inv-loop μ-loop
 sub-read-value c = omega arith
 
@@ -91,7 +95,7 @@ part-read-value-end : tie.Need-part-read-value-end Inv-loop μ-loop
 part-read-value-end c = omega arith
 
 read-value-requires : tie.Need-read-value-requires Inv-loop μ-loop
-read-value-requires c κs = search needs
+read-value-requires c κs = range-found _ _ (c .before .range-of .ensures)
 
 enum-told : tie.Need-enum-told Inv-loop μ-loop
 enum-told c = search needs
@@ -102,13 +106,13 @@ same-length-3 c = search needs
 returns-3 : tie.Need-returns-3 Inv-loop μ-loop
 returns-3 c =
     let at-value = c .before .before in
-    let at-value-end = at-value .before .before in
+    let at-value-end = at-value .before .before .before in
     let at-more = at-value-end .before .before .before .before in
     let at-tag-end = at-more .before in
     let at-loop = at-tag-end .before .before .before in
     pairs-malformed (at-loop .loop .inv)
     (two-fields _ _ (at-tag-end .before .if1 .left) (at-tag-end .field-end .ensures) (at-more .if2 .left) (at-value-end .field-end2 .ensures))
-    (read-malformed channelTypes _ _ (sym (c .enum-told .given .1) ∙ at-value .read-value .ensures))
+    (read-malformed _ _ (sym (c .enum-told .given .1) ∙ read-under _ (at-value .read-value .ensures) (at-value .before .before .range-of .ensures)))
 
 enum-told-2 : tie.Need-enum-told-2 Inv-loop μ-loop
 enum-told-2 c = search needs
@@ -134,7 +138,7 @@ loop-less c = omega arith
 loop-again : tie.Need-loop-again Inv-loop μ-loop
 loop-again c =
     let at-value = c .before in
-    let at-value-end = at-value .before .before in
+    let at-value-end = at-value .before .before .before in
     let at-tag = at-value-end .before in
     let at-more = at-tag .before .before .before in
     let at-tag-end = at-more .before in
@@ -148,11 +152,11 @@ loop-again c =
     pairs-next (at-loop .loop .inv) within fields code (ap (λ b. b && at-loop .loop .tags-agree) (at-tag .is-tag .ensures))
     (⊎-elim
     (λ w.
-    let t = read-told channelTypes _ _ false (pos 0) (sym (w .1 .given .1) ∙ at-value .read-value .ensures) in
+    let t = read-told _ _ false (pos 0) (sym (w .1 .given .1) ∙ read-under _ (at-value .read-value .ensures) (at-value .before .before .range-of .ensures)) in
     values-outside (at-loop .loop .inv .values) within (value-here (at-loop .loop .inv) fields) code (t .0) (w .2) (w .3))
     (λ w.
     let z = w .1 .given .0 .0 in
-    let t = read-told channelTypes _ _ true z (sym (w .1 .given .1) ∙ at-value .read-value .ensures) in
+    let t = read-told _ _ true z (sym (w .1 .given .1) ∙ read-under _ (at-value .read-value .ensures) (at-value .before .before .range-of .ensures)) in
     let x = toZ-ofZ (sfits-of {w = w32} {z = z} (w .2 .given .0 .1)) in
     values-within (at-loop .loop .inv .values) within (value-here (at-loop .loop .inv) fields) code (t .0) (x ∙ t .1 refl) (omega arith)
     (w .3) (w .4))
@@ -213,6 +217,7 @@ read-pairs-spec =
     is-tag-requires
     add-value-at
     field-end-requires-2
+    range-of-requires
     sub-read-value
     part-read-value-start
     part-read-value-end

@@ -23,10 +23,10 @@ type-places c = search needs
 weight-places : (c : tie.Start) → length (c .args .stated .weights) ≡ rowLimit
 weight-places c = search needs
 
-radius-fits : (c : tie.After-struct-told) → SFits w64 (c .before .before .before .before .before .before .before .args .stated .radius)
+radius-fits : (c : tie.After-struct-told) → SFits w64 (c .before .before .before .before .before .before .before .args .stated .«scaled_squared_radius»)
 radius-fits c = search needs
 
-floor-fits : (c : tie.After-struct-told) → SFits w64 (c .before .before .before .before .before .before .before .args .stated .floor)
+floor-fits : (c : tie.After-struct-told) → SFits w64 (c .before .before .before .before .before .before .before .args .stated .«scaled_lower_bound»)
 floor-fits c = search needs
 
 array-share-prefix-stated-codes : tie.Need-array-share-prefix-stated-codes
@@ -88,21 +88,24 @@ signs c =
       floor-not = c .if3 .left;
     }
 
-cast-radius : tie.Need-cast-radius
-cast-radius c =
+cast-scaled-squared-radius : tie.Need-cast-scaled-squared-radius
+cast-scaled-squared-radius c =
     let s = signs (c .before .before) in
     sign-cast _ (s .radius-fits) (s .radius-not)
 
-cast-floor : tie.Need-cast-floor
-cast-floor c =
+cast-scaled-lower-bound : tie.Need-cast-scaled-lower-bound
+cast-scaled-lower-bound c =
     let s = signs (c .before .before .before .before) in
     sign-cast _ (s .floor-fits) (s .floor-not)
 
+filled-ball-requires : tie.Need-filled-ball-requires
+filled-ball-requires c κs = search needs
+
 slice-aggregate-agrees : tie.Need-slice-aggregate-agrees
-slice-aggregate-agrees c = sym (weight-places (start-of (c .before .before .before .before .before .before .before)))
+slice-aggregate-agrees c = sym (weight-places (start-of (c .before .before .before .before .before .before .before .before)))
 
 agrees-requires : tie.Need-agrees-requires
-agrees-requires c κs = start-of (c .before .before .before .before .before .before .before) .pre .within
+agrees-requires c κs = start-of (c .before .before .before .before .before .before .before .before) .pre .within
 
 not-read-requires-4 : tie.Need-not-read-requires-4
 not-read-requires-4 c κs = search needs
@@ -110,20 +113,29 @@ not-read-requires-4 c κs = search needs
 returns-4 : tie.Need-returns-4
 returns-4 c =
     let test = c .before .before in
-    let past-signs = test .before .before .before .before .before .before .before .before in
+    let past-signs = test .before .before .before .before .before .before .before .before .before in
     let start = start-of past-signs in
     c .not-read4 .ensures
     ∙ disagreeing total rowLimit (now (start .args .rows)) (start .args .m) (now (start .args .codes)) (start .args .stated) (signs past-signs)
     (start .args .n) (start .pre .count) (same-codes (past-signs .before .before .before .before .before .before))
-    (sym (test .agrees .ensures) ∙ not-true _ (c .before .if4 .taken))
+    (test .before .before .before .filled-ball .ensures) (sym (test .agrees .ensures) ∙ not-true _ (c .before .if4 .taken))
+
+filled-figures-requires : tie.Need-filled-figures-requires
+filled-figures-requires c κs = search needs
+
+filled-envelope-requires : tie.Need-filled-envelope-requires
+filled-envelope-requires c κs = search needs
 
 returns-5 : tie.Need-returns-5
 returns-5 c =
-    let past-signs = c .before .before .before .before .before .before .before .before .before in
+    let past-test = c .before .before in
+    let test = past-test .before in
+    let past-signs = test .before .before .before .before .before .before .before .before .before in
     let start = start-of past-signs in
     agreeing total rowLimit (now (start .args .rows)) (start .args .m) (now (start .args .codes)) (start .args .stated) (signs past-signs)
     (start .args .n) (start .pre .count) (same-codes (past-signs .before .before .before .before .before .before))
-    (sym (c .before .agrees .ensures) ∙ not-false _ (c .if4 .left))
+    (test .before .before .before .filled-ball .ensures) (c .before .filled-figures .ensures) (c .filled-envelope .ensures)
+    (sym (test .agrees .ensures) ∙ not-false _ (past-test .if4 .left))
 
 pub agreed-spec : {M : Type 1} → statement M
 agreed-spec =
@@ -138,10 +150,13 @@ agreed-spec =
     returns-2
     not-read-requires-3
     returns-3
-    cast-radius
-    cast-floor
+    cast-scaled-squared-radius
+    cast-scaled-lower-bound
+    filled-ball-requires
     slice-aggregate-agrees
     agrees-requires
     not-read-requires-4
     returns-4
+    filled-figures-requires
+    filled-envelope-requires
     returns-5)

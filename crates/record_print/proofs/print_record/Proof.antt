@@ -1,5 +1,5 @@
 -- Each line is printed where the one before it ended, and its most bytes leave room for the next. The four parts in order are the record.
-use Prim.Native.Nat.{_≤_}
+use Prim.Native.Nat.{_≤_, _<_}
 use mathlib.Core.Path.{_∙_}
 use native.Mathlib.Omega.{arith}
 use borrow.Author.Needs.{needs}
@@ -8,9 +8,10 @@ use Rattle.channel.specs.Channel.{channelTypes}
 use Rattle.channel.specs.ContractLaws.{house-short}
 use Rattle.heading.specs.Heading.{printHeading}
 use Rattle.envelope.specs.Figures.{channelCodes}
-use Rattle.record_form.specs.Lines.{recordWord, printCentre, printResult}
+use Rattle.record_lines.specs.Lines.{recordWord, printCentre, printResult}
 use Rattle.record_form.specs.Record.{printRecord}
 use Rattle.record_print.specs.Printed.{recordOf}
+use Rattle.record_print.specs.Contracts.{centreStart, resultStart, weightsStart}
 use Rattle.record_print.specs.PrintedLaws.{heading-most, centre-most, result-most}
 use Rattle.record_print.proofs.PrintSteps.{Line, heading-put, line-end, record-put}
 use Rattle.record_print.proofs.print_record.Statement.{statement}
@@ -40,11 +41,11 @@ heading : (c : tie.After-put-heading)
 heading c = heading-put (start c .args .figures) (start c .args .weights .now) (start c .pre .0) (start c .pre .1) (c .put-heading .ensures)
 
 -- where the first line ends, the second, and the third
-heading-end : (c : tie.After-put-heading) → c .put-heading .result ≤ 37
+heading-end : (c : tie.After-put-heading) → c .put-heading .result < centreStart
 heading-end c =
     omega (arith, heading-most (start c .args .figures) (start c .args .weights .now) (start c .pre .0) channelTypes house-short)
 
-centre-end : (c : tie.After-put-centre) → c .put-centre .result ≤ 208
+centre-end : (c : tie.After-put-centre) → c .put-centre .result ≤ resultStart
 centre-end c =
     let begin = start (at-heading c) in
     let figures = begin .args .figures in
@@ -52,11 +53,11 @@ centre-end c =
     omega (
       arith,
       heading-end (at-heading c),
-      line-end (printCentre (recordOf figures weights .centre)) (c .put-centre .ensures),
+      line-end (printCentre (recordOf figures weights .scaledCentre)) (c .put-centre .ensures),
       centre-most figures weights (begin .pre .0),
     )
 
-result-end : (c : tie.After-put-result) → c .put-result .result ≤ 275
+result-end : (c : tie.After-put-result) → c .put-result .result ≤ weightsStart
 result-end c =
     let begin = start (at-heading (at-centre c)) in
     let figures = begin .args .figures in

@@ -1,23 +1,23 @@
--- M, L and moves are printed as the numbers that they are, in at most 64 bytes with the word, which leaves room for the comma, the letter and
+-- M, L and moves are printed as the numbers that they are, within the room of three numbers, which leaves room for the comma, the letter and
 -- byte 10. The letter is that of the ending in both branches.
 use Prim.Native.Nat.{_+_, _^_, _≤_}
 use mathlib.Core.Path.{_≡_, sym, ap, _∙_}
 use mathlib.Core.List.{[], _∷_}
 use mathlib.Core.Logic.{⊎-elim}
 use native.Mathlib.Omega.{arith}
-use lib.IntN.{pos}
 use lib.ListN.{length, length-set}
 use borrow.Author.Needs.{needs}
 use Rattle.text.specs.Parts.{comma}
-use Rattle.number.specs.UnsignedLaws.{Below, held-below}
-use Rattle.record_form.specs.Lines.{letterOf, printResult}
+use Rattle.printing.specs.UnsignedLaws.{Below, held-below}
+use Rattle.record_lines.specs.Lines.{letterOf, printResult}
+use Rattle.record_print.specs.Printed.{resultFor}
 use Rattle.record_print.specs.PrintedLaws.{letter-length, result-below}
 use Rattle.record_print.proofs.PrintSteps.{Line, numbers-put, result-put}
 use Rattle.record_print.proofs.put_result.Statement.{statement}
 use Rattle.record_print.proofs.put_result.Tie as tie
 
-below : (c : tie.Start) → Below (2 ^ 63) (c .args .radius ∷ c .args .floor ∷ c .args .moves ∷ [])
-below c = result-below (c .args .radius) (c .args .floor) (c .args .moves) (omega arith) (omega arith) (omega arith)
+below : (c : tie.Start) → Below (2 ^ 63) (c .args .scaled-squared-radius ∷ c .args .scaled-lower-bound ∷ c .args .moves ∷ [])
+below c = result-below (c .args .scaled-squared-radius) (c .args .scaled-lower-bound) (c .args .moves) (omega arith) (omega arith) (omega arith)
 
 cast-t12 : tie.Need-cast-t12
 cast-t12 c = search needs
@@ -37,7 +37,7 @@ slice-aggregate-put-numbers-2 c = search needs
 put-numbers-requires : tie.Need-put-numbers-requires
 put-numbers-requires c κs =
     let start = c .before .before .before .before in
-    (omega arith, (held-below (start .args .radius ∷ start .args .floor ∷ start .args .moves ∷ []) (below start), omega arith))
+    (omega arith, (held-below (start .args .scaled-squared-radius ∷ start .args .scaled-lower-bound ∷ start .args .moves ∷ []) (below start), omega arith))
 
 letter : (c : tie.Joined1)
     → let start = c .before .before .before .before .before .before .before .before in
@@ -50,16 +50,16 @@ letter-one c = ap length (letter c) ∙ letter-length (c .before .before .before
 numbers-room : (c : tie.After-put-numbers) → c .put-numbers .result + 3 ≤ length (c .put-numbers .last .0)
 numbers-room c =
     let start = c .before .before .before .before .before in
-    let end = numbers-put (start .args .radius) (start .args .floor) (start .args .moves) (below start) (c .put-numbers .ensures) .0 in
+    let end = numbers-put (start .args .scaled-squared-radius) (start .args .scaled-lower-bound) (start .args .moves) (below start) (c .put-numbers .ensures) .0 in
     omega arith
 
 line : (c : tie.After-put-bytes)
     → let start = c .before .before .before .before .before .before .before .before .before .before .before in
-    Line (printResult (record { radius = pos (start .args .radius); floor = pos (start .args .floor); moves = start .args .moves; settled = start .args .settled })) (start .args .out .now) (start .args .at) (c .put-bytes .last .0) (c .put-bytes .result)
+    Line (printResult (resultFor (start .args .scaled-squared-radius) (start .args .scaled-lower-bound) (start .args .moves) (start .args .settled))) (start .args .out .now) (start .args .at) (c .put-bytes .last .0) (c .put-bytes .result)
 line c =
     let at-numbers = c .before .before .before .before .before .before in
     let start = at-numbers .before .before .before .before .before in
-    result-put (start .args .radius) (start .args .floor) (start .args .moves) (below start) (start .args .settled) (c .before .before .before .if1 .letter)
+    result-put (start .args .scaled-squared-radius) (start .args .scaled-lower-bound) (start .args .moves) (below start) (start .args .settled) (c .before .before .before .if1 .letter)
     (letter (c .before .before .before)) (omega arith) (at-numbers .put-numbers .ensures) (c .put-bytes .ensures)
 
 slice-write-out : tie.Need-slice-write-out

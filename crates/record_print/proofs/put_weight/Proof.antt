@@ -2,7 +2,7 @@
 use mathlib.Core.List.{[], _∷_}
 use native.Mathlib.Omega.{arith}
 use borrow.Author.Needs.{needs}
-use Rattle.number.specs.UnsignedLaws.{held-below}
+use Rattle.printing.specs.UnsignedLaws.{held-below}
 use Rattle.record_print.proofs.PrintSteps.{weight-below, weight-put}
 use Rattle.record_print.proofs.put_weight.Statement.{statement}
 use Rattle.record_print.proofs.put_weight.Tie as tie
@@ -32,7 +32,7 @@ same-length c = search needs
 returns : tie.Need-returns
 returns c =
     let start = c .before .before .before .before .before .before .before in
-    weight-put (start .args .row) (start .args .weight) (omega arith) (omega arith) (c .before .before .put-line .ensures)
+    weight-put (start .args .row) (start .args .weight) (weight-below (start .args .row) (start .args .weight) (omega arith) (omega arith)) (c .before .before .put-line .ensures)
 
 pub put-weight-spec : {M : Type 1} → statement M
 put-weight-spec =

@@ -1,9 +1,9 @@
--- The loop's invariant: what is printed so far, followed by the lines from the next row on, is the whole, and each row passed took at most 18
--- bytes. The measure is how many weights are left.
+-- The loop's invariant: what is printed so far, followed by the lines from the next row on, is the whole, and each row passed is within the
+-- room of its line. The measure is how many weights are left.
 use Prim.Native.Nat.{_-_}
 use native.Mathlib.Omega.{arith}
 use lib.ListN.{length}
-use Rattle.record_print.proofs.PrintSteps.{WeightsSoFar, weights-none, weights-zero, weights-more, weights-done}
+use Rattle.record_print.proofs.PrintSteps.{weight-below, WeightsSoFar, weights-none, weights-zero, weights-more, weights-done}
 use Rattle.record_print.proofs.put_weights.Statement.{statement}
 use Rattle.record_print.proofs.put_weights.Tie as tie
 
@@ -36,7 +36,7 @@ loop-again c =
     let at-test = c .before .before .before .before in
     let at-loop = at-test .before .before .before in
     let weight = at-test .before .shared-slice-known2 .given (at-loop .loop .i) in
-    weights-more (at-loop .loop .inv) (omega arith) (at-test .if1 .taken) (omega arith) (omega arith) (c .before .before .put-weight .ensures)
+    weights-more (at-loop .loop .inv) (omega arith) (at-test .if1 .taken) (weight-below _ _ (omega arith) (omega arith)) (c .before .before .put-weight .ensures)
 
 loop-less-2 : tie.Need-loop-less-2 Inv-loop μ-loop
 loop-less-2 c = omega arith

@@ -1,22 +1,20 @@
 -- `value::plain_value` meets its contract: a magnitude of a million or more is far from every range; a smaller one is read as a whole
--- number, which the two tests place below, above or in the range.
+-- number, which is tested.
 use borrow.Author.Needs.{needs}
 use mathlib.Core.Path.{_≡_, sym, ap, ap₂, subst, _∙_}
-use mathlib.Core.Bool.{Bool, true, false}
+use mathlib.Core.Bool.{Bool, true, false, cond}
 use mathlib.Core.Logic.{⊎-elim}
 use Prim.Native.Nat.{ℕ, _<_}
 use native.Mathlib.Omega.{arith}
 use lib.IntN.{ℤ, pos, negℤ, _-ℤ_, +ℤ-idl}
-use lib.Signed.{ltZ}
 use mir.Syntax.{w32}
 use mir.Val.{SFits, toZ, ofZ}
 use mir.Facts.{toZ-ofZ, toZ-pos}
-use Rattle.integers.specs.Absolute.{abs-neg, fits32, back32}
-use Rattle.integers.specs.Reading.{back}
-use Rattle.channel.specs.declared.Range.{Range}
+use Rattle.integers.specs.Absolute.{abs-neg, fits32}
+use Rattle.value.specs.Value.{inRange}
 use Rattle.value.specs.Contracts.{signed, plainUnder}
-use Rattle.value.specs.ContractLaws.{underRange, below-low, above-high, far-away, in-range, signed-abs}
-use Rattle.value.specs.declared.Value.the-variants.{Reads}
+use Rattle.value.specs.ContractLaws.{far-away, signed-abs}
+use Rattle.value.specs.declared.Value.the-variants.{OutOfRange, Reads}
 use Rattle.value.proofs.plain_value.Statement.{statement}
 use Rattle.value.proofs.plain_value.Tie as tie
 
@@ -47,8 +45,7 @@ returns c =
     let given = c .before .before .number .given in
     let z = signed (given .0 .0) (given .0 .1 .0) in
     sym (ap (plainUnder range) (given .1)
-    ∙ far-away (range .low) (range .high) (start .pre .low-end) (start .pre .high-end) z (Reads z)
-    (omega (arith, signed-abs (given .0 .0) (given .0 .1 .0))))
+    ∙ far-away range (start .pre) z (Reads z) (omega (arith, signed-abs (given .0 .0) (given .0 .1 .0))))
 
 cast-size : tie.Need-cast-size
 cast-size c = search needs
@@ -56,48 +53,34 @@ cast-size c = search needs
 sub-whole : tie.Need-sub-whole
 sub-whole c = opposite-fits (c .before .before .before .number .given .0 .1 .0) (omega arith)
 
--- the number, the range and what the tests read of them
-module _ (c : tie.Joined2) where
-  abbrev z : ℤ
-  z = signed (c .before .before .before .number .given .0 .0) (c .before .before .before .number .given .0 .1 .0)
-
-  abbrev range : Range
-  range = c .before .before .before .before .before .args .range
-
-  whole-is : toZ w32 (c .if2 .whole) ≡ z
-  whole-is =
-      let given = c .before .before .before .number .given in
-      ⊎-elim (λ w. negative-is (given .0 .1 .0) (omega arith) (given .0 .0) (c .if2 .whole) (w .0 .taken) (w .1))
-      (λ w. positive-is (given .0 .1 .0) (omega arith) (given .0 .0) (c .if2 .whole) (w .0 .left) (w .1)) (c .if2 .came)
-
-  low-test : (b : Bool) → ltZ (toZ w32 (c .if2 .whole)) (back w32 (range .low)) ≡ b → ltZ z (range .low) ≡ b
-  low-test b t = ap₂ ltZ (sym whole-is) (sym (back32 (range .low) (omega arith))) ∙ t
-
-  high-test : (b : Bool) → ltZ (back w32 (range .high)) (toZ w32 (c .if2 .whole)) ≡ b → ltZ (range .high) z ≡ b
-  high-test b t = ap₂ ltZ (sym (back32 (range .high) (omega arith))) (sym whole-is) ∙ t
-
-  defined : plainUnder range (c .before .before .before .before .before .args .number) ≡ underRange (range .low) (range .high) z (Reads z)
-  defined = ap (plainUnder range) (c .before .before .before .number .given .1)
+in-range-requires : tie.Need-in-range-requires
+in-range-requires c κs = search needs
 
 returns-2 : tie.Need-returns-2
-returns-2 c =
-    let whole = c .before .before .before in
-    sym (defined whole ∙ below-low (range whole .low) (range whole .high) (z whole) (Reads (z whole)) (low-test whole true (c .if3 .taken)))
+returns-2 c = search needs
+
+-- the number, and what is answered by the test
+module _ (c : tie.After-in-range) where
+  whole-is : toZ w32 (c .before .if2 .whole) ≡ signed (c .before .before .before .before .number .given .0 .0) (c .before .before .before .before .number .given .0 .1 .0)
+  whole-is =
+      let joined = c .before .if2 in
+      let given = c .before .before .before .before .number .given in
+      ⊎-elim (λ w. negative-is (given .0 .1 .0) (omega arith) (given .0 .0) (joined .whole) (w .0 .taken) (w .1))
+      (λ w. positive-is (given .0 .1 .0) (omega arith) (given .0 .0) (joined .whole) (w .0 .left) (w .1)) (joined .came)
+
+  answered : (b : Bool) → c .in-range .result ≡ b
+      → cond b (Reads (toZ w32 (c .before .if2 .whole))) OutOfRange
+      ≡ plainUnder (c .before .before .before .before .before .before .args .range) (c .before .before .before .before .before .before .args .number)
+  answered b t =
+      let args = c .before .before .before .before .before .before .args in
+      ap₂ (λ t z. cond t (Reads z) OutOfRange) (sym t ∙ c .in-range .ensures ∙ ap (inRange (args .range)) whole-is) whole-is
+      ∙ sym (ap (plainUnder (args .range)) (c .before .before .before .before .number .given .1))
 
 returns-3 : tie.Need-returns-3
-returns-3 c =
-    let whole = c .before .before .before .before .before .before in
-    sym (defined whole ∙ above-high (range whole .low) (range whole .high) (z whole) (Reads (z whole)) (high-test whole true (c .if4 .taken)))
+returns-3 c = answered (c .before) true (c .if3 .taken)
 
 returns-4 : tie.Need-returns-4
-returns-4 c = search needs
-
-returns-5 : tie.Need-returns-5
-returns-5 c =
-    let whole = c .before .before .before .before .before .before in
-    ap Reads (whole-is whole)
-    ∙ sym (defined whole ∙ in-range (range whole .low) (range whole .high) (z whole) (Reads (z whole))
-    (low-test whole false (c .before .before .before .if3 .left)) (high-test whole false (c .if4 .left)))
+returns-4 c = answered (c .before) false (c .if3 .left)
 
 pub plain-value-spec : {M : Type 1} → statement M
 plain-value-spec =
@@ -108,7 +91,7 @@ plain-value-spec =
     returns
     cast-size
     sub-whole
+    in-range-requires
     returns-2
     returns-3
-    returns-4
-    returns-5)
+    returns-4)

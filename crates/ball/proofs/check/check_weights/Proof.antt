@@ -1,12 +1,14 @@
 -- `ball::check::check_weights` meets its contract: its tests are those of the definition, in its order, and past them the weights are a
 -- set of weights of the rows.
 use mathlib.Core.Path.{sym, _∙_, ap}
+use native.Mathlib.Nat.{le-refl}
 use native.Mathlib.Omega.{arith}
 use borrow.Author.Needs.{needs}
 use Rattle.geometry.specs.Contracts.{WeightsOf}
+use Rattle.limits.specs.Limits.{total}
 use Rattle.ball.specs.Check.{notChecked}
 use Rattle.ball.specs.DrawLaws.{checking-places, checking-sum}
-use Rattle.geometry.specs.TableLaws.{within-table}
+use Rattle.geometry.specs.TableLaws.{within-table, weights-within}
 use Rattle.ball.proofs.Laws.{weighed}
 use Rattle.ball.proofs.check.check_weights.Statement.{statement}
 use Rattle.ball.proofs.check.check_weights.Tie as tie
@@ -44,11 +46,11 @@ returns-2 c =
     (λ e. tested .if2 .taken (tested .before .weights-total .ensures ∙ e)))
 
 -- past the last test the weights sum to the total
-good : (c : tie.Else2) → let a = c .before .before .before .before .args in WeightsOf (a .m) (a .weights .now)
+good : (c : tie.Else2) → let a = c .before .before .before .before .args in WeightsOf total (a .m) (a .weights .now)
 good c = record { places = omega (arith, c .before .before .if1 .left); sum = sym (c .before .weights-total .ensures) ∙ c .if2 .left }
 
 scaled-centre-requires : tie.Need-scaled-centre-requires
-scaled-centre-requires c κs = (within-table _ _ _ (c .before .before .before .before .pre), good c)
+scaled-centre-requires c κs = (within-table _ _ _ (c .before .before .before .before .pre), weights-within (le-refl total) (good c))
 
 slice-aggregate-pair-of : tie.Need-slice-aggregate-pair-of
 slice-aggregate-pair-of c = search needs
@@ -66,7 +68,7 @@ ball-of-requires c κs =
 returns-3 : tie.Need-returns-3
 returns-3 c =
     let e = c .before .before .before .before in
-    weighed _ _ _ (e .before .before .before .before .pre) (e .before .before .if1 .left) (good e) (c .ball-of .ensures)
+    weighed _ _ _ _ (e .before .before .before .before .pre) (e .before .before .if1 .left) (good e) (c .ball-of .ensures)
 
 pub check-weights-spec : {M : Type 1} → statement M
 check-weights-spec =

@@ -1,13 +1,13 @@
--- `ball::check::not_checked` meets its contract: `no_ball` gives the ball of a refusal.
+-- `ball::check::not_checked` meets its contract: `empty_ball` gives the ball of a refusal.
 use borrow.Author.Needs.{needs}
 use Rattle.ball.proofs.check.not_checked.Statement.{statement}
 use Rattle.ball.proofs.check.not_checked.Tie as tie
 
-no-ball-requires : tie.Need-no-ball-requires
-no-ball-requires c κs = search needs
+empty-ball-requires : tie.Need-empty-ball-requires
+empty-ball-requires c κs = search needs
 
 returns : tie.Need-returns
 returns c = cc
 
 pub not-checked-spec : {M : Type 1} → statement M
-not-checked-spec = tie.close (tie.spec no-ball-requires returns)
+not-checked-spec = tie.close (tie.spec empty-ball-requires returns)

@@ -1,13 +1,13 @@
--- `ball::draw::not_drawn` meets its contract: `no_ball` gives the ball of a refusal.
+-- `ball::draw::not_drawn` meets its contract: `empty_ball` gives the ball of a refusal.
 use borrow.Author.Needs.{needs}
 use Rattle.ball.proofs.draw.not_drawn.Statement.{statement}
 use Rattle.ball.proofs.draw.not_drawn.Tie as tie
 
-no-ball-requires : tie.Need-no-ball-requires
-no-ball-requires c κs = search needs
+empty-ball-requires : tie.Need-empty-ball-requires
+empty-ball-requires c κs = search needs
 
 returns : tie.Need-returns
 returns c = cc
 
 pub not-drawn-spec : {M : Type 1} → statement M
-not-drawn-spec = tie.close (tie.spec no-ball-requires returns)
+not-drawn-spec = tie.close (tie.spec empty-ball-requires returns)

@@ -1,18 +1,20 @@
 -- `ball::draw::run` meets its contract. The loop's invariant: the run from these weights with the moves left is the whole run, the
 -- weights sum to the total, and X and the pair of rows are theirs. The measure is the number of moves left.
 use Prim.Native.Nat.{_-_}
-use mathlib.Core.Path.{_≡_, sym, _∙_}
+use mathlib.Core.Path.{_≡_, refl, sym, _∙_}
 use mathlib.Core.Bool.{true, _&&_}
 use borrow.Author.Needs.{needs}
 use native.Mathlib.Omega.{arith}
-use lib.Dec.{ltb}
-use Rattle.geometry.specs.TableLaws.{table-row}
-use Rattle.ball.proofs.Laws.{Carried, start-good, begins, ends, centre-good, more, apart, transfer-is, transfer-most, moved-good, shifted-is, again}
+use native.Mathlib.Nat.{le-refl}
+use lib.Dec.{ltb, lit≤}
+use Rattle.geometry.specs.TableLaws.{table-row, weights-within}
+use Rattle.limits.specs.Limits.{total}
+use Rattle.ball.proofs.Laws.{Carried, start-good, begins, ends, centre-good, more, apart, transfer-most, can-move, moved-good, shifted-is, again}
 use Rattle.ball.proofs.draw.run.Statement.{statement}
 use Rattle.ball.proofs.draw.run.Tie as tie
 
 abbrev Inv-loop : tie.InvT-loop
-Inv-loop rows m n budget weights₀ centre₀ pair₀ moves₀ weights centre pair moves = Carried rows m n budget weights centre pair moves
+Inv-loop rows m n budget weights₀ centre₀ pair₀ moves₀ weights centre pair moves = Carried total rows m n budget weights centre pair moves
 
 abbrev μ-loop : tie.MeasureT-loop
 μ-loop rows m n budget weights₀ centre₀ pair₀ moves₀ weights centre pair moves = budget - moves
@@ -34,7 +36,9 @@ slice-aggregate-scaled-centre : tie.Need-slice-aggregate-scaled-centre Inv-loop 
 slice-aggregate-scaled-centre c = search needs
 
 scaled-centre-requires : tie.Need-scaled-centre-requires Inv-loop μ-loop
-scaled-centre-requires c κs = (c .before .before .pre, start-good (c .before .before .pre) (c .before .all-on-first .ensures))
+scaled-centre-requires c κs =
+    let table = c .before .before .pre in
+    (table, weights-within (le-refl total) (start-good table (c .before .all-on-first .ensures)))
 
 slice-aggregate-pair-of : tie.Need-slice-aggregate-pair-of Inv-loop μ-loop
 slice-aggregate-pair-of c = search needs
@@ -50,16 +54,16 @@ pair-of-requires c κs =
 loop-holds : tie.Need-loop-holds Inv-loop μ-loop
 loop-holds c =
     let first = c .before .before .before .before .before in
-    begins (first .before .pre) (first .all-on-first .ensures) (c .before .before .before .scaled-centre .ensures) (c .pair-of .ensures)
+    begins (first .before .pre) (first .all-on-first .ensures) (lit≤ tt) (le-refl total) (c .before .before .before .scaled-centre .ensures) (c .pair-of .ensures)
 
 goes-on-requires : tie.Need-goes-on-requires Inv-loop μ-loop
 goes-on-requires c κs = search needs
 
 mul-transfer-of : tie.Need-mul-transfer-of Inv-loop μ-loop
-mul-transfer-of c = omega (arith, head c .loop .inv .paired .near-within, entry c .pre .rows-most)
+mul-transfer-of c = omega (arith, head c .loop .inv .paired, entry c .pre .rows-most)
 
 array-read-transfer-of : tie.Need-array-read-transfer-of Inv-loop μ-loop
-array-read-transfer-of c = omega (arith, head c .loop .inv .paired .near-within, entry c .pre .rows-most)
+array-read-transfer-of c = omega (arith, head c .loop .inv .paired, entry c .pre .rows-most)
 
 transfer-of-requires : tie.Need-transfer-of-requires Inv-loop μ-loop
 transfer-of-requires c κs =
@@ -68,17 +72,17 @@ transfer-of-requires c κs =
 
 one-move-requires : tie.Need-one-move-requires Inv-loop μ-loop
 one-move-requires c κs =
-    let table = entry (c .before) .pre in
-    let here = head (c .before) .loop .inv in
-    (table, (here .weights-good, (here .paired, transfer-is table here (goes (c .before)) (c .transfer-of .ensures))))
+    let turn = c .before in
+    let here = head turn .loop .inv in
+    can-move (entry turn .pre) here (goes turn) (c .transfer-of .ensures) (omega (arith, here .paired)) (omega (arith, here .paired))
 
 shift-centre-requires : tie.Need-shift-centre-requires Inv-loop μ-loop
 shift-centre-requires c κs =
     let turn = c .before .before in
     let table = entry turn .pre in
     let here = head turn .loop .inv in
-    let t-most = transfer-most table here (goes turn) (c .before .transfer-of .ensures) in
-    (table-row table _ (here .paired .near-within), (table-row table _ (here .paired .far-within), (centre-good table here, t-most)))
+    let t-most = transfer-most table here (goes turn) (c .before .transfer-of .ensures) (omega (arith, here .paired)) in
+    (table-row table _ (omega (arith, here .paired)), (table-row table _ (omega (arith, here .paired)), (centre-good table here, t-most)))
 
 slice-aggregate-pair-of-3 : tie.Need-slice-aggregate-pair-of-3 Inv-loop μ-loop
 slice-aggregate-pair-of-3 c = search needs
@@ -93,8 +97,13 @@ pair-of-requires-2 c κs =
     let here = head turn .loop .inv in
     let stepped = c .before .before .before .before .transfer-of .ensures in
     let move = c .before .before .before .one-move .ensures in
-    let shift = c .before .before .shift-centre .ensures in
-    (table, (moved-good table here (goes turn) stepped move, shifted-is table here (goes turn) stepped move shift))
+    let shift = c .before .before .shift-centre .ensures in (
+      table,
+      (
+        moved-good table here (goes turn) stepped (omega (arith, here .paired)) _ move (omega (arith, here .paired)),
+        shifted-is table here (goes turn) stepped (omega (arith, here .paired)) _ move (omega (arith, here .paired)) shift,
+      ),
+    )
 
 add-moves : tie.Need-add-moves Inv-loop μ-loop
 add-moves c =
@@ -112,7 +121,8 @@ loop-again c =
     let stepped = c .before .before .before .before .before .transfer-of .ensures in
     let move = c .before .before .before .before .one-move .ensures in
     let shift = c .before .before .before .shift-centre .ensures in
-    again (entry turn .pre) (head turn .loop .inv) (goes turn) stepped move shift (c .pair-of2 .ensures)
+    let here = head turn .loop .inv in
+    again (entry turn .pre) here (goes turn) stepped (omega (arith, here .paired)) _ move (omega (arith, here .paired)) shift refl refl (c .pair-of2 .ensures)
 
 returns : tie.Need-returns Inv-loop μ-loop
 returns c = ends (c .before .before .before .before .before .before .before .before .before .pre) (c .before .before .loop .inv) (c .before .goes-on .ensures) (c .if1 .left)

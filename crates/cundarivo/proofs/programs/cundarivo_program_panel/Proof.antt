@@ -1,6 +1,6 @@
 -- The answer of the call, in numbers.
 use borrow.Author.Needs.{needs}
-use Rattle.cundarivo.proofs.RecordLaws.{numbered}
+use Rattle.export_answers.specs.ContractLaws.{numbered}
 use Rattle.cundarivo.proofs.programs.cundarivo_program_panel.Statement.{statement}
 use Rattle.cundarivo.proofs.programs.cundarivo_program_panel.Tie as tie
 

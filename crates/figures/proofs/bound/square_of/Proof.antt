@@ -1,4 +1,4 @@
--- `figures::bound::square_of` meets its contract: the coordinate is within 4,000 of 0, so that its square fits an i64 and is read
+-- `figures::bound::square_of` meets its contract: the coordinate is within its limit, so that its square fits an i64 and is read
 -- back as it is.
 use mir.Syntax.{w32, w64}
 use Rattle.integers.specs.Reading.{back, Reads, held, kept, fits, product, square-cast, square-is}

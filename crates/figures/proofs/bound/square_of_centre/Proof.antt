@@ -1,4 +1,4 @@
--- `figures::bound::square_of_centre` meets its contract: the coordinate of X is within 262,144,000 of 0, so that its square fits an
+-- `figures::bound::square_of_centre` meets its contract: the coordinate of X is within its limit, so that its square fits an
 -- i64 and is read back as it is.
 use mir.Syntax.{w64}
 use Rattle.integers.specs.Reading.{back, Reads, held, fits, product, square-cast, square-is}
@@ -6,8 +6,8 @@ use Rattle.limits.specs.Limits.{centreLimit, total}
 use Rattle.figures.proofs.bound.square_of_centre.Statement.{statement}
 use Rattle.figures.proofs.bound.square_of_centre.Tie as tie
 
-coordinate : (c : tie.Start) → Reads (back w64 (c .args .centre)) (c .args .centre) (centreLimit total)
-coordinate c = held (c .fits .centre) (c .pre)
+coordinate : (c : tie.Start) → Reads (back w64 (c .args .scaled-centre)) (c .args .scaled-centre) (centreLimit total)
+coordinate c = held (c .fits .scaled-centre) (c .pre)
 
 mul-result : tie.Need-mul-result
 mul-result c = fits (product (coordinate c) (coordinate c)) tt

@@ -5,7 +5,7 @@ use native.Mathlib.Omega.{arith}
 use Rattle.integers.specs.Sum.{square}
 use Rattle.geometry.specs.Figures.{squaredLength}
 use Rattle.geometry.specs.Table.{coordinate}
-use Rattle.limits.specs.Limits.{coordinateLimit}
+use Rattle.limits.specs.Limits.{channelLimit, coordinateLimit}
 use Rattle.integers.specs.Partial.{Partial, partial-none, partial-more, partial-all}
 use Rattle.geometry.specs.TableLaws.{row-held}
 use Rattle.integers.specs.Reading.{passed, given}
@@ -53,7 +53,7 @@ loop-again c =
 
 returns : tie.Need-returns Inv-loop μ-loop
 unfolding squaredLength
-returns c = partial-all 8 (c .before .loop .inv) (c .loop-test .left) (omega arith)
+returns c = partial-all channelLimit (c .before .loop .inv) (c .loop-test .left) (omega arith)
 
 pub squared-length-spec : {M : Type 1} → statement M
 squared-length-spec =

@@ -1,5 +1,5 @@
 -- `figures::bound::squared_length_of_centre` meets its contract. The loop's invariant: the sum is that of the squares of the
--- coordinates passed, each at most 68,719,476,736,000,000. The measure is what is left of the channels.
+-- coordinates passed, each at most the square of X's limit. The measure is what is left of the channels.
 use Prim.Native.Nat.{_-_, _*_}
 use native.Mathlib.Omega.{arith}
 use Rattle.integers.specs.Sum.{square}
@@ -8,7 +8,7 @@ use Rattle.geometry.specs.Places.{centreOf}
 use Rattle.integers.specs.Partial.{Partial, partial-none, partial-more, partial-all}
 use Rattle.geometry.specs.TableLaws.{centre-held}
 use Rattle.integers.specs.Reading.{passed, given}
-use Rattle.limits.specs.Limits.{centreLimit, total}
+use Rattle.limits.specs.Limits.{channelLimit, centreLimit, total}
 use Rattle.figures.proofs.bound.squared_length_of_centre.Statement.{statement}
 use Rattle.figures.proofs.bound.squared_length_of_centre.Tie as tie
 
@@ -47,7 +47,7 @@ loop-again c =
 
 returns : tie.Need-returns Inv-loop μ-loop
 unfolding squaredLength
-returns c = partial-all 8 (c .before .loop .inv) (c .loop-test .left) (omega arith)
+returns c = partial-all channelLimit (c .before .loop .inv) (c .loop-test .left) (omega arith)
 
 pub squared-length-of-centre-spec : {M : Type 1} → statement M
 squared-length-of-centre-spec =

@@ -1,5 +1,5 @@
 -- `figures::bound::weighted_squared_length` meets its contract. The loop's invariant: the sum is that of weight times squared length
--- over the rows passed, at most 128,000,000 times their weights, which sum to at most D. The measure is what is left of the rows.
+-- over the rows passed, at most the limit on a squared length times their weights, which sum to at most `total`. The measure is what is left of the rows.
 use mathlib.Core.Path.{ap}
 use mathlib.Core.List.{List}
 use Prim.Native.Nat.{ℕ, _+_, _*_, _-_, _≤_, _<_}
@@ -11,7 +11,7 @@ use Rattle.geometry.specs.Move.{weightOf}
 use Rattle.geometry.specs.Table.{coordinate}
 use Rattle.limits.specs.Limits.{total, lengthLimit}
 use Rattle.integers.specs.Reading.{Bounded}
-use Rattle.geometry.specs.Contracts.{WeightsOf}
+use Rattle.geometry.specs.Contracts.{WeightsWithin}
 use Rattle.geometry.specs.TableLaws.{table-row, weights-passed, weights-next}
 use Rattle.integers.specs.Partial.{Partial, partial-none, partial-more, partial-all}
 use Rattle.integers.specs.SumLaws.{sumℕ-next}
@@ -19,7 +19,7 @@ use Rattle.figures.proofs.bound.weighted_squared_length.Statement.{stat
 use Rattle.figures.proofs.bound.weighted_squared_length.Tie as tie
 
 -- weight times a bounded number, and the bound of the sum with it
-module _ {m : ℕ} {w : List ℕ} (g : WeightsOf m w) (i : ℕ) (l : i < m) {r d : ℕ} (b : Bounded lengthLimit r d) where
+module _ {m : ℕ} {w : List ℕ} (g : WeightsWithin total m w) (i : ℕ) (l : i < m) {r d : ℕ} (b : Bounded lengthLimit r d) where
   term : Bounded (lengthLimit * weightOf w i) (weightOf w i * r) (weightOf w i * d)
   term = record { is = ap (λ x. weightOf w i * x) (b .is); most = omega (arith, mul-le-mul-left (weightOf w i) (b .most)) }
 

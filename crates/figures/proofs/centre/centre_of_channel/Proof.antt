@@ -1,5 +1,5 @@
 -- `figures::centre::centre_of_channel` meets its contract. The loop's invariant: `at` is the place of row i's channel, and the sum is
--- that of weight times coordinate over the rows passed, within 4,000 times their weights of 0. The weights sum to D, so that each sum
+-- that of weight times coordinate over the rows passed, within the coordinates' limit times their weights of 0. The weights sum to at most `total`, so that each sum
 -- fits an i64. The measure is what is left of the rows.
 use mathlib.Core.Path.{_≡_, refl, sym, ap, subst, _∙_}
 use mathlib.Core.List.{List}
@@ -15,8 +15,8 @@ use Rattle.integers.specs.Sum.{sumℤ, sumℕ}
 use Rattle.geometry.specs.Figures.{scaledCentre}
 use Rattle.geometry.specs.Move.{weightOf}
 use Rattle.geometry.specs.Table.{coordinate}
-use Rattle.limits.specs.Limits.{coordinateLimit}
-use Rattle.geometry.specs.Contracts.{Table, WeightsOf}
+use Rattle.limits.specs.Limits.{total, coordinateLimit}
+use Rattle.geometry.specs.Contracts.{Table, WeightsWithin}
 use Rattle.geometry.specs.TableLaws.{table-row, weight-most, row-held, weights-next}
 use Rattle.figures.specs.Contracts.{Weighted}
 use Rattle.integers.specs.Reading.{back, Reads, kept, fits, addition, passed}
@@ -33,7 +33,7 @@ record Passed (rows : List ℤ) (m n : ℕ) (w : List ℕ) (k : ℕ) (z : ℤ) (
   place : at ≡ i * n + k
   read : Reads z (sumℤ i (term rows n w k)) (coordinateLimit * sumℕ i (weightOf w))
 
-module _ {rows : List ℤ} {m n : ℕ} {w : List ℕ} {k : ℕ} (t : Table rows m n) (g : WeightsOf m w) (l : k < n) where
+module _ {rows : List ℤ} {m n : ℕ} {w : List ℕ} {k : ℕ} (t : Table rows m n) (g : WeightsWithin total m w) (l : k < n) where
   passed-none : Passed rows m n w k (pos 0) k 0
   unfolding sumℤ sumℕ
   passed-none = record { row = omega arith; place = omega arith; read = record { is = refl; most = omega arith } }

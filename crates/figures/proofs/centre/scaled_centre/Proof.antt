@@ -27,11 +27,11 @@ loop-holds c = (omega arith, refl)
 centre-of-channel-requires : tie.Need-centre-of-channel-requires Inv-loop μ-loop
 centre-of-channel-requires c κs = search needs
 
-mul-centre : tie.Need-mul-centre Inv-loop μ-loop
-mul-centre c = omega arith
+mul-scaled-centre : tie.Need-mul-scaled-centre Inv-loop μ-loop
+mul-scaled-centre c = omega arith
 
-array-set-from-centre : tie.Need-array-set-from-centre Inv-loop μ-loop
-array-set-from-centre c = omega arith
+array-set-from-scaled-centre : tie.Need-array-set-from-scaled-centre Inv-loop μ-loop
+array-set-from-scaled-centre c = omega arith
 
 add-k : tie.Need-add-k Inv-loop μ-loop
 add-k c = omega arith
@@ -45,7 +45,7 @@ loop-again c =
     let l = c .before .before .loop in
     let X = scaledCentre (coordinate (s .args .rows .now) (s .args .n)) (weightOf (s .args .weights .now)) (s .args .m) in (
       omega arith,
-      centreList-stored X (l .k) (omega arith) w64 (l .centre) (c .centre-of-channel .result)
+      centreList-stored X (l .k) (omega arith) w64 (l .scaled-centre) (c .centre-of-channel .result)
           (omega (arith, centre-at-most (s .pre .0) (s .pre .1) (l .k) (omega arith))) (l .inv .1) (c .centre-of-channel .ensures),
     )
 
@@ -63,8 +63,8 @@ scaled-centre-spec =
     μ-loop
     loop-holds
     centre-of-channel-requires
-    mul-centre
-    array-set-from-centre
+    mul-scaled-centre
+    array-set-from-scaled-centre
     add-k
     loop-less
     loop-again

@@ -1,4 +1,4 @@
--- `figures::centre::weighted` meets its contract: the weight is at most D and the coordinate within 4,000 of 0, so that the product
+-- `figures::centre::weighted` meets its contract: the weight is at most `total` and the coordinate within its limit, so that the product
 -- fits an i64 and is read back as it is.
 use borrow.Author.Needs.{needs}
 use mathlib.Core.Path.{sym, subst}
@@ -8,12 +8,12 @@ use native.Mathlib.Omega.{arith}
 use lib.IntN.{pos, natAbs, _*ℤ_}
 use mir.Syntax.{w32, w64}
 use Rattle.integers.specs.Reading.{back, Reads, held, number, kept, fits, product}
-use Rattle.limits.specs.Limits.{coordinateLimit}
+use Rattle.limits.specs.Limits.{total, coordinateLimit, centreLimit}
 use Rattle.figures.proofs.centre.weighted.Statement.{statement}
 use Rattle.figures.proofs.centre.weighted.Tie as tie
 
 module _ (c : tie.Start) where
-  scaled : Reads (back w64 (pos (c .args .weight)) *ℤ back w64 (back w32 (c .args .a))) (pos (c .args .weight) *ℤ c .args .a) 262144000
+  scaled : Reads (back w64 (pos (c .args .weight)) *ℤ back w64 (back w32 (c .args .a))) (pos (c .args .weight) *ℤ c .args .a) (centreLimit total)
   scaled = product (kept (number (c .args .weight) (c .pre .0)) tt) (kept (held (c .fits .a) (c .pre .1)) tt)
 
 cast-result : tie.Need-cast-result

@@ -1,4 +1,4 @@
--- `figures::distance::scaled_square` meets its contract: D times the coordinate, less X, is within 524,288,000 of 0, so that every
+-- `figures::distance::scaled_square` meets its contract: D times the coordinate, less X, is within twice the limit on X of 0, so that every
 -- step fits an i64 and the square is read back as it is.
 use borrow.Author.Needs.{needs}
 use native.Mathlib.Nat.{le-refl}
@@ -14,8 +14,8 @@ module _ (c : tie.Start) where
   scaled : Reads (pos total *ℤ back w64 (back w32 (c .args .a))) (pos total *ℤ c .args .a) (centreLimit total)
   scaled = product (number total (le-refl total)) (kept (held (c .fits .a) (c .pre .0)) tt)
 
-  gap : Reads (back w64 (pos total *ℤ back w64 (back w32 (c .args .a))) -ℤ back w64 (c .args .centre)) (pos total *ℤ c .args .a -ℤ c .args .centre) (2 * centreLimit total)
-  gap = difference (kept scaled tt) (held (c .fits .centre) (c .pre .1))
+  gap : Reads (back w64 (pos total *ℤ back w64 (back w32 (c .args .a))) -ℤ back w64 (c .args .scaled-centre)) (pos total *ℤ c .args .a -ℤ c .args .scaled-centre) (2 * centreLimit total)
+  gap = difference (kept scaled tt) (held (c .fits .scaled-centre) (c .pre .1))
 
 cast-d : tie.Need-cast-d
 cast-d c = search needs

@@ -1,12 +1,12 @@
 -- `figures::distance::scaled_squared_distance` meets its contract. The loop's invariant: the sum is that of the squares of the
--- channels passed, each at most 274,877,906,944,000,000. The measure is what is left of the channels.
+-- channels passed, each at most the square of twice the limit on X. The measure is what is left of the channels.
 use Prim.Native.Nat.{_-_, _*_}
 use native.Mathlib.Omega.{arith}
 use lib.IntN.{pos, _-ℤ_, _*ℤ_}
 use Rattle.integers.specs.Sum.{square}
 use Rattle.geometry.specs.Figures.{squaredLength, scaledSquaredDistance}
 use Rattle.geometry.specs.Table.{coordinate}
-use Rattle.limits.specs.Limits.{total, centreLimit}
+use Rattle.limits.specs.Limits.{total, channelLimit, centreLimit}
 use Rattle.geometry.specs.Places.{centreOf}
 use Rattle.integers.specs.Partial.{Partial, partial-none, partial-more, partial-all}
 use Rattle.geometry.specs.TableLaws.{row-held, centre-held}
@@ -68,7 +68,7 @@ loop-again c =
 
 returns : tie.Need-returns Inv-loop μ-loop
 unfolding squaredLength scaledSquaredDistance
-returns c = partial-all 8 (c .before .loop .inv) (omega arith) (omega arith)
+returns c = partial-all channelLimit (c .before .loop .inv) (omega arith) (omega arith)
 
 pub scaled-squared-distance-spec : {M : Type 1} → statement M
 scaled-squared-distance-spec =

@@ -1,12 +1,14 @@
--- `figures::distance::square_of_difference` meets its contract: the difference is within 8,000 of 0, so that every step fits an i64
+-- `figures::distance::square_of_difference` meets its contract: the difference is within twice the coordinates' limit of 0, so that every step fits an i64
 -- and the square is read back as it is.
+use Prim.Native.Nat.{_*_}
 use lib.IntN.{_-ℤ_}
 use mir.Syntax.{w32, w64}
 use Rattle.integers.specs.Reading.{back, Reads, held, kept, fits, difference, product, square-cast, square-is}
+use Rattle.limits.specs.Limits.{coordinateLimit}
 use Rattle.figures.proofs.distance.square_of_difference.Statement.{statement}
 use Rattle.figures.proofs.distance.square_of_difference.Tie as tie
 
-gap : (c : tie.Start) → Reads (back w64 (back w64 (back w32 (c .args .a)) -ℤ back w64 (back w32 (c .args .b)))) (c .args .a -ℤ c .args .b) 8000
+gap : (c : tie.Start) → Reads (back w64 (back w64 (back w32 (c .args .a)) -ℤ back w64 (back w32 (c .args .b)))) (c .args .a -ℤ c .args .b) (2 * coordinateLimit)
 gap c = kept (difference (kept (held (c .fits .a) (c .pre .0)) tt) (kept (held (c .fits .b) (c .pre .1)) tt)) tt
 
 cast-d : tie.Need-cast-d

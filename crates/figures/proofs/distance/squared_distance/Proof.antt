@@ -1,12 +1,12 @@
 -- `figures::distance::squared_distance` meets its contract. The loop's invariant: the sum is that of the squares of the channels
--- passed, each at most 64,000,000. The measure is what is left of the channels.
+-- passed, each at most the square of twice the coordinates' limit. The measure is what is left of the channels.
 use Prim.Native.Nat.{_-_, _*_}
 use native.Mathlib.Omega.{arith}
 use lib.IntN.{_-ℤ_}
 use Rattle.integers.specs.Sum.{square}
 use Rattle.geometry.specs.Figures.{squaredLength, squaredDistance}
 use Rattle.geometry.specs.Table.{coordinate}
-use Rattle.limits.specs.Limits.{coordinateLimit}
+use Rattle.limits.specs.Limits.{channelLimit, coordinateLimit}
 use Rattle.integers.specs.Partial.{Partial, partial-none, partial-more, partial-all}
 use Rattle.geometry.specs.TableLaws.{row-held}
 use Rattle.integers.specs.Reading.{passed, given₂}
@@ -73,7 +73,7 @@ loop-again c =
 
 returns : tie.Need-returns Inv-loop μ-loop
 unfolding squaredLength squaredDistance
-returns c = partial-all 8 (c .before .loop .inv) (omega arith) (omega arith)
+returns c = partial-all channelLimit (c .before .loop .inv) (omega arith) (omega arith)
 
 pub squared-distance-spec : {M : Type 1} → statement M
 squared-distance-spec =

@@ -1,5 +1,5 @@
--- `figures::table::coordinate_within` meets its contract: a number below -4,000 is farther than 4,000 from 0, and any other is within
--- 4,000 of 0 exactly when it is at most 4,000.
+-- `figures::table::coordinate_within` meets its contract: a number below minus the limit is farther than it from 0, and any other is within
+-- it of 0 exactly when it is at most the limit.
 use borrow.Author.Needs.{needs}
 use mir.Syntax.{w32}
 use Rattle.integers.specs.Absolute.{low-test, high-test}

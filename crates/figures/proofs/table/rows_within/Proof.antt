@@ -30,24 +30,24 @@ returns-2 : tie.Need-returns-2
 unfolding rowsWithin
 returns-2 c =
     let a = c .before .before .args in
-    rw (le-leb 1 (a .n) (omega arith), lt-leb (a .n) 8 (omega arith))
+    rw (le-leb 1 (a .n) (omega arith), lt-leb (a .n) channelLimit (omega arith))
 
 returns-3 : tie.Need-returns-3
 unfolding rowsWithin
 returns-3 c =
     let a = c .before .before .before .args in
-    rw (le-leb 1 (a .n) (omega arith), le-leb (a .n) 8 (omega arith), lt-leb 1 (a .m) (omega arith))
+    rw (le-leb 1 (a .n) (omega arith), le-leb (a .n) channelLimit (omega arith), lt-leb 1 (a .m) (omega arith))
 
 returns-4 : tie.Need-returns-4
 unfolding rowsWithin
 returns-4 c =
     let a = c .before .before .before .before .args in
-    rw (le-leb 1 (a .n) (omega arith), le-leb (a .n) 8 (omega arith), le-leb 1 (a .m) (omega arith), lt-leb (a .m) 256 (omega arith))
+    rw (le-leb 1 (a .n) (omega arith), le-leb (a .n) channelLimit (omega arith), le-leb 1 (a .m) (omega arith), lt-leb (a .m) rowLimit (omega arith))
 
 mul-count : tie.Need-mul-count
 mul-count c =
     let a = c .before .before .before .before .args in
-    omega (arith, mul-le-mul {n₁ = a .m} {m₁ = a .n} {n₂ = 256} {m₂ = 8} (omega arith) (omega arith))
+    omega (arith, mul-le-mul {n₁ = a .m} {m₁ = a .n} {n₂ = rowLimit} {m₂ = channelLimit} (omega arith) (omega arith))
 
 returns-5 : tie.Need-returns-5
 returns-5 c =

@@ -1,8 +1,9 @@
 -- `moves::step::pair_of` meets its contract: x is X of the weights, so that s of a row by x is the definition's s, and the rows that
--- the two passes find are the definition's. s of the near row is at most s of the far row. Assumes nothing.
+-- the two passes find are the definition's. s of the near row is at most s of the far row.
 use Prim.Native.Nat.{ℕ, _-_, _/_, _≤_}
 use mathlib.Core.Path.{_≡_, refl, sym, _∙_, ap, ap₂, subst}
 use mathlib.Core.List.{List}
+use native.Mathlib.Nat.{le-refl}
 use native.Mathlib.Omega.{arith}
 use borrow.Author.Needs.{needs}
 use lib.Dec.{ltb}
@@ -17,48 +18,48 @@ use Rattle.integers.specs.Reading.{Bounded}
 use Rattle.geometry.specs.Contracts.{CentreWithin, Table, WeightsOf}
 use Rattle.geometry.specs.FigureLaws.{centre-within, distance-centreList}
 use Rattle.geometry.specs.SelectLaws.{farthest-cong, farthest-mostℕ, nearest-cong}
-use Rattle.geometry.specs.TableLaws.{table-row}
+use Rattle.geometry.specs.TableLaws.{table-row, weights-within}
 use Rattle.moves.specs.Contracts.{Found, Paired, score}
 use Rattle.moves.specs.declared.Selected.{Selected}
 use Rattle.moves.proofs.step.pair_of.Statement.{statement}
 use Rattle.moves.proofs.step.pair_of.Tie as tie
 
-module _ {rows x : List ℤ} {m n : ℕ} {ws : List ℕ} (t : Table rows m n) (g : WeightsOf m ws)
+module _ {rows x : List ℤ} {m n : ℕ} {ws : List ℕ} (t : Table rows m n) (g : WeightsOf total m ws)
     (e : x ≡ centreList n (scaledCentre (coordinate rows n) (weightOf ws) m)) where
   centre : CentreWithin n x
-  centre = subst (CentreWithin n) (sym e) (centre-within t g)
+  centre = subst (CentreWithin n) (sym e) (centre-within t (weights-within (le-refl total) g))
 
-  score-is : (i : ℕ) → score rows n x i ≡ scaledSquaredDistanceOf total m n (coordinate rows n) (weightOf ws) i
+  score-is : (i : ℕ) → score total rows n x i ≡ scaledSquaredDistanceOf total m n (coordinate rows n) (weightOf ws) i
   unfolding scaledSquaredDistanceOf
   score-is i =
       ap (λ y. scaledSquaredDistance total n (centreOf y) (coordinate rows n i)) e ∙
       distance-centreList total n (scaledCentre (coordinate rows n) (weightOf ws) m) (coordinate rows n i) (t .channels)
 
-  module _ {far near : Selected} (f : Found rows m n x (farthest ltb (score rows n x) m) far)
-      (k : Found rows m n x (nearest ltb (weightOf ws) (score rows n x) m) near) where
-    near-most : near .distance ≤ far .distance
+  module _ {far near : Selected} (f : Found total rows m n x (farthest ltb (score total rows n x) m) far)
+      (k : Found total rows m n x (nearest ltb (weightOf ws) (score total rows n x) m) near) where
+    near-most : near .«scaled_squared_distance» ≤ far .«scaled_squared_distance»
     near-most =
-        omega (arith, f .distance-is ∙ ap (score rows n x) (f .is), k .distance-is, farthest-mostℕ (score rows n x) m (near .row) (k .within))
+        omega (arith, f .distance-is ∙ ap (score total rows n x) (f .is), k .distance-is, farthest-mostℕ (score total rows n x) m (near .row) (k .within))
 
     found-far : far .row ≡ farRow total m n (coordinate rows n) (weightOf ws)
     unfolding farRow
-    found-far = f .is ∙ farthest-cong ltb (score rows n x) (scaledSquaredDistanceOf total m n (coordinate rows n) (weightOf ws)) m (λ i l. score-is i)
+    found-far = f .is ∙ farthest-cong ltb (score total rows n x) (scaledSquaredDistanceOf total m n (coordinate rows n) (weightOf ws)) m (λ i l. score-is i)
 
     found-near : near .row ≡ nearRow total m n (coordinate rows n) (weightOf ws)
     unfolding nearRow
     found-near =
         k .is ∙
-        nearest-cong ltb (weightOf ws) (weightOf ws) (score rows n x) (scaledSquaredDistanceOf total m n (coordinate rows n) (weightOf ws)) m (λ i l. refl) (λ i l. score-is i)
+        nearest-cong ltb (weightOf ws) (weightOf ws) (score total rows n x) (scaledSquaredDistanceOf total m n (coordinate rows n) (weightOf ws)) m (λ i l. refl) (λ i l. score-is i)
 
     paired : {s : ℕ} → Bounded separationLimit s (squaredDistance n (coordinate rows n (far .row)) (coordinate rows n (near .row)))
-        → Paired rows m n ws
-        (record { far = far .row; near = near .row; distance = far .distance; difference = (far .distance - near .distance) / 65536; separation = s })
+        → Paired total rows m n ws
+        (record { far = far .row; near = near .row; «scaled_squared_distance» = far .«scaled_squared_distance»; difference = (far .«scaled_squared_distance» - near .«scaled_squared_distance») / total; separation = s })
     unfolding difference separation
     paired b =
         let s = scaledSquaredDistanceOf total m n (coordinate rows n) (weightOf ws) in
-        let far-distance : far .distance ≡ s (farRow total m n (coordinate rows n) (weightOf ws)) =
+        let far-distance : far .«scaled_squared_distance» ≡ s (farRow total m n (coordinate rows n) (weightOf ws)) =
         f .distance-is ∙ score-is (far .row) ∙ ap s found-far in
-        let near-distance : near .distance ≡ s (nearRow total m n (coordinate rows n) (weightOf ws)) =
+        let near-distance : near .«scaled_squared_distance» ≡ s (nearRow total m n (coordinate rows n) (weightOf ws)) =
         k .distance-is ∙ score-is (near .row) ∙ ap s found-near in
         record {
           far-is = found-far;
@@ -83,8 +84,8 @@ nearest-row-requires c κs =
     let p = c .before .before .pre in
     (p .0, (centre (p .0) (p .1 .0) (p .1 .1), p .1 .0))
 
-sub-difference : tie.Need-sub-difference
-sub-difference c =
+sub-gap : tie.Need-sub-gap
+sub-gap c =
     let p = c .before .before .before .before .before .pre in
     near-most (p .0) (p .1 .0) (p .1 .1) (c .before .before .before .farthest-row .ensures) (c .before .before .nearest-row .ensures)
 
@@ -113,7 +114,7 @@ pair-of-spec =
     (tie.spec
     farthest-row-requires
     nearest-row-requires
-    sub-difference
+    sub-gap
     cast-difference
     div-difference
     squared-distance-requires

@@ -1,5 +1,5 @@
 -- `moves::step::shift_centre` meets its contract. The loop's invariant: the first k places are shifted and the others are 0. The
--- measure is the number of channels left. Assumes nothing.
+-- measure is the number of channels left.
 use Prim.Native.Nat.{ℕ, _-_, _≤_, _<_}
 use mathlib.Core.Path.{_≡_, refl, _∙_, ap, ap₂}
 use mathlib.Core.List.{List}

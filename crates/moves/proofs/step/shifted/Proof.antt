@@ -1,19 +1,21 @@
--- `moves::step::shifted` meets its contract: the difference is within 8,000 of 0 and t times it within 524,288,000, so that every
--- step fits an i64 and is read back as it is. Assumes nothing.
+-- `moves::step::shifted` meets its contract: the difference is within twice the coordinates' limit of 0 and t times it within `total` times that, so that every
+-- step fits an i64 and is read back as it is.
+use Prim.Native.Nat.{_*_}
 use lib.IntN.{pos, _-ℤ_, _*ℤ_}
 use mir.Syntax.{w32, w64}
 use mir.Val.{toZ}
 use Rattle.integers.specs.Reading.{back, Reads, held, kept, fits, number, addition, difference, product}
+use Rattle.limits.specs.Limits.{total, coordinateLimit}
 use Rattle.moves.proofs.step.shifted.Statement.{statement}
 use Rattle.moves.proofs.step.shifted.Tie as tie
 
 module _ (c : tie.Start) where
-  gap : Reads (back w64 (back w32 (c .args .gains)) -ℤ back w64 (back w32 (c .args .loses))) (c .args .gains -ℤ c .args .loses) 8000
+  gap : Reads (back w64 (back w32 (c .args .gains)) -ℤ back w64 (back w32 (c .args .loses))) (c .args .gains -ℤ c .args .loses) (2 * coordinateLimit)
   gap = difference (kept (held (c .fits .gains) (c .pre .1 .1 .0)) tt) (kept (held (c .fits .loses) (c .pre .1 .1 .1)) tt)
 
   part : Reads
       (toZ w64 (c .args .t) *ℤ back w64 (back w64 (back w32 (c .args .gains)) -ℤ back w64 (back w32 (c .args .loses))))
-      (pos (c .args .t) *ℤ (c .args .gains -ℤ c .args .loses)) 524288000
+      (pos (c .args .t) *ℤ (c .args .gains -ℤ c .args .loses)) (total * (2 * coordinateLimit))
   part = product (kept (number (c .args .t) (c .pre .1 .0)) tt) (kept gap tt)
 
 cast-result : tie.Need-cast-result
@@ -32,10 +34,10 @@ mul-result : tie.Need-mul-result
 mul-result c = fits (part c) tt
 
 add-result : tie.Need-add-result
-add-result c = fits (addition (held (c .fits .centre) (c .pre .0)) (kept (part c) tt)) tt
+add-result c = fits (addition (held (c .fits .scaled-centre) (c .pre .0)) (kept (part c) tt)) tt
 
 returns : tie.Need-returns
-returns c = kept (addition (held (c .fits .centre) (c .pre .0)) (kept (part c) tt)) tt .is
+returns c = kept (addition (held (c .fits .scaled-centre) (c .pre .0)) (kept (part c) tt)) tt .is
 
 pub shifted-spec : {M : Type 1} → statement M
 shifted-spec =

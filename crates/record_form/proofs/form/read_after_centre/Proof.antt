@@ -8,8 +8,9 @@ use borrow.Author.Needs.{needs}
 use borrow.Author.Tests.{not-true, not-false}
 use lib.IntN.{ℤ}
 use Rattle.text.specs.PartsLaws.{partAt}
-use Rattle.record_form.specs.Lines.{Result, resultLine}
-use Rattle.record_form.specs.Contracts.{resultRead, statedForm}
+use Rattle.record_lines.specs.Lines.{Result, resultLine}
+use Rattle.record_lines.specs.Contracts.{resultRead}
+use Rattle.record_form.specs.Contracts.{statedForm}
 use Rattle.record_form.proofs.FormSteps.{AtWeights, line-unended, line-read, at-result, found, not-found, in-form, weights-faulty, rest-stated}
 use Rattle.record_form.proofs.form.read_after_centre.Statement.{statement}
 use Rattle.record_form.proofs.form.read_after_centre.Tie as tie

@@ -9,7 +9,7 @@ use lib.ListN.{take}
 use lib.Seq.{length-take-le}
 use Rattle.channel.specs.Channel.{channelTypes}
 use Rattle.heading.proofs.Headed.{Headed, codesIn, headed, not-headed}
-use Rattle.record_form.specs.Lines.{recordWord}
+use Rattle.record_lines.specs.Lines.{recordWord}
 use Rattle.record_form.specs.Contracts.{statedForm}
 use Rattle.record_form.proofs.FormSteps.{AtCentre, at-heading, line-unended, line-read, heading-read, past-heading, found, not-found, form-stated}
 use Rattle.record_form.proofs.form.read_form.Statement.{statement}

@@ -1,0 +1,2 @@
+-- What the drawing and the check answer.
+pub mod Contracts

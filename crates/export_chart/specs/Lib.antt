@@ -1,0 +1,2 @@
+-- What the chart and the panel answer.
+pub mod Contracts

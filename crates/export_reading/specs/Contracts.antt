@@ -1,0 +1,28 @@
+-- What the exported verdict on a reading answers in numbers.
+--     verdictCode v                      0 where refused, 1 for Quiet, 2 for Alarm, so that no answer left unfilled says Quiet
+--     verdictInNumbers v                 a verdict in numbers
+--     judgeAnswer D types ..             what the exported call answers
+use Prim.Native.Nat.{ℕ}
+use mathlib.Core.List.{List}
+use lib.IntN.{ℤ}
+use Rattle.refusal.specs.Number.{outside-limits}
+use Rattle.channel.specs.Channel.{Types}
+use Rattle.reading.specs.Verdict.{refusedVerdict, verdictNumber, verdictLine, verdictExcess, judged}
+use Rattle.reading.specs.declared.Verdict.{Verdict}
+use Rattle.reading.specs.declared.Verdict.the-variants.{Quiet, Alarm, Refused}
+use Rattle.export_figures.specs.Contracts.{answerGiven}
+use Rattle.export_figures.specs.declared.FiguresGiven.{FiguresGiven}
+use Rattle.export_reading.specs.declared.VerdictAnswer.{VerdictAnswer}
+
+abbrev pub verdictCode : Verdict → ℕ
+verdictCode Quiet = 1
+verdictCode (Alarm excess) = 2
+verdictCode (Refused r) = 0
+
+abbrev pub verdictInNumbers : Verdict → VerdictAnswer
+verdictInNumbers v =
+    record { number = verdictNumber v; line = verdictLine v; verdict = verdictCode v; excess = verdictExcess v }
+
+unfoldable pub judgeAnswer : ℕ → Types → FiguresGiven → List ℕ → List ℤ → List ℕ → VerdictAnswer
+judgeAnswer D types given codes scaledCentre text =
+    verdictInNumbers (answerGiven (λ f. judged D types f text) (refusedVerdict outside-limits 0) given codes scaledCentre)

@@ -1,0 +1,2 @@
+-- What the verdict on a reading answers.
+pub mod Contracts

@@ -1,0 +1,91 @@
+// The reference text for C and Rust: its table and codes go into slices of the caller's, a label is handed back by its place
+// in the text.
+ghost use Prim.Native.Nat.{_*_};
+ghost use mathlib.Core.Path.{_≡_};
+ghost use lib.ListN.{length};
+ghost use Rattle.limits.specs.Limits.{rowLimit};
+ghost use Rattle.lent.specs.Filled.{filled};
+ghost use Rattle.channel.specs.Channel.{channelTypes};
+ghost use Rattle.reference.specs.Reference.{content};
+ghost use Rattle.reference.specs.Contracts.{referenceRead, valuesIn, labelPart};
+ghost use Rattle.export_reference.specs.Contracts.{referenceAnswer, refusedAnswer, labelAnswer};
+use channel::Code;
+use channel::fill_codes;
+use lent::fill_table;
+use limits::PLACES;
+use reference::read::label_part;
+
+// What a reference text answers: number 0 where accepted, else the refusal's number and line, m and n being 0.
+#[repr(C)]
+pub struct ReferenceAnswer {
+    pub number: u32,
+    pub line: u32,
+    pub m: usize,
+    pub n: usize,
+}
+
+// Where a label stands in the text; its length is 0 where there is none.
+#[repr(C)]
+pub struct LabelAnswer {
+    pub start: usize,
+    pub length: usize,
+}
+
+fn refused_answer(number: u32) -> ReferenceAnswer
+    ensures { λ r. ⌜ r ≡ refusedAnswer number ⌝ }
+{
+    ReferenceAnswer {
+        number,
+        line: 0,
+        m: 0,
+        n: 0,
+    }
+}
+
+// Reads a reference text. It fills the first m·n places of `table` with the values and the first n places of `codes` with the
+// codes where accepted, and writes nothing else. Refused: 1, 2, then line by line 6 for a row past the limit, 3, the leftmost
+// 4, 5; then 6 for no row; 7; last 13 for too few places for the codes.
+pub fn read(text: &[u8], table: &mut [i32], codes: &mut [Code]) -> ReferenceAnswer
+    ensures answer { λ r.
+        ⌜ r ≡ referenceAnswer (referenceRead rowLimit channelTypes (now (text .entry)) (length (now (table .entry))))
+        (length (now (codes .entry))) ⌝ }
+    ensures table_filled { λ r.
+        ⌜ now (table .exit) ≡ filled (r .number) (r .m * r .n) (valuesIn (content rowLimit channelTypes (now (text .entry))))
+        (now (table .entry)) ⌝ }
+    ensures codes_filled { λ r.
+        ⌜ now (codes .exit) ≡ filled (r .number) (r .n)
+        (referenceRead rowLimit channelTypes (now (text .entry)) (length (now (table .entry))) .codes) (now (codes .entry)) ⌝ }
+{
+    let mut values = [0i32; PLACES];
+    let reference = reference::read::read(text, &mut values);
+    let m = reference.m;
+    let n = reference.n;
+    let places = m * n;
+    if table.len() < places {
+        return refused_answer(refusal::TABLE_SHORT);
+    }
+    if codes.len() < n {
+        return refused_answer(refusal::BUFFER_SHORT);
+    }
+    fill_table(table, &values, places);
+    let read_codes = reference.codes;
+    fill_codes(codes, &read_codes, n);
+    let outcome = reference.outcome;
+    ReferenceAnswer {
+        number: refusal::number_of(outcome),
+        line: refusal::line_of(outcome),
+        m,
+        n,
+    }
+}
+
+// Where the label of a row, counted from 1, stands in a reference text.
+pub fn label(text: &[u8], row: usize) -> LabelAnswer
+    ensures { λ r. ⌜ r ≡ labelAnswer (labelPart rowLimit channelTypes (now (text .entry)) row) ⌝ }
+{
+    let part = label_part(text, row);
+    LabelAnswer {
+        start: part.start,
+        length: part.length,
+    }
+}

@@ -1,0 +1,142 @@
+-- The loop's invariant: the fields so far are numbers, the numbers of all are they with those of the fields from here on, and they
+-- stand in the first places. A first field that is not the word, and a field that is missing or no number, decide the answer. What is
+-- left of count falls.
+use Prim.Native.Nat.{_-_}
+use mathlib.Core.Path.{refl, sym, ap, _∙_}
+use native.Mathlib.Omega.{arith}
+use borrow.Author.Needs.{needs}
+use borrow.Author.Tests.{not-true, not-false}
+use lib.Seq.{length-take-le}
+use mir.Syntax.{w64}
+use mir.Facts.{toZ-ofZ}
+use Rattle.integers.specs.Reading.{back}
+use Rattle.record_lines.specs.ContractLaws.{held-fits}
+use Rattle.record_lines.proofs.LineSteps.{number-none, number-some, NumbersSoFar, numbers-other, numbers-none, numbers-few, numbers-stop, numbers-next, numbers-done}
+use Rattle.record_lines.proofs.line.read_numbers.Statement.{statement}
+use Rattle.record_lines.proofs.line.read_numbers.Tie as tie
+
+abbrev Inv-loop : tie.InvT-loop
+Inv-loop line word count numbers₀ word-end from₀ i₀ numbers from i = NumbersSoFar word count line numbers₀ numbers from i
+
+abbrev μ-loop : tie.MeasureT-loop
+μ-loop line word count numbers₀ word-end from₀ i₀ numbers from i = count - i
+
+field-end-requires : tie.Need-field-end-requires Inv-loop μ-loop
+field-end-requires c κs = search needs
+
+slice-aggregate-same-bytes : tie.Need-slice-aggregate-same-bytes Inv-loop μ-loop
+slice-aggregate-same-bytes c = sym (length-take-le _ _ (c .before .field-end .ensures .high))
+
+same-bytes-requires : tie.Need-same-bytes-requires Inv-loop μ-loop
+same-bytes-requires c κs = search needs
+
+returns : tie.Need-returns Inv-loop μ-loop
+returns c =
+    numbers-other (c .before .before .before .field-end .ensures) (sym (c .before .same-bytes .ensures) ∙ not-true _ (c .if1 .taken))
+
+add-from : tie.Need-add-from Inv-loop μ-loop
+add-from c = search needs
+
+loop-holds : tie.Need-loop-holds Inv-loop μ-loop
+loop-holds c =
+    numbers-none (c .before .before .before .field-end .ensures) (sym (c .before .same-bytes .ensures) ∙ not-false _ (c .if1 .left))
+
+same-length : tie.Need-same-length Inv-loop μ-loop
+same-length c = c .before .before .loop .inv .same-length
+
+returns-2 : tie.Need-returns-2 Inv-loop μ-loop
+returns-2 c = numbers-few (c .before .before .loop .inv) (c .before .loop-test .taken) (c .if2 .taken)
+
+field-end-requires-2 : tie.Need-field-end-requires-2 Inv-loop μ-loop
+field-end-requires-2 c κs = search needs
+
+sub-read-number : tie.Need-sub-read-number Inv-loop μ-loop
+sub-read-number c = omega arith
+
+part-read-number-start : tie.Need-part-read-number-start Inv-loop μ-loop
+part-read-number-start c = omega arith
+
+part-read-number-end : tie.Need-part-read-number-end Inv-loop μ-loop
+part-read-number-end c = omega arith
+
+read-number-requires : tie.Need-read-number-requires Inv-loop μ-loop
+read-number-requires c κs = search needs
+
+enum-told : tie.Need-enum-told Inv-loop μ-loop
+enum-told c = search needs
+
+same-length-2 : tie.Need-same-length-2 Inv-loop μ-loop
+same-length-2 c = search needs
+
+returns-3 : tie.Need-returns-3 Inv-loop μ-loop
+returns-3 c =
+    let at-number = c .before .before in
+    let at-end = at-number .before .before in
+    let at-test = at-end .before in
+    numbers-stop (at-test .before .before .loop .inv) (at-test .before .loop-test .taken) (at-test .if2 .left) (at-end .field-end2 .ensures)
+    (number-none _ (sym (c .enum-told .given .1) ∙ at-number .read-number .ensures))
+
+enum-known-number : tie.Need-enum-known-number Inv-loop μ-loop
+enum-known-number c = search needs
+
+mul-whole : tie.Need-mul-whole Inv-loop μ-loop
+mul-whole c = omega arith
+
+slice-set-from-whole : tie.Need-slice-set-from-whole Inv-loop μ-loop
+slice-set-from-whole c = omega arith
+
+add-from-2 : tie.Need-add-from-2 Inv-loop μ-loop
+add-from-2 c = omega arith
+
+add-i : tie.Need-add-i Inv-loop μ-loop
+add-i c = omega arith
+
+loop-less : tie.Need-loop-less Inv-loop μ-loop
+loop-less c = omega arith
+
+loop-again : tie.Need-loop-again Inv-loop μ-loop
+loop-again c =
+    let at-number = c .before .before .before in
+    let at-end = at-number .before .before in
+    let at-test = at-end .before in
+    let told = number-some _ (c .before .number .given .0 .0) (sym (c .before .number .given .1) ∙ at-number .read-number .ensures) in
+    numbers-next (at-test .before .before .loop .inv) (at-test .before .loop-test .taken) (at-test .if2 .left) (at-end .field-end2 .ensures)
+    (told .1) (ap (back w64) (told .2) ∙ toZ-ofZ (held-fits (told .0))) (omega arith) refl
+
+same-length-3 : tie.Need-same-length-3 Inv-loop μ-loop
+same-length-3 c = search needs
+
+returns-4 : tie.Need-returns-4 Inv-loop μ-loop
+returns-4 c = numbers-done (c .before .loop .inv) (c .loop-test .left)
+
+pub read-numbers-spec : {M : Type 1} → statement M
+read-numbers-spec =
+    tie.close
+    (tie.spec
+    Inv-loop
+    μ-loop
+    field-end-requires
+    slice-aggregate-same-bytes
+    same-bytes-requires
+    returns
+    add-from
+    loop-holds
+    same-length
+    returns-2
+    field-end-requires-2
+    sub-read-number
+    part-read-number-start
+    part-read-number-end
+    read-number-requires
+    enum-told
+    same-length-2
+    returns-3
+    enum-known-number
+    mul-whole
+    slice-set-from-whole
+    add-from-2
+    add-i
+    loop-less
+    loop-again
+    same-length-3
+    returns-4)

@@ -1,0 +1,1 @@
+// The table of an accepted reference text as the rows of a ball: laws only.
