@@ -50,7 +50,7 @@ use Rattle.reference.specs.Reference.{referenceWord, afterHeading, contentOf, c
 use Rattle.envelope.specs.Figures.{channelCodes, figuresKnown}
 use Rattle.envelope.specs.declared.Figures.{Figures}
 use Rattle.envelope.specs.declared.Envelope.{Envelope}
-use Rattle.reading.specs.Reading.{readingOf}
+use Rattle.reading_line.specs.Reading.{readingOf}
 use Rattle.reading.specs.Verdict.{judged}
 use Rattle.reading.specs.declared.Verdict.{Verdict}
 use Rattle.reading.specs.declared.Verdict.the-variants.{Quiet, Alarm, Refused as RefusedReading}

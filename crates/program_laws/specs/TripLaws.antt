@@ -40,8 +40,8 @@ use Rattle.envelope.specs.FigureLaws.{drawnFigures}
 use Rattle.channel.specs.CodesLaws.{each-codes}
 use Rattle.envelope.specs.Agreement.{drawnEnvelope}
 use Rattle.envelope.specs.declared.Envelope.{Envelope}
-use Rattle.reading.specs.Reading.{Reading, oneLine, readingLine, readingOf, printReading, ownReading}
-use Rattle.reading.specs.ReadingLaws.{line-text, printed-form, own-form, own-length}
+use Rattle.reading_line.specs.Reading.{Reading, oneLine, readingLine, readingOf, printReading, ownReading}
+use Rattle.reading_line.specs.ReadingLaws.{line-text, printed-form, own-form, own-length}
 use Rattle.reading.specs.Verdict.{judged}
 use Rattle.reading.specs.QuietLaws.{reference-drawn-quiet}
 use Rattle.reading.specs.declared.Verdict.{Verdict}

@@ -1,3 +1,2 @@
--- How the code reads a reading's line pair by pair, and comes to the verdict.
-pub mod LineSteps
+-- How the code comes to the verdict.
 pub mod VerdictSteps

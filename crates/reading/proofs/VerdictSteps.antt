@@ -32,14 +32,14 @@ use Rattle.value.specs.Values.{valuesInRange}
 use Rattle.value.specs.ValuesLaws.{in-range}
 use Rattle.envelope.specs.Figures.{channelCodes, figuresKnown}
 use Rattle.envelope.specs.declared.Figures.{Figures}
-use Rattle.reading.specs.Reading.{Reading, oneLine, readingLine, readingOf, tagsAgree}
-use Rattle.reading.specs.ReadingLaws.{line-text, text-line}
+use Rattle.reading_line.specs.Reading.{Reading, oneLine, readingLine, readingOf, tagsAgree}
+use Rattle.reading_line.specs.ReadingLaws.{line-text, text-line}
 use Rattle.reading.specs.Verdict.{refusedVerdict, pointOf, verdictOf, judgedReading, judged}
-use Rattle.reading.specs.Contracts.{lineRead, lineAlone, LineRead}
+use Rattle.reading_line.specs.Contracts.{lineRead, lineAlone, LineRead}
 use Rattle.reading.specs.declared.Verdict.{Verdict}
 use Rattle.reading.specs.declared.Verdict.the-variants.{Quiet}
-use Rattle.reading.specs.declared.line.Line.{Line}
-use Rattle.reading.specs.declared.line.Line.the-variants.{Malformed, TagDiffers, OutOfRange, Within}
+use Rattle.reading_line.specs.declared.Line.{Line}
+use Rattle.reading_line.specs.declared.Line.the-variants.{Malformed, TagDiffers, OutOfRange, Within}
 
 -- ---- by what the line is
 

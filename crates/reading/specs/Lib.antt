@@ -1,7 +1,4 @@
--- Readings, in reading order: the written form, the verdict, what the functions do, then the laws.
-pub mod Reading
+-- Verdicts on readings, in reading order: the verdict, then the laws.
 pub mod Verdict
-pub mod Contracts
-pub mod ReadingLaws
 pub mod VerdictLaws
 pub mod QuietLaws

@@ -33,7 +33,7 @@ use Rattle.value.specs.Values.{valuesInRange}
 use Rattle.envelope.specs.Figures.{channelCodes, figuresKnown, figuresOf}
 use Rattle.envelope.specs.FigureLaws.{drawnFigures, drawn-within, checked-within}
 use Rattle.envelope.specs.declared.Figures.{Figures}
-use Rattle.reading.specs.Reading.{Reading, readingOf, tagsAgree, printReading, ownReading}
+use Rattle.reading_line.specs.Reading.{Reading, readingOf, tagsAgree, printReading, ownReading}
 use Rattle.reading.specs.Verdict.{verdictNumber, pointOf, verdictOf, judgedReading, judged}
 use Rattle.reading.specs.VerdictLaws.{within-quiet, distanceOf, printed-accepted}
 use Rattle.reading.specs.declared.Verdict.{Verdict}

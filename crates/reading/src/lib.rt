@@ -5,18 +5,15 @@ ghost use mathlib.Core.Bool.{true};
 ghost use Rattle.limits.specs.Limits.{total};
 ghost use Rattle.channel.specs.Channel.{channelTypes};
 ghost use Rattle.envelope.specs.Figures.{figuresKnown};
-ghost use Rattle.reading.specs.Reading.{readingLine};
+ghost use Rattle.reading_line.specs.Reading.{readingLine};
+ghost use Rattle.reading_line.specs.Contracts.{lineAlone};
 ghost use Rattle.reading.specs.Verdict.{refusedVerdict, verdictOf, judgedReading, judged};
-ghost use Rattle.reading.specs.Contracts.{lineAlone};
-
-mod line;
-
-use crate::line::Line;
-use crate::line::read_line;
 use envelope::Figures;
 use envelope::figures_known;
 use figures::distance::scaled_squared_distance;
 use limits::CHANNELS;
+use reading_line::Line;
+use reading_line::read_line;
 use refusal::Refusal;
 use text::parts::LINE_END;
 use text::parts::text_within;

@@ -14,11 +14,11 @@ use Rattle.channel.specs.ChannelLaws.{house-sound}
 use Rattle.envelope.specs.Figures.{channelCodes}
 use Rattle.envelope.specs.FigureLaws.{Within as FiguresWithin, Coded, known-within, known-coded, within-centre}
 use Rattle.envelope.specs.declared.Figures.{Figures}
-use Rattle.reading.specs.Reading.{Reading, readingLine}
+use Rattle.reading_line.specs.Reading.{Reading, readingLine}
 use Rattle.reading.specs.Verdict.{verdictOf, judgedReading}
-use Rattle.reading.specs.Contracts.{lineAlone}
-use Rattle.reading.specs.declared.line.Line.{Line}
-use Rattle.reading.specs.declared.line.Line.the-variants.{Malformed, TagDiffers, OutOfRange, Within}
+use Rattle.reading_line.specs.Contracts.{lineAlone}
+use Rattle.reading_line.specs.declared.Line.{Line}
+use Rattle.reading_line.specs.declared.Line.the-variants.{Malformed, TagDiffers, OutOfRange, Within}
 use Rattle.reading.proofs.VerdictSteps.{lineVerdict, byDistance, judged-line, PointRead, point-read}
 use Rattle.reading.proofs.judge_line.Statement.{statement}
 use Rattle.reading.proofs.judge_line.Tie as tie

@@ -13,11 +13,11 @@ use Rattle.text.specs.Parts.{comma, lineEnd}
 use Rattle.text.specs.PartsLaws.{first-part-from, free-end}
 use Rattle.channel.specs.Channel.{channelTypes}
 use Rattle.channel.specs.ChannelLaws.{house-sound}
-use Rattle.reading.specs.declared.line.Line.{Line}
-use Rattle.reading.specs.declared.line.Line.the-variants.{Malformed, TagDiffers, OutOfRange, Within}
-use Rattle.reading.proofs.LineSteps.{FieldsRead, fields-no-label, fields-pairs, line-ended, line-whole, line-malformed, line-agreed}
-use Rattle.reading.proofs.line.read_line.Statement.{statement}
-use Rattle.reading.proofs.line.read_line.Tie as tie
+use Rattle.reading_line.specs.declared.Line.{Line}
+use Rattle.reading_line.specs.declared.Line.the-variants.{Malformed, TagDiffers, OutOfRange, Within}
+use Rattle.reading_line.proofs.LineSteps.{FieldsRead, fields-no-label, fields-pairs, line-ended, line-whole, line-malformed, line-agreed}
+use Rattle.reading_line.proofs.read_line.Statement.{statement}
+use Rattle.reading_line.proofs.read_line.Tie as tie
 
 field-end-requires : tie.Need-field-end-requires
 field-end-requires c κs = search needs

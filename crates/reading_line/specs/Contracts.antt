@@ -17,9 +17,9 @@ use Rattle.text.specs.Parts.{lineEnd, free}
 use Rattle.channel.specs.Channel.{Types}
 use Rattle.value.specs.Value.{Written, reads}
 use Rattle.value.specs.Values.{valuesOf, valuesInRange}
-use Rattle.reading.specs.Reading.{Reading, tagFields, valueFields, readingLine, tagsAgree}
-use Rattle.reading.specs.declared.line.Line.{Line}
-use Rattle.reading.specs.declared.line.Line.the-variants.{Malformed, TagDiffers, OutOfRange, Within}
+use Rattle.reading_line.specs.Reading.{Reading, tagFields, valueFields, readingLine, tagsAgree}
+use Rattle.reading_line.specs.declared.Line.{Line}
+use Rattle.reading_line.specs.declared.Line.the-variants.{Malformed, TagDiffers, OutOfRange, Within}
 
 abbrev pub linePairs : Types → List ℕ → List (List ℕ) → Option (List Written) → Line
 linePairs types codes tags none = Malformed

@@ -6,7 +6,7 @@ ghost use Prim.Native.Nat.{_≤_};
 ghost use lib.ListN.{length, take};
 ghost use Rattle.text.specs.Parts.{comma, partsFrom};
 ghost use Rattle.channel.specs.Channel.{channelTypes, codesKnown};
-ghost use Rattle.reading.specs.Contracts.{PairsRead, LineRead};
+ghost use Rattle.reading_line.specs.Contracts.{PairsRead, LineRead};
 use channel::Code;
 use label::is_label;
 use text::parts::field_end;

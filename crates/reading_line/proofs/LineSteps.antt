@@ -29,11 +29,11 @@ use Rattle.channel.specs.ChannelLaws.{SoundTypes}
 use Rattle.value.specs.Value.{Written, valueOf, reads}
 use Rattle.value.specs.Values.{valuesOf, valuesInRange}
 use Rattle.value.proofs.ValuesSteps.{ValuesSoFar, values-none, values-stop, values-whole}
-use Rattle.reading.specs.Reading.{Reading, tagFields, valueFields, readingFields, readingLine, tagsAgree}
-use Rattle.reading.specs.ReadingLaws.{agreed-free}
-use Rattle.reading.specs.Contracts.{linePairs, pairsRead, PairsRead, lineRead, lineAlone, LineRead}
-use Rattle.reading.specs.declared.line.Line.{Line}
-use Rattle.reading.specs.declared.line.Line.the-variants.{Malformed, TagDiffers, OutOfRange, Within}
+use Rattle.reading_line.specs.Reading.{Reading, tagFields, valueFields, readingFields, readingLine, tagsAgree}
+use Rattle.reading_line.specs.ReadingLaws.{agreed-free}
+use Rattle.reading_line.specs.Contracts.{linePairs, pairsRead, PairsRead, lineRead, lineAlone, LineRead}
+use Rattle.reading_line.specs.declared.Line.{Line}
+use Rattle.reading_line.specs.declared.Line.the-variants.{Malformed, TagDiffers, OutOfRange, Within}
 
 -- ---- the fields from an index on
 

@@ -31,7 +31,7 @@ use Rattle.value.specs.ValueLaws.{value-free, valueLimit, value-short}
 use Rattle.value.specs.Values.{valuesOf, valuesInRange}
 use Rattle.value.specs.ValuesLaws.{values-printed, printed-values}
 use Rattle.channel.specs.CodesLaws.{codes-each}
-use Rattle.reading.specs.Reading.{Reading, tagFields, valueFields, readingFields, oneLine, readingLine, readingOf, tagsAgree, pairFields, printReading, ownReading}
+use Rattle.reading_line.specs.Reading.{Reading, tagFields, valueFields, readingFields, oneLine, readingLine, readingOf, tagsAgree, pairFields, printReading, ownReading}
 
 -- what stands in the place of a tag may be anything that leaves the fields and the line as they are
 pub record InForm (n : ℕ) (reading : Reading) : Type 0 where

@@ -19,9 +19,9 @@ use Rattle.text.specs.PartsLaws.{parts-none, parts-some, last-part}
 use Rattle.channel.specs.Channel.{channelTypes}
 use Rattle.value.specs.ContractLaws.{range-found}
 use Rattle.value.proofs.ValuesSteps.{read-under, read-malformed, read-told, values-outside, values-within}
-use Rattle.reading.proofs.LineSteps.{two-fields, PairsSoFar, pairs-none, pairs-next, value-here, pairs-malformed, pairs-few, pairs-many, pairs-done}
-use Rattle.reading.proofs.line.read_pairs.Statement.{statement}
-use Rattle.reading.proofs.line.read_pairs.Tie as tie
+use Rattle.reading_line.proofs.LineSteps.{two-fields, PairsSoFar, pairs-none, pairs-next, value-here, pairs-malformed, pairs-few, pairs-many, pairs-done}
+use Rattle.reading_line.proofs.read_pairs.Statement.{statement}
+use Rattle.reading_line.proofs.read_pairs.Tie as tie
 
 abbrev Inv-loop : tie.InvT-loop
 Inv-loop line at types n places₀ from₀ tags-agree₀ out-of-range₀ i₀ places from tags-agree out-of-range i =

@@ -1,0 +1,2 @@
+-- How the code reads a reading's line pair by pair.
+pub mod LineSteps
