@@ -20,6 +20,7 @@ use Rattle.limits.specs.Limits.{rowLimit}
 use Rattle.lent.specs.Filled.{filled, filled-refused}
 use Rattle.channel.specs.Channel.{channelTypes}
 use Rattle.reference.specs.Reference.{content}
+use Rattle.reference_rows.specs.ReferenceText.{channelCount, rowCount, tableOf}
 use Rattle.reference_rows.specs.Rows.{Content, faulty, sound}
 use Rattle.reference.specs.Contracts.{refusedReference, answerOf, withTable, referenceRead, valuesIn}
 use Rattle.reference.specs.ContractLaws.{table-fits, table-too-short}
@@ -43,16 +44,16 @@ table-of : (c : Content) (first values lent : List ℤ) → length (valuesIn c) 
 unfolding filled
 table-of (faulty zero line) first values lent l e = refl
 table-of (faulty (suc number) line) first values lent l e = refl
-table-of (sound codes rows) first values lent l e =
-    ap (λ (vs : List ℤ). filled 0 (length rows * length codes) vs lent) e
-    ∙ filled-again (length rows * length codes) (valuesIn (sound codes rows)) first lent l
+table-of (sound found) first values lent l e =
+    let places = rowCount found * channelCount found in
+    ap (λ (vs : List ℤ). filled 0 places vs lent) e ∙ filled-again places (tableOf found) first lent l
 
 codes-of : (c : Content) (lent : List ℕ)
     → filled 0 (answerOf c .n) (answerOf c .codes) lent ≡ filled (numberOf (answerOf c .outcome)) (answerOf c .n) (answerOf c .codes) lent
 unfolding filled
 codes-of (faulty zero line) lent = refl
 codes-of (faulty (suc number) line) lent = refl
-codes-of (sound codes rows) lent = refl
+codes-of (sound found) lent = refl
 
 pub unwritten : {A : Type 0} (a : ReferenceAnswer) (k count : ℕ) (source lent : List A) → a ≡ refusedAnswer (suc k)
     → lent ≡ filled (a .number) count source lent

@@ -19,7 +19,7 @@ use Rattle.printing.specs.Contracts.{Put}
 use Rattle.printing.specs.ContractLaws.{put-as}
 use Rattle.channel.specs.Channel.{channelTypes, codesKnown}
 use Rattle.channel.specs.ChannelLaws.{house-sound}
-use Rattle.reference_rows.specs.Rows.{tableOf}
+use Rattle.reference_rows.specs.ReferenceText.{codesOf, channelCount, rowCount, tableOf}
 use Rattle.reference.specs.ReferenceLaws.{accepted-within}
 use Rattle.reference.specs.declared.read.Reference.{Reference}
 use Rattle.channel.specs.CodesLaws.{each-codes}
@@ -49,34 +49,37 @@ filled-put text out room =
 
 module _ {text : List ℕ} {r : Reference} {table : List ℤ} (read : RowsRead text r table) {d : Drawing}
     (promise : DrawPromise (take (r .m * r .n) table) (r .m) (r .n) drawBudget d) where
-  -- the rows, and how many there are
+  -- the rows, how many there are, and the codes
   abbrev rows : List ℤ
-  rows = tableOf (read .rows)
+  rows = tableOf (read .found)
 
   abbrev m : ℕ
-  m = length (read .rows)
+  m = rowCount (read .found)
 
   abbrev n : ℕ
-  n = length (read .codes)
+  n = channelCount (read .found)
+
+  abbrev codes : List ℕ
+  codes = codesOf (read .found)
 
   abbrev own : Envelope
-  own = drawnEnvelope n (padded channelLimit (read .codes)) (drawing total rowLimit rows m n drawBudget)
+  own = drawnEnvelope n (padded channelLimit codes) (drawing total rowLimit rows m n drawBudget)
 
   own-is : drawnEnvelope (r .n) (r .codes) d ≡ own
   own-is =
       ap (drawnEnvelope (r .n) (r .codes)) (promise .is ∙ ap (λ (l : List ℤ). drawing total rowLimit l (r .m) (r .n) drawBudget) (read .first))
       ∙ ap (λ (x : Reference). drawnEnvelope (x .n) (x .codes) (drawing total rowLimit rows (x .m) (x .n) drawBudget)) (read .answer)
 
-  known : codesKnown channelTypes (read .codes) ≡ true
-  known = each-codes channelTypes (read .codes) (accepted-within rowLimit channelTypes text (read .codes) (read .rows) (read .is) .heading .each-known)
+  known : codesKnown channelTypes codes ≡ true
+  known = each-codes channelTypes codes (accepted-within rowLimit channelTypes text (read .found) (read .is) .heading .each-known)
 
   module _ (out : List ℕ) (room : drawRoom ≤ length out) where
     own-room : length (recordText channelTypes own) ≤ length out
     own-room =
         omega (
           arith,
-          house-drawn-most rows m n (read .codes) refl known drawBudget
-              (draw-accepted total rowLimit channelTypes text (read .codes) (read .rows) (read .is) house-sound),
+          house-drawn-most rows m n codes refl known drawBudget
+              (draw-accepted total rowLimit channelTypes text (read .found) (read .is) house-sound),
           room,
         )
 
@@ -86,8 +89,8 @@ module _ {text : List ℕ} {r : Reference} {table : List ℤ} (read : RowsRead t
         e
         ∙ ap₂ (λ (l : List ℤ) (x : Envelope). recordWritten total rowLimit channelTypes l (r .m) x (length out)) (read .first) own-is
         ∙ ap (λ (x : Reference). recordWritten total rowLimit channelTypes rows (x .m) own (length out)) (read .answer)
-        ∙ house-drawn-written rows m n (read .codes) refl known drawBudget
-        (draw-accepted total rowLimit channelTypes text (read .codes) (read .rows) (read .is) house-sound) (length out) room
+        ∙ house-drawn-written rows m n codes refl known drawBudget
+        (draw-accepted total rowLimit channelTypes text (read .found) (read .is) house-sound) (length out) room
 
     pub drawn-put : {out′ : List ℕ} {w : TextWritten} → w ≡ recordWritten total rowLimit channelTypes (take (r .m * r .n) table) (r .m) (drawnEnvelope (r .n) (r .codes) d) (length out)
         → out′ ≡ filled (numberOf (w .outcome)) (w .length) (recordText channelTypes (drawnEnvelope (r .n) (r .codes) d)) out
@@ -98,5 +101,5 @@ module _ {text : List ℕ} {r : Reference} {table : List ℤ} (read : RowsRead t
         let after : out′ ≡ filled 0 (length record-is) record-is out =
         f ∙ ap₂ (λ (x : TextWritten) (y : Envelope). filled (numberOf (x .outcome)) (x .length) (recordText channelTypes y) out) answer own-is in
         let put : Put record-is out 0 out′ (length record-is) = rw after (filled-put record-is out own-room) in
-        put-as put (sym (draw-record total rowLimit channelTypes text (read .codes) (read .rows) (read .is) house-sound))
+        put-as put (sym (draw-record total rowLimit channelTypes text (read .found) (read .is) house-sound))
         (ap (λ (x : TextWritten). x .length) (sym answer))

@@ -11,7 +11,8 @@ use Rattle.lists.specs.Padded.{padded}
 use Rattle.ball.specs.Draw.{drawing}
 use Rattle.ball.specs.declared.Drawing.{Drawing}
 use Rattle.channel.specs.Channel.{Types}
-use Rattle.reference_rows.specs.Rows.{Content, faulty, sound, tableOf}
+use Rattle.reference_rows.specs.ReferenceText.{codesOf, channelCount, rowCount, tableOf}
+use Rattle.reference_rows.specs.Rows.{Content, faulty, sound}
 use Rattle.reference.specs.Reference.{content}
 use Rattle.envelope.specs.Agreement.{drawnEnvelope}
 use Rattle.record_print.specs.Printed.{recordText}
@@ -27,8 +28,8 @@ drawnOutput types codes d = unlessRefused (d .outcome) (λ _. recordText types (
 
 abbrev pub contentOutput : ℕ → ℕ → Types → Content → List ℕ
 contentOutput D limit types (faulty number line) = printRefusal number line
-contentOutput D limit types (sound codes rows) =
-    drawnOutput types codes (drawing D limit (tableOf rows) (length rows) (length codes) drawBudget)
+contentOutput D limit types (sound found) =
+    drawnOutput types (codesOf found) (drawing D limit (tableOf found) (rowCount found) (channelCount found) drawBudget)
 
 unfoldable pub drawOutput : ℕ → ℕ → Types → List ℕ → List ℕ
 drawOutput D limit types reference = contentOutput D limit types (content limit types reference)

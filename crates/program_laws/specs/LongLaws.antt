@@ -22,7 +22,8 @@ use Rattle.refusal.specs.Outcome.{refused, choose}
 use Rattle.text.specs.Parts.{lineEnd, textWithin, cut}
 use Rattle.limits.specs.Limits.{textLimit}
 use Rattle.channel.specs.Channel.{Types}
-use Rattle.reference_rows.specs.Rows.{Content, faulty, sound, tableOf}
+use Rattle.reference_rows.specs.ReferenceText.{codesOf, channelCount, rowCount, tableOf}
+use Rattle.reference_rows.specs.Rows.{Content, faulty, sound}
 use Rattle.reference.specs.Reference.{contentOf, content}
 use Rattle.envelope.specs.declared.Figures.{Figures}
 use Rattle.record_form.specs.Record.{form}
@@ -89,7 +90,7 @@ module _ (D limit : ℕ) (types : Types) where
     where
       go : (c : Content) → contentAgainst D limit types (bytesRead text) c ≡ contentAgainst D limit types text c
       go (faulty number line) = refl
-      go (sound codes rows) = record-read (tableOf rows) (length rows) (length codes) codes text
+      go (sound found) = record-read (tableOf found) (rowCount found) (channelCount found) (codesOf found) text
 
   -- ---- the programs
 

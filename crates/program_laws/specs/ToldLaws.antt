@@ -15,24 +15,24 @@
 --     draw-told                   draw refuses the reference text
 --     verify-told, panel-told     verify refuses one of its texts, or panel, whose types keep TagsApart
 --     judge-told                  judge refuses the reference text, the record or the readings together
-use Prim.Native.Nat.{ℕ, suc, _≤_, _<_}
+use Prim.Native.Nat.{ℕ, _≤_, _<_}
 use mathlib.Core.Path.{_≡_, refl, sym, ap, ap₂, subst, _∙_}
 use mathlib.Core.Bool.{Bool, true, false, not, cond, _&&_, _||_, and-false, or-false}
 use mathlib.Core.List.{List, [], _∷_, _++_, append-nil, append-assoc}
-use mathlib.Core.Option.{Option, none, some}
+use mathlib.Core.Option.{some}
 use native.Mathlib.Omega.{arith}
 use borrow.Author.Tests.{eqb-true, eq-eqb, ne-eqb, not-true}
-use lib.Dec.{eqb, leb}
+use lib.Dec.{eqb}
 use lib.IntN.{ℤ, pos}
 use lib.ListN.{length, getD, take, length-append}
 use Rattle.integers.specs.Tests.{both, clash, test-same, range-in}
 use Rattle.lists.specs.Each.{Each, each-cons}
-use Rattle.refusal.specs.Number.{text-length, line-form, value-range, tag-differs, label-repeated, row-count}
+use Rattle.refusal.specs.Number.{text-length, line-form, value-range, tag-differs}
 use Rattle.refusal.specs.Outcome.{numberOf, lineOf}
 use Rattle.refusal.specs.declared.Refusal.{Refusal}
 use Rattle.refusal.specs.declared.Outcome.{Outcome}
 use Rattle.refusal.specs.declared.Outcome.the-variants.{Accepted, Refused}
-use Rattle.limits.specs.Limits.{channelLimit, textLimit}
+use Rattle.limits.specs.Limits.{textLimit}
 use Rattle.text.specs.Lines.{printLines}
 use Rattle.number.specs.Number.{hyphen, isDigit, plain, print}
 use Rattle.number.specs.NumberLaws.{plain-print, print-free}
@@ -42,11 +42,11 @@ use Rattle.printing.specs.Contracts.{numbersAfter}
 use Rattle.channel.specs.Channel.{Types, channelTypes, houseTypes, tagOf}
 use Rattle.channel.specs.ChannelLaws.{SoundTypes}
 use Rattle.channel.specs.ContractLaws.{everyTag, every-tag}
-use Rattle.value.specs.Values.{valuesInRange}
-use Rattle.heading.specs.Heading.{headingOf, printHeading}
-use Rattle.reference_rows.specs.Row.{Row, rowOf, labelUsed}
-use Rattle.reference_rows.specs.Rows.{Content, faulty, sound, rowLine, lastPart, andRow, rowsFrom, tableOf}
-use Rattle.reference.specs.Reference.{referenceWord, afterHeading, contentOf, content}
+use Rattle.heading.specs.Heading.{printHeading}
+use Rattle.reference_rows.specs.ReferenceText.{codesOf, channelCount, rowCount, tableOf}
+use Rattle.reference_rows.specs.Rows.{Content, faulty, sound}
+use Rattle.reference.specs.Reference.{content}
+use Rattle.reference.specs.RefusalLaws.{each-refusal}
 use Rattle.envelope.specs.Figures.{channelCodes, figuresKnown}
 use Rattle.envelope.specs.declared.Figures.{Figures}
 use Rattle.envelope.specs.declared.Envelope.{Envelope}
@@ -61,7 +61,7 @@ use Rattle.record.specs.declared.EnvelopeRead.{EnvelopeRead}
 use Rattle.chart.specs.Panel.{panelShown}
 use Rattle.text.specs.EndedLines.{withEnds, linesWithEnds}
 use Rattle.program_lines.specs.Lines.{refusalWord, printRefusal, printAccepted, printVerdict, printVerdicts, printSteps}
-use Rattle.program_lines.specs.SizeLaws.{either, each-verdict}
+use Rattle.program_lines.specs.SizeLaws.{each-verdict}
 use Rattle.program_draw.specs.Output.{drawOutput}
 use Rattle.program_judge.specs.Output.{readingsOutput, judgeOutput}
 use Rattle.program_panel.specs.Output.{shownOutput, panelOutput}
@@ -79,64 +79,19 @@ ofReading number line =
 
 -- ---- the reference text
 
--- whether a reference text is refused so
-abbrev contentTest : Content → Bool
-contentTest (faulty number line) = ofReading number line
-contentTest (sound codes rows) = false
-
 -- a fault of a row is past line 1
-row-told : (number : ℕ) (rows : List Row) → ofReading number (rowLine (length rows)) ≡ false
-row-told number rows =
+row-told : (number line : ℕ) → 1 < line → ofReading number line ≡ false
+row-told number line past =
     rw (
-      ne-eqb (rowLine (length rows)) 1 (λ e. omega arith),
+      ne-eqb line 1 (λ e. omega arith),
       and-false (eqb number line-form),
       and-false (eqb number tag-differs),
       and-false (eqb number value-range),
     )
 
-module _ (limit : ℕ) (types : Types) where
-  module _ (codes : List ℕ) where
-    limit-told : (rows : List Row) (t : Bool) (further : Content) → contentTest further ≡ false
-        → contentTest (cond t further (faulty row-count (rowLine (length rows)))) ≡ false
-    limit-told rows true further h = h
-    limit-told rows false further h = row-told row-count rows
-
-    last-told : (rows : List Row) (part : List ℕ) → contentTest (lastPart limit codes rows part) ≡ false
-    last-told [] [] = refl
-    last-told (row ∷ rows) [] = refl
-    last-told rows (b ∷ part) = limit-told rows (leb (suc (length rows)) limit) (faulty line-form (rowLine (length rows))) (row-told line-form rows)
-
-    and-told : (rows : List Row) (o : Option Row) (further : List Row → Content) → ((longer : List Row) → contentTest (further longer) ≡ false)
-        → contentTest (andRow types codes rows o further) ≡ false
-    and-told rows none further h = row-told line-form rows
-    and-told rows (some row) further h =
-        let Told : Content → Type 0 = λ c. contentTest c ≡ false in
-        either Told (valuesInRange types codes (row .values)) _ _
-        (either Told (labelUsed (row .label) rows) _ _ (row-told label-repeated rows) (h (rows ++ (row ∷ [])))) (row-told value-range rows)
-
-    rows-told : (parts : List (List ℕ)) (rows : List Row) → contentTest (rowsFrom limit types codes rows parts) ≡ false
-    unfolding rowsFrom
-    rows-told [] rows = last-told rows []
-    rows-told (part ∷ []) rows = last-told rows part
-    rows-told (line ∷ next ∷ parts) rows =
-        limit-told rows (leb (suc (length rows)) limit) _ (and-told rows (rowOf (length codes) line) _ (rows-told (next ∷ parts)))
-
-  parts-told : (parts : List (List ℕ)) → contentTest (contentOf limit types parts) ≡ false
-  unfolding contentOf
-  parts-told [] = refl
-  parts-told (line ∷ []) = refl
-  parts-told (line ∷ next ∷ parts) = go (headingOf referenceWord channelLimit types line)
-    where
-      go : (o : Option (List ℕ)) → contentTest (afterHeading limit types o (next ∷ parts)) ≡ false
-      go none = refl
-      go (some codes) = rows-told codes (next ∷ parts) []
-
-  pub content-told : (text : List ℕ) (number line : ℕ) → content limit types text ≡ faulty number line → ofReading number line ≡ false
-  unfolding content
-  content-told text number line is =
-      ap contentTest (sym is)
-      ∙ either (λ (c : Content). contentTest c ≡ false) (textWithin text) (λ _. contentOf limit types (cut lineEnd text)) (λ _. faulty text-length 0)
-      (parts-told (cut lineEnd text)) refl
+pub content-told : (limit : ℕ) (types : Types) (text : List ℕ) (number line : ℕ) → content limit types text ≡ faulty number line
+    → ofReading number line ≡ false
+content-told limit types = each-refusal limit types (λ number line. ofReading number line ≡ false) refl refl row-told
 
 -- ---- reference text and record
 
@@ -151,8 +106,9 @@ module _ (D limit : ℕ) (types : Types) (reference text : List ℕ) where
     where
       go : (c : Content) → content limit types reference ≡ c → OfTexts (contentAgainst D limit types text c)
       go (faulty number line) is = content-told limit types reference number line is
-      go (sound codes rows) is =
-          each-read D limit types (tableOf rows) (length rows) (length codes) codes text OfTexts refl refl (λ line e. refl) refl (λ e a. refl)
+      go (sound found) is =
+          each-read D limit types (tableOf found) (rowCount found) (channelCount found) (codesOf found) text OfTexts refl refl (λ line e. refl) refl
+          (λ e a. refl)
 
   pub refusal-of-texts : (r : Refusal) → recordAgainst D limit types reference text .outcome ≡ Refused r → ofReading (r .number) (r .line) ≡ false
   refusal-of-texts r is = ap (λ o. ofReading (numberOf o) (lineOf o)) (sym is) ∙ texts-told
@@ -324,7 +280,7 @@ other-told b l h = go (eqb b lineEnd) (cut lineEnd l)
 
 abbrev pub isFaulty : Content → Bool
 isFaulty (faulty number line) = true
-isFaulty (sound codes rows) = false
+isFaulty (sound found) = false
 
 module _ (types : Types) where
   record-told : (e : Envelope) → refusesTexts (recordText types e) ≡ false
@@ -339,7 +295,7 @@ module _ (types : Types) where
       go (faulty number line) is =
           ap refusesTexts (draw-faulty D limit types reference number line is) ∙ only-told number line
           ∙ ap not (content-told limit types reference number line is)
-      go (sound codes rows) is = ap refusesTexts (draw-record D limit types reference codes rows is types-sound) ∙ record-told _
+      go (sound found) is = ap refusesTexts (draw-record D limit types reference found is types-sound) ∙ record-told _
 
 -- ---- verify, panel and judge
 

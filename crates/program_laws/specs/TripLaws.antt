@@ -16,11 +16,11 @@ use mathlib.Core.Option.{Option, none, some}
 use native.Mathlib.Omega.{arith}
 use borrow.Author.Tests.{le-leb}
 use lib.IntN.{ℤ}
-use lib.ListN.{length, getD, take}
+use lib.ListN.{length, take}
 use lib.Seq.{take-length}
 use Rattle.integers.specs.Tests.{unlike}
 use Rattle.lists.specs.Each.{Each, each-cons, each-tail}
-use Rattle.lists.specs.Padded.{padded, padded-first, padded-length}
+use Rattle.lists.specs.Padded.{padded, padded-length}
 use Rattle.refusal.specs.Number.{text-length, outside-limits}
 use Rattle.refusal.specs.Outcome.{refused, choose}
 use Rattle.geometry.specs.Table.{rowsWithin}
@@ -28,14 +28,17 @@ use Rattle.limits.specs.Limits.{total, rowLimit, channelLimit}
 use Rattle.ball.specs.Draw.{drawing}
 use Rattle.text.specs.Parts.{lineEnd, textWithin, same, cut, join, free, allFree}
 use Rattle.text.specs.PartsLaws.{cut-some, join-cut, cut-join, cut-free}
+use Rattle.label.specs.Label.{isLabel}
 use Rattle.channel.specs.Channel.{Types, channelTypes, codesKnown}
 use Rattle.channel.specs.ChannelLaws.{house-sound}
 use Rattle.value.specs.ValuesLaws.{range-in}
-use Rattle.reference_rows.specs.Row.{Row, noRow}
-use Rattle.reference_rows.specs.Rows.{sound, tableOf}
+use Rattle.reference_rows.specs.ReferenceText.{ReferenceText, codesOf, channelCount, rowCount, rowAt, labelAt, tableOf}
+use Rattle.reference_rows.specs.ReferenceTextLaws.{label-at}
+use Rattle.reference_rows.specs.Rows.{sound}
 use Rattle.reference.specs.Reference.{content}
 use Rattle.reference.specs.Printing.{RowWithin, Within}
 use Rattle.reference.specs.ReferenceLaws.{accepted-within}
+use Rattle.reference.specs.ContractLaws.{answer-codes}
 use Rattle.envelope.specs.FigureLaws.{drawnFigures}
 use Rattle.channel.specs.CodesLaws.{each-codes}
 use Rattle.envelope.specs.Agreement.{drawnEnvelope}
@@ -43,7 +46,6 @@ use Rattle.envelope.specs.declared.Envelope.{Envelope}
 use Rattle.reading_line.specs.Reading.{Reading, oneLine, readingLine, readingOf, printReading, ownReading}
 use Rattle.reading_line.specs.ReadingLaws.{line-text, printed-form, own-form, own-length}
 use Rattle.reading.specs.Verdict.{judged}
-use Rattle.reading.specs.QuietLaws.{reference-drawn-quiet}
 use Rattle.reading.specs.declared.Verdict.{Verdict}
 use Rattle.reading.specs.declared.Verdict.the-variants.{Quiet}
 use Rattle.record_form.specs.Record.{form}
@@ -61,6 +63,7 @@ use Rattle.program_verify.specs.Output.{verifyOutput}
 use Rattle.program_draw.specs.OutputLaws.{draw-accepted, draw-record}
 use Rattle.program_judge.specs.OutputLaws.{readings-judged}
 use Rattle.program_record.specs.AgainstLaws.{against-sound}
+use Rattle.program_laws.specs.QuietLaws.{reference-drawn-quiet}
 
 pub first-codes : (D limit : ℕ) (types : Types) (rows : List ℤ) (m n : ℕ) (codes others text : List ℕ) → n ≤ length codes → n ≤ length others
     → take n codes ≡ take n others → recordRead D limit types rows m n codes text ≡ recordRead D limit types rows m n others text
@@ -108,38 +111,47 @@ reading-next n text more reading e = go (oneLine (cut lineEnd text)) refl e
 
 -- ---- draw, and what follows
 
-module _ (reference codes : List ℕ) (rows : List Row) (is : content rowLimit channelTypes reference ≡ sound codes rows) where
+module _ (reference : List ℕ) (found : ReferenceText) (is : content rowLimit channelTypes reference ≡ sound found) where
+  -- the codes and rows of the text
+  abbrev codes : List ℕ
+  codes = codesOf found
+
+  abbrev m : ℕ
+  m = rowCount found
+
+  abbrev n : ℕ
+  n = channelCount found
+
+  abbrev table : List ℤ
+  table = tableOf found
+
   -- the drawn envelope
   abbrev drawn : Envelope
-  drawn =
-      drawnEnvelope (length codes) (padded channelLimit codes)
-      (drawing total rowLimit (tableOf rows) (length rows) (length codes) drawBudget)
+  drawn = drawnEnvelope n (padded channelLimit codes) (drawing total rowLimit table m n drawBudget)
 
   -- what draw prints
   abbrev drawnText : List ℕ
   drawnText = drawOutput total rowLimit channelTypes reference
 
-  within : Within rowLimit channelTypes codes rows
-  within = accepted-within rowLimit channelTypes reference codes rows is
+  within : Within rowLimit channelTypes found
+  within = accepted-within rowLimit channelTypes reference found is
 
   codes-known : codesKnown channelTypes codes ≡ true
   codes-known = each-codes channelTypes codes (within .heading .each-known)
 
-  codes-held : take (length codes) (padded channelLimit codes) ≡ codes
-  codes-held = padded-first channelLimit (length codes) codes refl (within .heading .channels)
+  codes-held : take n (padded channelLimit codes) ≡ codes
+  codes-held = answer-codes rowLimit channelTypes reference found is
 
   text-is : drawnText ≡ recordText channelTypes drawn
-  text-is = draw-record total rowLimit channelTypes reference codes rows is house-sound
+  text-is = draw-record total rowLimit channelTypes reference found is house-sound
 
   pub draw-against : recordAgainst total rowLimit channelTypes reference drawnText ≡ accepting drawn
   draw-against =
-      let m = length rows in
-      let n = length codes in
-      against-sound total rowLimit channelTypes reference codes rows is drawnText
-      ∙ first-codes total rowLimit channelTypes (tableOf rows) m n codes (padded channelLimit codes) drawnText (omega arith)
+      against-sound total rowLimit channelTypes reference found is drawnText
+      ∙ first-codes total rowLimit channelTypes table m n codes (padded channelLimit codes) drawnText (omega arith)
       (omega (arith, padded-length channelLimit codes, within .heading .channels)) (take-length codes ∙ sym codes-held)
-      ∙ ap (recordRead total rowLimit channelTypes (tableOf rows) m n (padded channelLimit codes)) text-is
-      ∙ house-drawn-read (tableOf rows) m n codes refl codes-known drawBudget (draw-accepted total rowLimit channelTypes reference codes rows is house-sound)
+      ∙ ap (recordRead total rowLimit channelTypes table m n (padded channelLimit codes)) text-is
+      ∙ house-drawn-read table m n codes refl codes-known drawBudget (draw-accepted total rowLimit channelTypes reference found is house-sound)
 
   pub draw-verified : verifyOutput total rowLimit channelTypes reference drawnText ≡ printAccepted
   unfolding verifyOutput
@@ -155,54 +167,57 @@ module _ (reference codes : List ℕ) (rows : List Row) (is : content rowLimit c
 
   -- row i of the text, as a reading
   abbrev rowReading : ℕ → Reading
-  rowReading i = ownReading channelTypes codes (getD rows i noRow .label) (getD rows i noRow .values)
+  rowReading i = ownReading channelTypes codes (labelAt found i) (rowAt found i .values)
 
   abbrev rowText : ℕ → List ℕ
   rowText i = printReading (rowReading i)
 
-  module _ (i : ℕ) (h : i < length rows) where
+  module _ (i : ℕ) (h : i < m) where
     row-judged : judged total channelTypes (drawn .figures) (rowText i) ≡ Quiet
     row-judged =
-        ap (λ (table : List ℤ). judged total channelTypes (drawnFigures (length codes) (padded channelLimit codes)
-        (drawing total rowLimit table (length rows) (length codes) drawBudget)) (rowText i)) (sym (append-nil (tableOf rows)))
-        ∙ reference-drawn-quiet total (omega arith) rowLimit channelTypes house-sound reference codes rows is [] (padded channelLimit codes) codes-held i h
+        ap (λ (l : List ℤ). judged total channelTypes (drawnFigures n (padded channelLimit codes) (drawing total rowLimit l m n drawBudget))
+        (rowText i)) (sym (append-nil table))
+        ∙ reference-drawn-quiet total (omega arith) rowLimit channelTypes house-sound reference found is [] (padded channelLimit codes) codes-held i h
         drawBudget (omega arith)
 
-    row-within : RowWithin channelTypes codes (getD rows i noRow)
+    row-within : RowWithin channelTypes codes (rowAt found i)
     row-within = within .all-rows .each i h
+
+    row-labelled : isLabel (labelAt found i) ≡ true
+    row-labelled = ap isLabel (label-at found i) ∙ row-within .labelled
 
     row-next : (more : List ℕ) → printVerdicts total channelTypes (drawn .figures) (linesWithEnds (rowText i ++ more))
         ≡ printVerdict Quiet ++ printVerdicts total channelTypes (drawn .figures) (linesWithEnds more)
     unfolding printVerdicts
     row-next more =
-        let row = getD rows i noRow in
-        let in-form = own-form channelTypes house-sound codes (row .label) (row .values) codes-known (row-within .labelled) (row-within .complete) in
-        ap (printVerdicts total channelTypes (drawn .figures)) (reading-next (length codes) (rowText i) more (rowReading i) (printed-form in-form))
+        let in-form =
+        own-form channelTypes house-sound codes (labelAt found i) (rowAt found i .values) codes-known row-labelled (row-within .complete) in
+        ap (printVerdicts total channelTypes (drawn .figures)) (reading-next n (rowText i) more (rowReading i) (printed-form in-form))
         ∙ ap (λ (v : Verdict). printVerdict v ++ printVerdicts total channelTypes (drawn .figures) (linesWithEnds more)) row-judged
 
-  pub rows-quiet : (places : List ℕ) → Each (λ i. i < length rows) 0 places → textWithin (flatMap rowText places) ≡ true
+  pub rows-quiet : (places : List ℕ) → Each (λ i. i < m) 0 places → textWithin (flatMap rowText places) ≡ true
       → judgeOutput total rowLimit channelTypes reference drawnText (flatMap rowText places)
       ≡ flatMap (λ i. printVerdict Quiet) places
   unfolding flatMap printVerdicts linesWithEnds withEnds cut same
   rows-quiet places each short = draw-judged (flatMap rowText places) short ∙ go places each
     where
-      go : (places : List ℕ) → Each (λ i. i < length rows) 0 places
+      go : (places : List ℕ) → Each (λ i. i < m) 0 places
           → printVerdicts total channelTypes (drawn .figures) (linesWithEnds (flatMap rowText places)) ≡ flatMap (λ i. printVerdict Quiet) places
       go [] each = refl
       go (i ∷ places) each =
           row-next i (each 0 (omega arith)) (flatMap rowText places)
-          ∙ ap (λ (l : List ℕ). printVerdict Quiet ++ l) (go places (each-tail (λ i. i < length rows) 0 i places each))
+          ∙ ap (λ (l : List ℕ). printVerdict Quiet ++ l) (go places (each-tail (λ i. i < m) 0 i places each))
 
-  pub row-quiet : (i : ℕ) → i < length rows
+  pub row-quiet : (i : ℕ) → i < m
       → judgeOutput total rowLimit channelTypes reference drawnText (rowText i) ≡ printVerdict Quiet
   unfolding flatMap
   row-quiet i h =
-      let row = getD rows i noRow in
+      let values = rowAt found i .values in
       let right = row-within i h in
       let short =
-      own-length channelTypes house-sound codes (row .label) (row .values) codes-known (right .labelled) (right .complete) (within .heading .channels)
-      (range-in channelTypes codes (row .values) (right .each-in-range)) in
+      own-length channelTypes house-sound codes (labelAt found i) values codes-known (row-labelled i h) (right .complete) (within .heading .channels)
+      (range-in channelTypes codes values (right .each-in-range)) in
       ap (judgeOutput total rowLimit channelTypes reference drawnText) (sym (append-nil (rowText i)))
-      ∙ rows-quiet (i ∷ []) (each-cons (λ k. k < length rows) 0 i [] h (λ k l. absurd (omega arith)))
+      ∙ rows-quiet (i ∷ []) (each-cons (λ k. k < m) 0 i [] h (λ k l. absurd (omega arith)))
       (ap textWithin (append-nil (rowText i)) ∙ short)
       ∙ append-nil (printVerdict Quiet)

@@ -1,7 +1,7 @@
 -- A reference text that is read into a table with room for every text.
 --     TableRead text r table        the answer to the text and the table after it
 --     table-read                    as the call promises it
---     RowsRead text r table         the rows and codes of an accepted text, where they stand
+--     RowsRead text r table         an accepted text, and where its rows and codes stand
 --     rows-read                     an accepted text has them
 --     refused-read                  a refused text
 --     record-read                   a record that is read against them
@@ -14,19 +14,17 @@ use lib.IntN.{ℤ}
 use lib.ListN.{length, take, drop}
 use lib.Seq.{take-at, take-length, length-take-le}
 use Rattle.lent.specs.Filled.{filled}
-use Rattle.lists.specs.Padded.{padded-first}
 use Rattle.refusal.specs.Outcome.{numberOf, lineOf, refusedAt}
 use Rattle.refusal.specs.declared.Refusal.{Refusal}
 use Rattle.refusal.specs.declared.Outcome.the-variants.{Accepted, Refused}
 use Rattle.limits.specs.Limits.{total, rowLimit, channelLimit}
 use Rattle.channel.specs.Channel.{channelTypes}
-use Rattle.reference_rows.specs.Row.{Row}
-use Rattle.reference_rows.specs.Rows.{Content, faulty, sound, tableOf}
+use Rattle.reference_rows.specs.ReferenceText.{ReferenceText, codesOf, tableOf}
+use Rattle.reference_rows.specs.Rows.{Content, faulty, sound}
 use Rattle.reference.specs.Reference.{content}
-use Rattle.reference.specs.ReferenceLaws.{accepted-rows}
 use Rattle.reference.specs.TableLaws.{table-length}
 use Rattle.reference.specs.Contracts.{answerOf, referenceRead, valuesIn}
-use Rattle.reference.specs.ContractLaws.{answer-types, answer-rows, answer-channels, read-room}
+use Rattle.reference.specs.ContractLaws.{answer-places, answer-codes, answer-rows, answer-channels, read-room}
 use Rattle.reference.specs.declared.read.Reference.{Reference}
 use Rattle.record.specs.Contracts.{recordRead}
 use Rattle.program_record.specs.Against.{recordAgainst}
@@ -56,7 +54,7 @@ table-read {text} {r} {table} values e f long =
       places = places;
       within = omega arith;
       channels = channels;
-      typed = omega (arith, ap (λ (x : Reference). length (x .codes)) is, answer-types (contentIs text));
+      typed = omega (arith, ap (λ (x : Reference). length (x .codes)) is, answer-places (contentIs text));
       values = values;
       table-is = f;
     }
@@ -71,12 +69,11 @@ filled-first number count source lent table accepted long e =
     ∙ ap (λ (k : ℕ). take k source) (sym long) ∙ take-length source
 
 pub record RowsRead (text : List ℕ) (r : Reference) (table : List ℤ) : Type 0 where
-  pub codes : List ℕ
-  pub rows : List Row
-  pub is : contentIs text ≡ sound codes rows
-  pub answer : r ≡ answerOf (sound codes rows)
-  pub first : take (r .m * r .n) table ≡ tableOf rows
-  pub typed : take (r .n) (r .codes) ≡ codes
+  pub found : ReferenceText
+  pub is : contentIs text ≡ sound found
+  pub answer : r ≡ answerOf (sound found)
+  pub first : take (r .m * r .n) table ≡ tableOf found
+  pub typed : take (r .n) (r .codes) ≡ codesOf found
 
 module _ {text : List ℕ} {r : Reference} {table : List ℤ} (t : TableRead text r table) where
   pub rows-read : r .outcome ≡ Accepted → RowsRead text r table
@@ -87,18 +84,17 @@ module _ {text : List ℕ} {r : Reference} {table : List ℤ} (t : TableRead tex
           let refused : refusedAt number line ≡ Accepted = ap (λ (x : Reference). x .outcome) (sym (t .is ∙ ap answerOf is)) ∙ accepted in
           let z : _≡_ {A = ℕ} 0 1 = cc in
           absurd (omega arith)
-      go (sound codes rows) is =
+      go (sound found) is =
           let answer = t .is ∙ ap answerOf is in
           record {
-            codes = codes;
-            rows = rows;
+            found = found;
             is = is;
             answer = answer;
             first =
-                filled-first (numberOf (r .outcome)) (r .m * r .n) (tableOf rows) (t .values) table (ap numberOf accepted)
-                (table-length rowLimit channelTypes text codes rows is ∙ ap (λ (x : Reference). x .m * x .n) (sym answer))
+                filled-first (numberOf (r .outcome)) (r .m * r .n) (tableOf found) (t .values) table (ap numberOf accepted)
+                (table-length rowLimit channelTypes text found is ∙ ap (λ (x : Reference). x .m * x .n) (sym answer))
                 (t .table-is ∙ ap (λ (c : Content). filled (numberOf (r .outcome)) (r .m * r .n) (valuesIn c) (t .values)) is);
-            typed = ap (λ (x : Reference). take (x .n) (x .codes)) answer ∙ padded-first channelLimit (length codes) codes refl (accepted-rows rowLimit channelTypes text codes rows is .3);
+            typed = ap (λ (x : Reference). take (x .n) (x .codes)) answer ∙ answer-codes rowLimit channelTypes text found is;
           }
 
   pub refused-read : (refusal : Refusal) → r .outcome ≡ Refused refusal → contentIs text ≡ faulty (refusal .number) (refusal .line)
@@ -108,7 +104,7 @@ module _ {text : List ℕ} {r : Reference} {table : List ℤ} (t : TableRead tex
       go (faulty number line) is =
           let same : refusedAt number line ≡ Refused refusal = ap (λ (x : Reference). x .outcome) (sym (t .is ∙ ap answerOf is)) ∙ refused in
           ap₂ faulty (ap numberOf same) (ap lineOf same)
-      go (sound codes rows) is =
+      go (sound found) is =
           let same : Accepted ≡ Refused refusal = ap (λ (x : Reference). x .outcome) (sym (t .is ∙ ap answerOf is)) ∙ refused in
           let z : _≡_ {A = ℕ} 0 1 = cc in
           absurd (omega arith)
@@ -118,5 +114,5 @@ pub record-read : {text : List ℕ} {r : Reference} {table : List ℤ} → RowsR
     ≡ recordAgainst total rowLimit channelTypes text record-text
 record-read {text} {r} {table} read record-text =
     ap₂ (λ (rows : List ℤ) (codes : List ℕ). recordRead total rowLimit channelTypes rows (r .m) (r .n) codes record-text) (read .first) (read .typed)
-    ∙ ap (λ (x : Reference). recordRead total rowLimit channelTypes (tableOf (read .rows)) (x .m) (x .n) (read .codes) record-text) (read .answer)
-    ∙ sym (against-sound total rowLimit channelTypes text (read .codes) (read .rows) (read .is) record-text)
+    ∙ ap (λ (x : Reference). recordRead total rowLimit channelTypes (tableOf (read .found)) (x .m) (x .n) (codesOf (read .found)) record-text) (read .answer)
+    ∙ sym (against-sound total rowLimit channelTypes text (read .found) (read .is) record-text)

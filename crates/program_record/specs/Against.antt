@@ -6,12 +6,12 @@
 --     ofFigures read output                         the refusal of a record, or what is printed of its figures
 use Prim.Native.Nat.{ℕ}
 use mathlib.Core.List.{List}
-use lib.ListN.{length}
 use Rattle.refusal.specs.Outcome.{refusedAt}
 use Rattle.refusal.specs.declared.Outcome.{Outcome}
 use Rattle.refusal.specs.declared.Outcome.the-variants.{Accepted, Refused}
 use Rattle.channel.specs.Channel.{Types}
-use Rattle.reference_rows.specs.Rows.{Content, faulty, sound, tableOf}
+use Rattle.reference_rows.specs.ReferenceText.{codesOf, channelCount, rowCount, tableOf}
+use Rattle.reference_rows.specs.Rows.{Content, faulty, sound}
 use Rattle.reference.specs.Reference.{content}
 use Rattle.envelope.specs.declared.Figures.{Figures}
 use Rattle.record.specs.Contracts.{notRead, recordRead}
@@ -20,7 +20,8 @@ use Rattle.program_lines.specs.Lines.{printRefusal}
 
 abbrev pub contentAgainst : ℕ → ℕ → Types → List ℕ → Content → EnvelopeRead
 contentAgainst D limit types text (faulty number line) = notRead limit (refusedAt number line)
-contentAgainst D limit types text (sound codes rows) = recordRead D limit types (tableOf rows) (length rows) (length codes) codes text
+contentAgainst D limit types text (sound found) =
+    recordRead D limit types (tableOf found) (rowCount found) (channelCount found) (codesOf found) text
 
 unfoldable pub recordAgainst : ℕ → ℕ → Types → List ℕ → List ℕ → EnvelopeRead
 recordAgainst D limit types reference text = contentAgainst D limit types text (content limit types reference)

@@ -13,7 +13,7 @@ use Rattle.reference.specs.Reference.{content}
 use Rattle.reference_rows.specs.Rows.{Content}
 use Rattle.reference.specs.Contracts.{answerOf}
 use Rattle.reference.specs.declared.read.Reference.{Reference}
-use Rattle.reference.specs.ContractLaws.{answer-types, answer-rows, answer-channels, answer-values, read-room}
+use Rattle.reference.specs.ContractLaws.{answer-places, answer-rows, answer-channels, answer-values, read-room}
 use Rattle.export_reference.proofs.ReadLaws.{short-table, short-codes, answered, table-filled, codes-filled, unwritten}
 use Rattle.export_reference.proofs.read.Statement.{statement}
 use Rattle.export_reference.proofs.read.Tie as tie
@@ -39,7 +39,7 @@ places c =
 channels : (c : tie.After-read) → c .read .result .n ≤ length (c .read .result .codes)
 channels c =
     subst (λ (r : Reference). r .n ≤ length (r .codes)) (sym (read-is c))
-    (omega (arith, answer-channels rowLimit channelTypes (now (c .before .before .before .before .args .text)), answer-types (text-of c)))
+    (omega (arith, answer-channels rowLimit channelTypes (now (c .before .before .before .before .args .text)), answer-places (text-of c)))
 
 mul-places : tie.Need-mul-places
 mul-places c = omega (arith, places (c .before))
