@@ -14,7 +14,7 @@ use mathlib.Core.List.{List, [], _∷_, _++_}
 use lib.Dec.{leb, eqb}
 use lib.ListN.{length, take}
 use Rattle.io.specs.Digits.{glyph}
-use Rattle.message.specs.Ascii.{ascii}
+use Rattle.file_name.specs.Ascii.{ascii}
 
 abbrev pub nameLimit : ℕ
 nameLimit = 60

@@ -1,5 +1,5 @@
 -- A quoted text as the list of its bytes.
---     ascii s     the codes of its characters, each below 128 in the texts of this crate
+--     ascii s     the codes of its characters, each below 128 in the texts of the house
 use Prim.Native.Nat.{ℕ}
 use Prim.Native.Char.{code}
 use Prim.Native.String.{String, [] as none, _∷_ as _then_}

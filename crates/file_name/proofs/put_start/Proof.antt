@@ -6,11 +6,11 @@ use native.Mathlib.Omega.{arith}
 use lib.ListN.{length, getD, take}
 use Rattle.printing.specs.Contracts.{Put}
 use Rattle.printing.specs.ContractLaws.{put-none, put-then, put-as, take-next}
-use Rattle.message.specs.Name.{nameLimit, escapedByte, escaped, byteRoom}
-use Rattle.message.specs.NameLaws.{escaped-none, escaped-more, start-taken}
-use Rattle.message.specs.PutLaws.{put-within}
-use Rattle.message.proofs.name.put_start.Statement.{statement}
-use Rattle.message.proofs.name.put_start.Tie as tie
+use Rattle.file_name.specs.Name.{nameLimit, escapedByte, escaped, byteRoom}
+use Rattle.file_name.specs.NameLaws.{escaped-none, escaped-more, start-taken}
+use Rattle.file_name.specs.PutLaws.{put-within}
+use Rattle.file_name.proofs.put_start.Statement.{statement}
+use Rattle.file_name.proofs.put_start.Tie as tie
 
 abbrev Inv-loop : tie.InvT-loop
 Inv-loop out₀ at name count end₀ i₀ out end i =

@@ -1,7 +1,7 @@
 -- The tests are those of the definition.
 use borrow.Author.Tests.{le-leb, lt-leb}
-use Rattle.message.proofs.name.is_shown.Statement.{statement}
-use Rattle.message.proofs.name.is_shown.Tie as tie
+use Rattle.file_name.proofs.is_shown.Statement.{statement}
+use Rattle.file_name.proofs.is_shown.Tie as tie
 
 returns : tie.Need-returns
 returns c = simp (lt-leb _ _ (c .if1 .taken))

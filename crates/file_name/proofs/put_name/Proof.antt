@@ -2,11 +2,11 @@
 use mathlib.Core.Path.{refl}
 use native.Mathlib.Omega.{arith}
 use Rattle.printing.specs.ContractLaws.{put-then, put-as}
-use Rattle.message.specs.NameLaws.{name-whole, name-cut}
-use Rattle.message.specs.PutLaws.{put-within}
+use Rattle.file_name.specs.NameLaws.{name-whole, name-cut}
+use Rattle.file_name.specs.PutLaws.{put-within}
 use borrow.Author.Needs.{needs}
-use Rattle.message.proofs.name.put_name.Statement.{statement}
-use Rattle.message.proofs.name.put_name.Tie as tie
+use Rattle.file_name.proofs.put_name.Statement.{statement}
+use Rattle.file_name.proofs.put_name.Tie as tie
 
 put-quoted-requires : tie.Need-put-quoted-requires
 put-quoted-requires c κs = search needs

@@ -1,10 +1,10 @@
 -- Each byte has room.
 use native.Mathlib.Omega.{arith}
 use Rattle.printing.specs.ContractLaws.{put-then}
-use Rattle.message.specs.PutLaws.{put-within}
+use Rattle.file_name.specs.PutLaws.{put-within}
 use borrow.Author.Needs.{needs}
-use Rattle.message.proofs.name.put_quoted.Statement.{statement}
-use Rattle.message.proofs.name.put_quoted.Tie as tie
+use Rattle.file_name.proofs.put_quoted.Statement.{statement}
+use Rattle.file_name.proofs.put_quoted.Tie as tie
 
 slice-aggregate-put-bytes : tie.Need-slice-aggregate-put-bytes
 slice-aggregate-put-bytes c = search needs

@@ -6,7 +6,7 @@ use mathlib.Core.List.{List}
 use lib.ListN.{length}
 use lib.Seq.{length-take-le}
 use Rattle.printing.specs.Contracts.{Put}
-use Rattle.message.specs.Contracts.{PutWithin}
+use Rattle.file_name.specs.Contracts.{PutWithin}
 
 pub put-within : {room : ℕ} {w out₀ out : List ℕ} {at r : ℕ} → Put w out₀ at out r → r ≤ at + room → r ≤ length out
     → PutWithin room w out₀ at out r

@@ -1,8 +1,8 @@
 -- The test is that of the definition.
 use borrow.Author.Needs.{needs}
 use borrow.Author.Tests.{lt-ltb, le-ltb}
-use Rattle.message.proofs.name.hex_digit.Statement.{statement}
-use Rattle.message.proofs.name.hex_digit.Tie as tie
+use Rattle.file_name.proofs.hex_digit.Statement.{statement}
+use Rattle.file_name.proofs.hex_digit.Tie as tie
 
 add-result : tie.Need-add-result
 add-result c = search needs

@@ -3,9 +3,9 @@ use mathlib.Core.Path.{sym, ap}
 use native.Mathlib.Omega.{arith}
 use lib.ListN.{length}
 use lib.Seq.{take-all, length-take-le}
-use Rattle.message.specs.Name.{nameLimit}
-use Rattle.message.proofs.name.shown_length.Statement.{statement}
-use Rattle.message.proofs.name.shown_length.Tie as tie
+use Rattle.file_name.specs.Name.{nameLimit}
+use Rattle.file_name.proofs.shown_length.Statement.{statement}
+use Rattle.file_name.proofs.shown_length.Tie as tie
 
 returns : tie.Need-returns
 returns c =

@@ -12,8 +12,8 @@ use native.Mathlib.Omega.{arith}
 use lib.ListN.{length, take, length-take}
 use lib.Seq.{take-take, take-length}
 use Rattle.io.specs.Digits.{glyph}
-use Rattle.message.specs.Ascii.{ascii}
-use Rattle.message.specs.Name.{nameLimit, backslash, isShown, escapedByte, escaped, quotedStart, escapedName}
+use Rattle.file_name.specs.Ascii.{ascii}
+use Rattle.file_name.specs.Name.{nameLimit, backslash, isShown, escapedByte, escaped, quotedStart, escapedName}
 
 module _ (b : ℕ) where
   by-test : (t : Bool) → isShown b ≡ t → cond t (b ∷ []) (backslash ∷ 120 ∷ glyph (b / 16) ∷ glyph (b % 16) ∷ []) ≡ escapedByte b

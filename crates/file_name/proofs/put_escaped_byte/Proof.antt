@@ -2,11 +2,11 @@
 use mathlib.Core.Path.{refl, sym, _∙_}
 use native.Mathlib.Omega.{arith}
 use Rattle.printing.specs.ContractLaws.{put-as}
-use Rattle.message.specs.NameLaws.{byte-shown, byte-hidden}
-use Rattle.message.specs.PutLaws.{put-within}
+use Rattle.file_name.specs.NameLaws.{byte-shown, byte-hidden}
+use Rattle.file_name.specs.PutLaws.{put-within}
 use borrow.Author.Needs.{needs}
-use Rattle.message.proofs.name.put_escaped_byte.Statement.{statement}
-use Rattle.message.proofs.name.put_escaped_byte.Tie as tie
+use Rattle.file_name.proofs.put_escaped_byte.Statement.{statement}
+use Rattle.file_name.proofs.put_escaped_byte.Tie as tie
 
 is-shown-requires : tie.Need-is-shown-requires
 is-shown-requires c κs = search needs

@@ -7,7 +7,7 @@ use mathlib.Core.List.{List}
 use lib.ListN.{length, take}
 use Rattle.io.specs.Counts.{Counts}
 use Rattle.printing.specs.Contracts.{Put}
-use Rattle.message.specs.Name.{nameLimit}
+use Rattle.file_name.specs.Name.{nameLimit}
 
 pub record ShownLength (name : List ℕ) (r : ℕ) : Type 0 where
   pub is : r ≡ length (take nameLimit name)

@@ -4,7 +4,7 @@ ghost use mathlib.Core.Path.{_≡_};
 ghost use Prim.Native.Nat.{_+_, _≤_, _<_};
 ghost use lib.ListN.{length};
 ghost use Rattle.io.specs.Digits.{glyph};
-ghost use Rattle.message.specs.Name.{
+ghost use Rattle.file_name.specs.Name.{
   isShown,
   escapedByte,
   escapedStart,
@@ -15,7 +15,7 @@ ghost use Rattle.message.specs.Name.{
   quotedRoom,
   nameRoom,
 };
-ghost use Rattle.message.specs.Contracts.{ShownLength, PutWithin};
+ghost use Rattle.file_name.specs.Contracts.{ShownLength, PutWithin};
 use printing::put_bytes;
 
 // the most bytes of a name that are told
