@@ -1,5 +1,5 @@
 -- The room for a line, and the most bytes of a line whose numbers have so many digits.
---     numberRoom                    room for the printing of a number: a comma, a hyphen and the digits of one below 2 ^ 63
+--     fieldRoom                     the room of a number after a comma: with a hyphen and its digits
 --     lineRoom                      room for the printing of a refusal or a verdict
 --     refusalMost number line       the most bytes of a refusal
 --     quietMost, alarmMost excess   the most bytes of a Quiet, and of an Alarm
@@ -8,12 +8,12 @@ use lib.ListN.{length}
 use Rattle.limits.specs.Limits.{distanceDigits}
 use Rattle.program_lines.specs.Lines.{refusalWord, quietWord, alarmWord}
 
-abbrev pub numberRoom : ℕ
-numberRoom = distanceDigits + 2
+abbrev pub fieldRoom : ℕ
+fieldRoom = distanceDigits + 2
 
--- a word that is not longer than the room for a number, two numbers and byte 10
+-- a word, which is not longer than a number and its comma may be, two numbers and byte 10
 abbrev pub lineRoom : ℕ
-lineRoom = 3 * numberRoom + 1
+lineRoom = 3 * fieldRoom + 1
 
 -- a word, a comma before each number, and byte 10
 abbrev pub refusalMost : ℕ → ℕ → ℕ

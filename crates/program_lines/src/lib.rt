@@ -9,11 +9,11 @@ use limits::DISTANCE_DIGITS;
 use printing::put_line;
 use reading::Verdict;
 
-// room for a number: a comma, a hyphen and its digits
-const NUMBER_ROOM: usize = DISTANCE_DIGITS + 2;
+// the room of a number after a comma: with a hyphen and its digits
+const FIELD_ROOM: usize = DISTANCE_DIGITS + 2;
 
-// room for a line of `NO`, or of a verdict: a word that is not longer than the room for a number, two numbers and byte 10
-pub const LINE_MOST: usize = 3 * NUMBER_ROOM + 1;
+// room for a line of `NO`, or of a verdict: a word, which is not longer than a number and its comma may be, two numbers and byte 10
+pub const LINE_MOST: usize = 3 * FIELD_ROOM + 1;
 
 const REFUSAL_WORD: [u8; 2] = *b"NO";
 

@@ -31,14 +31,14 @@ use Rattle.chart.specs.declared.panel.PanelShown.{PanelShown}
 use Rattle.program_lines.specs.Lines.{printSteps}
 use Rattle.program_panel.specs.Output.{shownOutput}
 use Rattle.program_record.specs.Against.{unlessRefused, recordAgainst}
-use Rattle.program_lines.specs.Contracts.{numberRoom}
+use Rattle.program_lines.specs.Contracts.{fieldRoom}
 use Rattle.program_panel.specs.Contracts.{stepRoom}
 use Rattle.program_panel.specs.OutputLaws.{steps-none, steps-more, steps-first}
 use Rattle.program_record.specs.AgainstLaws.{against-within}
 
 -- where the tag ends: a comma, a number and byte 10 have room after it
 pub tag-end : (code : ℕ) {out out′ : List ℕ} {at end : ℕ} → at + stepRoom ≤ length out → Put (tagOf channelTypes code) out at out′ end
-    → (end ≤ at + tagLimit) × (end + numberRoom + 1 ≤ length out′)
+    → (end ≤ at + tagLimit) × (end + fieldRoom + 1 ≤ length out′)
 tag-end code room f =
     let short = type-short channelTypes house-short code in
     (omega (arith, f .next, short), omega (arith, f .next, short, f .same-length))
