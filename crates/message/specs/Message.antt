@@ -13,8 +13,8 @@ use mathlib.Core.List.{List, _++_}
 use lib.IntN.{pos}
 use Rattle.number.specs.Number.{print}
 use Rattle.printing.specs.Contracts.{numberRoom}
-use Rattle.message.specs.Ascii.{ascii}
-use Rattle.message.specs.Name.{escapedStart, escapedName, startRoom, nameRoom}
+use Rattle.file_name.specs.Ascii.{ascii}
+use Rattle.file_name.specs.Name.{escapedStart, escapedName, startRoom, nameRoom}
 
 abbrev pub programPart : List ℕ → List ℕ
 programPart program = escapedStart program ++ ascii ": "

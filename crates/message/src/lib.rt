@@ -1,7 +1,5 @@
 // What the programs tell on standard error. Each message starts with the program's name, and goes out in one write up to the reason.
 // What is printed of a message is an equation; that it is written, no contract can say.
-mod name;
-
 ghost use Prim.Native.Nat.{_^_, _≤_, _<_};
 ghost use lib.ListN.{length};
 ghost use Rattle.message.specs.Message.{
@@ -20,11 +18,11 @@ ghost use Rattle.message.specs.Message.{
   namedRoom,
   messageRoom,
 };
-ghost use Rattle.message.specs.Contracts.{PutWithin};
-use crate::name::NAME_ROOM;
-use crate::name::START_ROOM;
-use crate::name::put_name;
-use crate::name::put_start;
+ghost use Rattle.file_name.specs.Contracts.{PutWithin};
+use file_name::NAME_ROOM;
+use file_name::START_ROOM;
+use file_name::put_name;
+use file_name::put_start;
 use libc::STDERR_FILENO;
 use printing::NUMBER_ROOM;
 use printing::put_bytes;

@@ -1,4 +1,3 @@
--- The program `judge`, in reading order: what it prints; then the room for that, and the laws.
+-- The program `judge`, in reading order: what it prints, and the law.
 pub mod Output
-pub mod Contracts
 pub mod OutputLaws

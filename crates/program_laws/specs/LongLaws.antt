@@ -32,7 +32,8 @@ use Rattle.record.specs.declared.EnvelopeRead.{EnvelopeRead}
 use Rattle.text.specs.EndedLines.{linesWithEnds}
 use Rattle.program_lines.specs.Lines.{printRefusal, printAccepted, printVerdicts}
 use Rattle.program_draw.specs.Output.{contentOutput, drawOutput}
-use Rattle.program_judge.specs.Output.{readingsOutput, judgeOutput}
+use Rattle.program_judge.specs.Output.{judgeOutput}
+use Rattle.program_verdicts.specs.Output.{readingsOutput}
 use Rattle.program_panel.specs.Output.{shownOutput, panelOutput}
 use Rattle.program_record.specs.Against.{unlessRefused, contentAgainst, recordAgainst, ofFigures}
 use Rattle.program_verify.specs.Output.{verifyOutput}

@@ -61,14 +61,15 @@ use Rattle.record.specs.declared.EnvelopeRead.{EnvelopeRead}
 use Rattle.chart.specs.Panel.{panelShown}
 use Rattle.text.specs.EndedLines.{withEnds, linesWithEnds}
 use Rattle.program_lines.specs.Lines.{refusalWord, printRefusal, printAccepted, printVerdict, printVerdicts, printSteps}
-use Rattle.program_lines.specs.SizeLaws.{each-verdict}
+use Rattle.program_verdicts.specs.SizeLaws.{each-verdict}
 use Rattle.program_draw.specs.Output.{drawOutput}
-use Rattle.program_judge.specs.Output.{readingsOutput, judgeOutput}
+use Rattle.program_judge.specs.Output.{judgeOutput}
+use Rattle.program_verdicts.specs.Output.{readingsOutput}
 use Rattle.program_panel.specs.Output.{shownOutput, panelOutput}
 use Rattle.program_record.specs.Against.{unlessRefused, contentAgainst, recordAgainst, ofFigures}
 use Rattle.program_verify.specs.Output.{verifyOutput}
 use Rattle.program_draw.specs.OutputLaws.{draw-faulty, draw-record}
-use Rattle.program_judge.specs.OutputLaws.{readings-refused, readings-judged}
+use Rattle.program_verdicts.specs.OutputLaws.{readings-refused, readings-judged}
 use Rattle.program_panel.specs.OutputLaws.{panel-accepted}
 use Rattle.program_record.specs.AgainstLaws.{against-within}
 use Rattle.program_laws.specs.TripLaws.{cut-line}

@@ -57,11 +57,12 @@ use Rattle.record.specs.declared.EnvelopeRead.{EnvelopeRead}
 use Rattle.text.specs.EndedLines.{withEnds, linesWithEnds}
 use Rattle.program_lines.specs.Lines.{printAccepted, printVerdict, printVerdicts}
 use Rattle.program_draw.specs.Output.{drawBudget, drawOutput}
-use Rattle.program_judge.specs.Output.{readingsOutput, judgeOutput}
+use Rattle.program_judge.specs.Output.{judgeOutput}
+use Rattle.program_verdicts.specs.Output.{readingsOutput}
 use Rattle.program_record.specs.Against.{recordAgainst, ofFigures}
 use Rattle.program_verify.specs.Output.{verifyOutput}
 use Rattle.program_draw.specs.OutputLaws.{draw-accepted, draw-record}
-use Rattle.program_judge.specs.OutputLaws.{readings-judged}
+use Rattle.program_verdicts.specs.OutputLaws.{readings-judged}
 use Rattle.program_record.specs.AgainstLaws.{against-sound}
 use Rattle.program_laws.specs.QuietLaws.{reference-drawn-quiet}
 

@@ -1,17 +1,26 @@
--- What the functions that print for a program ask and promise besides equations.
---     Printed output out₀ out count     the output stands in so many first places of a slice
---     verdictRoom                       room for a refusal or a verdict
-use Prim.Native.Nat.{ℕ, _≤_}
-use mathlib.Core.Path.{_≡_}
-use mathlib.Core.List.{List}
-use lib.ListN.{length, take}
+-- The room for a line, and the most bytes of a line whose numbers have so many digits.
+--     fieldRoom                     the room of a number after a comma: with a hyphen and its digits
+--     lineRoom                      room for the printing of a refusal or a verdict
+--     refusalMost number line       the most bytes of a refusal
+--     quietMost, alarmMost excess   the most bytes of a Quiet, and of an Alarm
+use Prim.Native.Nat.{ℕ, _+_, _*_}
+use lib.ListN.{length}
+use Rattle.limits.specs.Limits.{distanceDigits}
+use Rattle.program_lines.specs.Lines.{refusalWord, quietWord, alarmWord}
 
--- an output that is printed at the start of a slice
-pub record Printed (output out₀ out : List ℕ) (count : ℕ) : Type 0 where
-  pub is : take count out ≡ output
-  pub within : count ≤ length out
-  pub taken : count ≡ length (take count out)
-  pub same-length : length out ≡ length out₀
+abbrev pub fieldRoom : ℕ
+fieldRoom = distanceDigits + 2
 
-abbrev pub verdictRoom : ℕ
-verdictRoom = 64
+-- a word, which is not longer than a number and its comma may be, two numbers and byte 10
+abbrev pub lineRoom : ℕ
+lineRoom = 3 * fieldRoom + 1
+
+-- a word, a comma before each number, and byte 10
+abbrev pub refusalMost : ℕ → ℕ → ℕ
+refusalMost number line = length refusalWord + (1 + number) + (1 + line) + 1
+
+abbrev pub quietMost : ℕ
+quietMost = length quietWord + 1
+
+abbrev pub alarmMost : ℕ → ℕ
+alarmMost excess = length alarmWord + (1 + excess) + 1

@@ -4,12 +4,16 @@ ghost use lib.ListN.{length};
 ghost use Rattle.printing.specs.Contracts.{Put};
 ghost use Rattle.reading.specs.Verdict.{verdictExcess};
 ghost use Rattle.program_lines.specs.Lines.{printRefusal, printVerdict};
-ghost use Rattle.program_lines.specs.Contracts.{verdictRoom};
+ghost use Rattle.program_lines.specs.Contracts.{lineRoom};
+use limits::DISTANCE_DIGITS;
 use printing::put_line;
 use reading::Verdict;
 
-// room for a line of `NO`, or of a verdict
-pub const LINE_MOST: usize = 64;
+// the room of a number after a comma: with a hyphen and its digits
+const FIELD_ROOM: usize = DISTANCE_DIGITS + 2;
+
+// room for a line of `NO`, or of a verdict: a word, which is not longer than a number and its comma may be, two numbers and byte 10
+pub const LINE_MOST: usize = 3 * FIELD_ROOM + 1;
 
 const REFUSAL_WORD: [u8; 2] = *b"NO";
 
@@ -19,8 +23,8 @@ const ALARM_WORD: [u8; 5] = *b"ALARM";
 
 // Prints a refusal from index `at` on, and answers the index after it.
 pub fn put_refusal(out: &mut [u8], at: usize, number: u32, line: u32) -> usize
-    requires { ⌜ at + verdictRoom ≤ length (now out) ⌝ }
-    ensures room { λ r. ⌜ r ≤ at + verdictRoom ⌝ }
+    requires { ⌜ at + lineRoom ≤ length (now out) ⌝ }
+    ensures room { λ r. ⌜ r ≤ at + lineRoom ⌝ }
     ensures line { λ r. ⌜ Put (printRefusal number line) (now (out .entry)) at (now (out .exit)) r ⌝ }
 {
     let numbers = [number as i64, line as i64];
@@ -29,7 +33,7 @@ pub fn put_refusal(out: &mut [u8], at: usize, number: u32, line: u32) -> usize
 
 // Prints a verdict in the same way.
 pub fn put_verdict(out: &mut [u8], at: usize, verdict: Verdict) -> usize
-    requires { ⌜ (verdictExcess verdict < 2 ^ 63) × (at + verdictRoom ≤ length (now out)) ⌝ }
+    requires { ⌜ (verdictExcess verdict < 2 ^ 63) × (at + lineRoom ≤ length (now out)) ⌝ }
     ensures { λ r. ⌜ Put (printVerdict verdict) (now (out .entry)) at (now (out .exit)) r ⌝ }
 {
     match verdict {

@@ -12,7 +12,7 @@ use lib.ListN.{length, getD, set, take, length-set}
 use lib.Seq.{length-take-le}
 use Rattle.refusal.specs.declared.Outcome.{Outcome}
 use Rattle.refusal.specs.declared.Outcome.the-variants.{Accepted}
-use Rattle.limits.specs.Limits.{total, rowLimit, channelLimit}
+use Rattle.limits.specs.Limits.{total, rowLimit, channelLimit, tagLimit, distanceDigits}
 use Rattle.text.specs.Parts.{comma, lineEnd}
 use Rattle.number.specs.Number.{print}
 use Rattle.number.specs.NumberLaws.{print-short}
@@ -31,13 +31,14 @@ use Rattle.chart.specs.declared.panel.PanelShown.{PanelShown}
 use Rattle.program_lines.specs.Lines.{printSteps}
 use Rattle.program_panel.specs.Output.{shownOutput}
 use Rattle.program_record.specs.Against.{unlessRefused, recordAgainst}
+use Rattle.program_lines.specs.Contracts.{fieldRoom}
 use Rattle.program_panel.specs.Contracts.{stepRoom}
 use Rattle.program_panel.specs.OutputLaws.{steps-none, steps-more, steps-first}
 use Rattle.program_record.specs.AgainstLaws.{against-within}
 
--- where the tag ends
+-- where the tag ends: a comma, a number and byte 10 have room after it
 pub tag-end : (code : ℕ) {out out′ : List ℕ} {at end : ℕ} → at + stepRoom ≤ length out → Put (tagOf channelTypes code) out at out′ end
-    → (end ≤ at + 3) × (end + 29 ≤ length out′)
+    → (end ≤ at + tagLimit) × (end + fieldRoom + 1 ≤ length out′)
 tag-end code room f =
     let short = type-short channelTypes house-short code in
     (omega (arith, f .next, short), omega (arith, f .next, short, f .same-length))
@@ -47,12 +48,12 @@ pub record StepPut (code : ℕ) (step : ℤ) (out : List ℕ) (at : ℕ) (out′
   pub end : r + 1 ≤ at + stepRoom
   pub line : Put (printNumbers (tagOf channelTypes code) (step ∷ [])) out at (set out′ r lineEnd) (r + 1)
 
-pub step-put : (code : ℕ) (step : ℤ) {out a b : List ℕ} {at end r : ℕ} → at + stepRoom ≤ length out → natAbs step < 10 ^ 10
+pub step-put : (code : ℕ) (step : ℤ) {out a b : List ℕ} {at end r : ℕ} → at + stepRoom ≤ length out → natAbs step < 10 ^ distanceDigits
     → Put (tagOf channelTypes code) out at a end → Put (print step) (set a end comma) (end + 1) b r → StepPut code step out at b r
 step-put code step {a = a} {b} {at} {end} {r} room small f g =
     let tag = tagOf channelTypes code in
     let ends = tag-end code room f in
-    let short = print-short 10 step (omega arith) small in
+    let short = print-short distanceDigits step (omega arith) small in
     let within : r < length b = omega (arith, g .next, g .same-length, length-set a end comma, ends .1) in
     let printed = put-then f (put-then (put-byte a end comma (omega (arith, ends .1))) g) in
     let is : tag ++ (comma ∷ print step) ≡ numbersAfter tag (step ∷ []) =

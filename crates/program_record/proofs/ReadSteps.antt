@@ -17,7 +17,7 @@ use Rattle.lent.specs.Filled.{filled}
 use Rattle.refusal.specs.Outcome.{numberOf, lineOf, refusedAt}
 use Rattle.refusal.specs.declared.Refusal.{Refusal}
 use Rattle.refusal.specs.declared.Outcome.the-variants.{Accepted, Refused}
-use Rattle.limits.specs.Limits.{total, rowLimit, channelLimit}
+use Rattle.limits.specs.Limits.{total, rowLimit, channelLimit, placeLimit}
 use Rattle.channel.specs.Channel.{channelTypes}
 use Rattle.reference_rows.specs.ReferenceText.{ReferenceText, codesOf, tableOf}
 use Rattle.reference_rows.specs.Rows.{Content, faulty, sound}
@@ -35,20 +35,20 @@ contentIs = content rowLimit channelTypes
 
 pub record TableRead (text : List ℕ) (r : Reference) (table : List ℤ) : Type 0 where
   pub is : r ≡ answerOf (contentIs text)
-  pub places : r .m * r .n ≤ 2048
+  pub places : r .m * r .n ≤ placeLimit
   pub within : r .m * r .n ≤ length table
-  pub channels : r .n ≤ 8
+  pub channels : r .n ≤ channelLimit
   pub typed : r .n ≤ length (r .codes)
   pub values : List ℤ
   pub table-is : table ≡ filled (numberOf (r .outcome)) (r .m * r .n) (valuesIn (contentIs text)) values
 
-pub table-read : {text : List ℕ} {r : Reference} {table : List ℤ} (values : List ℤ) → r ≡ referenceRead rowLimit channelTypes text 2048
-    → table ≡ filled (numberOf (r .outcome)) (r .m * r .n) (valuesIn (contentIs text)) values → 2048 ≤ length table → TableRead text r table
+pub table-read : {text : List ℕ} {r : Reference} {table : List ℤ} (values : List ℤ) → r ≡ referenceRead rowLimit channelTypes text placeLimit
+    → table ≡ filled (numberOf (r .outcome)) (r .m * r .n) (valuesIn (contentIs text)) values → placeLimit ≤ length table → TableRead text r table
 table-read {text} {r} {table} values e f long =
-    let is = e ∙ read-room rowLimit channelTypes text 2048 (omega arith) in
+    let is = e ∙ read-room rowLimit channelTypes text placeLimit (omega arith) in
     let rows = ap (λ (x : Reference). x .m) is in
-    let channels : r .n ≤ 8 = omega (arith, ap (λ (x : Reference). x .n) is, answer-channels rowLimit channelTypes text) in
-    let places : r .m * r .n ≤ 2048 = mul-le-mul {n₂ = 256} {m₂ = 8} (omega (arith, rows, answer-rows rowLimit channelTypes text)) channels in
+    let channels : r .n ≤ channelLimit = omega (arith, ap (λ (x : Reference). x .n) is, answer-channels rowLimit channelTypes text) in
+    let places : r .m * r .n ≤ placeLimit = mul-le-mul {n₂ = rowLimit} {m₂ = channelLimit} (omega (arith, rows, answer-rows rowLimit channelTypes text)) channels in
     record {
       is = is;
       places = places;

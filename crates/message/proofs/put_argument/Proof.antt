@@ -7,7 +7,7 @@ use Rattle.number.specs.Number.{print}
 use Rattle.number.specs.NumberLaws.{print-short}
 use Rattle.printing.specs.Contracts.{numberDigits, Put}
 use Rattle.printing.specs.ContractLaws.{put-then, put-as}
-use Rattle.message.specs.PutLaws.{put-within}
+use Rattle.file_name.specs.PutLaws.{put-within}
 use borrow.Author.Needs.{needs}
 use Rattle.message.proofs.put_argument.Statement.{statement}
 use Rattle.message.proofs.put_argument.Tie as tie

@@ -1,7 +1,7 @@
 -- The argument by its bytes, then the words.
 use native.Mathlib.Omega.{arith}
 use Rattle.printing.specs.ContractLaws.{put-then}
-use Rattle.message.specs.PutLaws.{put-within}
+use Rattle.file_name.specs.PutLaws.{put-within}
 use borrow.Author.Needs.{needs}
 use Rattle.message.proofs.put_excess.Statement.{statement}
 use Rattle.message.proofs.put_excess.Tie as tie

@@ -1,6 +1,7 @@
 -- The output is printed into an array with room for every output, and handed out from there.
+use native.Mathlib.Omega.{arith}
 use borrow.Author.Needs.{needs}
-use Rattle.program_lines.proofs.LineSteps.{handed}
+use Rattle.program_lines.proofs.LineSteps.{printed-part, handed}
 use Rattle.program_draw.proofs.draw.Statement.{statement}
 use Rattle.program_draw.proofs.draw.Tie as tie
 
@@ -11,10 +12,10 @@ put-output-requires : tie.Need-put-output-requires
 put-output-requires c κs = search needs
 
 array-share-prefix-text : tie.Need-array-share-prefix-text
-array-share-prefix-text c = search needs
+array-share-prefix-text c = omega (arith, printed-part (c .before .put-output .ensures) .within)
 
 slice-aggregate-hand-out : tie.Need-slice-aggregate-hand-out
-slice-aggregate-hand-out c = search needs
+slice-aggregate-hand-out c = printed-part (c .before .before .put-output .ensures) .taken
 
 hand-out-requires : tie.Need-hand-out-requires
 hand-out-requires c κs = search needs
@@ -23,7 +24,7 @@ same-length : tie.Need-same-length
 same-length c = search needs
 
 returns : tie.Need-returns
-returns c = handed _ _ _ (c .before .before .before .before .before .before .put-output .ensures) (c .before .before .hand-out .ensures)
+returns c = handed (c .before .before .before .before .before .before .put-output .ensures) _ _ _ (c .before .before .hand-out .ensures)
 
 pub draw-spec : {M : Type 1} → statement M
 draw-spec =

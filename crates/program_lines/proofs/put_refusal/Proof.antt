@@ -3,7 +3,7 @@ use mathlib.Core.List.{[], _∷_}
 use native.Mathlib.Omega.{arith}
 use borrow.Author.Needs.{needs}
 use Rattle.printing.specs.UnsignedLaws.{held-below}
-use Rattle.program_lines.specs.SizeLaws.{refusal-room}
+use Rattle.program_lines.specs.LineLaws.{refusal-room}
 use Rattle.program_lines.proofs.LineSteps.{two-below, refusal-put}
 use Rattle.program_lines.proofs.put_refusal.Statement.{statement}
 use Rattle.program_lines.proofs.put_refusal.Tie as tie

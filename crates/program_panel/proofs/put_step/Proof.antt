@@ -1,4 +1,4 @@
--- A tag has at most three bytes and a step of 32 bits at most eleven, which leaves room for the comma and byte 10.
+-- After a tag there is room for a comma, a number and byte 10.
 use Prim.Native.Nat.{_+_, _≤_}
 use native.Mathlib.Omega.{arith}
 use borrow.Author.Needs.{needs}
@@ -6,6 +6,8 @@ use mir.Syntax.{w32}
 use mathlib.Core.Path.{refl, ap}
 use lib.IntN.{natAbs}
 use lib.ListN.{length, length-set}
+use Rattle.limits.specs.Limits.{tagLimit}
+use Rattle.program_lines.specs.Contracts.{fieldRoom}
 use Rattle.integers.specs.Absolute.{fits-abs}
 use Rattle.integers.specs.Reading.{Reads, back, held, fits, kept}
 use Rattle.text.specs.Parts.{comma}
@@ -25,7 +27,7 @@ at-tag c = c .before .before .before .before
 read : (c : tie.Start) → Reads (back w32 (c .args .step)) (c .args .step) 2147483648
 read c = held {w = w32} {B = 2147483648} (c .fits .step) (fits-abs w32 (c .args .step) (c .fits .step))
 
-ends : (c : tie.After-put-tag) → (c .put-tag .result ≤ start c .args .at + 3) × (c .put-tag .result + 29 ≤ length (c .put-tag .last .0))
+ends : (c : tie.After-put-tag) → (c .put-tag .result ≤ start c .args .at + tagLimit) × (c .put-tag .result + fieldRoom + 1 ≤ length (c .put-tag .last .0))
 ends c = tag-end (start c .args .code) (start c .pre) (c .put-tag .ensures)
 
 put-tag-requires : tie.Need-put-tag-requires

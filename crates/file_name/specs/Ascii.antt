@@ -1,0 +1,10 @@
+-- A quoted text as the list of its bytes.
+--     ascii s     the codes of its characters, each below 128 in the texts of the house
+use Prim.Native.Nat.{ℕ}
+use Prim.Native.Char.{code}
+use Prim.Native.String.{String, [] as none, _∷_ as _then_}
+use mathlib.Core.List.{List, [], _∷_}
+
+abbrev pub ascii : String → List ℕ
+ascii none = []
+ascii (c then s) = code c ∷ ascii s

@@ -1,2 +1,0 @@
--- What the proofs of `judge` use.
-pub mod JudgeSteps

@@ -1,0 +1,2 @@
+-- What the proofs of the verdicts use.
+pub mod VerdictSteps
