@@ -23,6 +23,7 @@ use Rattle.ball.specs.Contracts.{Tight}
 use Rattle.ball.specs.Demand.{drawing-accepts, drawing-tight, checking-tight}
 use Rattle.ball.specs.declared.Ball.{Ball}
 use Rattle.label.specs.Label.{isLabel}
+use Rattle.label.specs.RowLabelLaws.{row-label}
 use Rattle.channel.specs.Channel.{Types, codesKnown}
 use Rattle.channel.specs.ChannelLaws.{SoundTypes}
 use Rattle.channel.specs.CodesLaws.{each-codes}
@@ -94,7 +95,7 @@ module _ (D : ℕ) (positive : 0 < D) (limit : ℕ) (types : Types) (types-sound
         let label = labelAt found i in
         let values = rowAt found i .values in
         let right = limits .all-rows .each i l in
-        let labelled : isLabel label ≡ true = ap isLabel (label-at found i) ∙ right .labelled in
+        let labelled : isLabel label ≡ true = ap isLabel (label-at found i) ∙ row-label (rowAt found i .label) (right .labelled) in
         let in-ranges = ap (λ (c : List ℕ). valuesInRange types c values) taken ∙ range-in types (codesOf found) values (right .each-in-range) in
         ap (λ (c : List ℕ). judged D types (figuresOf n held ball moves) (printReading (ownReading types c label values))) (sym taken)
         ∙ tight-row-quiet D types types-sound n held label labelled values (right .complete) in-ranges ball moves within m (coordinate table n) t i l

@@ -29,6 +29,7 @@ use Rattle.ball.specs.Draw.{drawing}
 use Rattle.text.specs.Parts.{lineEnd, textWithin, same, cut, join, free, allFree}
 use Rattle.text.specs.PartsLaws.{cut-some, join-cut, cut-join, cut-free}
 use Rattle.label.specs.Label.{isLabel}
+use Rattle.label.specs.RowLabelLaws.{row-label}
 use Rattle.channel.specs.Channel.{Types, channelTypes, codesKnown}
 use Rattle.channel.specs.ChannelLaws.{house-sound}
 use Rattle.value.specs.ValuesLaws.{range-in}
@@ -185,7 +186,7 @@ module _ (reference : List ℕ) (found : ReferenceText) (is : content rowLimit c
     row-within = within .all-rows .each i h
 
     row-labelled : isLabel (labelAt found i) ≡ true
-    row-labelled = ap isLabel (label-at found i) ∙ row-within .labelled
+    row-labelled = ap isLabel (label-at found i) ∙ row-label (rowAt found i .label) (row-within .labelled)
 
     row-next : (more : List ℕ) → printVerdicts total channelTypes (drawn .figures) (linesWithEnds (rowText i ++ more))
         ≡ printVerdict Quiet ++ printVerdicts total channelTypes (drawn .figures) (linesWithEnds more)
