@@ -133,19 +133,20 @@ extern "C" {
  */
 #define CUNDARIVO_RECORD_BYTES (38 + 90 + 52 + 12 * CUNDARIVO_ROWS)
 
-/* A record, or the line of a refusal: `output_room` in crates/service/src/draw.rt. */
+/* A record, or the line of a refusal: `output_room` in crates/program_draw/src/lib.rt. */
 #define CUNDARIVO_PROGRAM_DRAW_BYTES CUNDARIVO_RECORD_BYTES
 
-/* One line: `output_room` in crates/service/src/verify.rt. */
+/* One line: `output_room` in crates/program_verify/src/lib.rt. */
 #define CUNDARIVO_PROGRAM_VERIFY_BYTES 64
 
 /*
  * 7 for each byte of the readings, and 64 for the line of a refusal: `output_room` in
- * crates/service/src/judge.rt. For given readings 7 for each of their bytes and 64 are enough: `readings_room`.
+ * crates/program_judge/src/lib.rt. For given readings 7 for each of their bytes and 64 are enough:
+ * `readings_room`.
  */
 #define CUNDARIVO_PROGRAM_JUDGE_BYTES (7 * CUNDARIVO_TEXT_BYTES + 64)
 
-/* 64 for the line of a refusal and 32 for each channel: `output_room` in crates/service/src/panel.rt. */
+/* 64 for the line of a refusal and 32 for each channel: `output_room` in crates/program_panel/src/lib.rt. */
 #define CUNDARIVO_PROGRAM_PANEL_BYTES (64 + 32 * CUNDARIVO_CHANNELS)
 
 /* ---- numbers that stand for something */

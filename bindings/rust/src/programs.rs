@@ -47,7 +47,7 @@ const REFUSAL_BYTES: usize = 64;
 
 /// Bytes that are enough for every output of every program: `judge` writes at most 7 for each byte of
 /// at most 65,536 bytes of readings, as for an empty line, or a refusal. This is proved (`output_room`
-/// in `crates/service/src/judge.rt`).
+/// in `crates/program_judge/src/lib.rt`).
 pub const OUTPUT_BYTES: usize = OUTPUT_PER_READING_BYTE * READING_BYTES + REFUSAL_BYTES;
 
 /// A program with its texts; see the [module](self).
@@ -189,8 +189,9 @@ impl Call<'_> {
     }
 
     /// Bytes that are proved to be enough for the output: for `judge` as many as these readings ask
-    /// for (`readings_room` in `crates/service/src/judge.rt`), for `draw` as many as a record has, and
-    /// fewer for `verify` and `panel` (`output_room` in their files beside that of `judge`).
+    /// for (`readings_room` in `crates/program_judge/src/lib.rt`), for `draw` as many as a record has,
+    /// and fewer for `verify` and `panel` (`output_room` in `crates/program_verify/src/lib.rt` and
+    /// `crates/program_panel/src/lib.rt`).
     fn room(self) -> usize {
         match self {
             Call::Judge { readings, .. } => {

@@ -1,4 +1,4 @@
--- Lists: what holds at each place, what is gathered from each element, a list in a longer array, and a lent slice that is filled.
+-- Lists: what holds at each place, what is gathered from each element, and a list in a longer array.
 pub mod Each
 pub mod Gathered
 pub mod Padded
