@@ -9,6 +9,7 @@ ghost use Rattle.lent.specs.Filled.{filled};
 ghost use Rattle.export_figures.specs.Contracts.{givenWhole, GivenPlaces, figuresGiven};
 use ball::Ball;
 use channel::Code;
+use channel::fill_codes;
 use envelope::Figures;
 use limits::CHANNELS;
 
@@ -38,25 +39,8 @@ pub fn given_whole(given: FiguresGiven, codes: &[Code], scaled_centre: &[i64]) -
     given.n <= scaled_centre.len()
 }
 
-// The first n codes, the places past n being 0. The loop runs over all places, so that the compiler unrolls it: a copy of n bytes is
-// a call of `memcpy`, which costs more than the places.
-fn codes_given(codes: &[Code], n: usize) -> [Code; CHANNELS]
-    requires { ⌜ (n ≤ channelLimit) × (n ≤ length (now codes)) ⌝ }
-    ensures { λ r. ⌜ r ≡ filled 0 n (now (codes .entry)) (replicate channelLimit 0) ⌝ }
-{
-    let mut kept = [0 as Code; CHANNELS];
-    let mut channel = 0;
-    while channel < CHANNELS {
-        if n <= channel {
-            return kept;
-        }
-        kept[channel] = codes[channel];
-        channel += 1;
-    }
-    kept
-}
-
-// The same for places of X.
+// The first n places of X, those past n being 0. The loop is one over all places that ends early, so that the compiler unrolls it: a
+// copy of n places is a call of `memcpy`, which costs more than they do.
 fn centre_given(scaled_centre: &[i64], n: usize) -> [i64; CHANNELS]
     requires { ⌜ (n ≤ channelLimit) × (n ≤ length (now «scaled_centre»)) ⌝ }
     ensures { λ r. ⌜ r ≡ filled 0 n (now («scaled_centre» .entry)) (replicate channelLimit (pos 0)) ⌝ }
@@ -79,6 +63,8 @@ pub fn figures_given(given: FiguresGiven, codes: &[Code], scaled_centre: &[i64])
     ensures { λ r. ⌜ r ≡ figuresGiven given (now (codes .entry)) (now («scaled_centre» .entry)) ⌝ }
 {
     let n = given.n;
+    let mut kept_codes = [0 as Code; CHANNELS];
+    fill_codes(&mut kept_codes, codes, n);
     let ball = Ball {
         scaled_centre: centre_given(scaled_centre, n),
         scaled_squared_radius: given.scaled_squared_radius,
@@ -87,7 +73,7 @@ pub fn figures_given(given: FiguresGiven, codes: &[Code], scaled_centre: &[i64])
     };
     Figures {
         n,
-        codes: codes_given(codes, n),
+        codes: kept_codes,
         ball,
         moves: given.moves,
     }

@@ -1,4 +1,4 @@
--- The codes and X are the places that are lent, as the definition takes them.
+-- The codes and X are the places that are lent, over 0, as the definition takes them.
 use Prim.Native.Nat.{ℕ}
 use mathlib.Core.Path.{ap₂}
 use mathlib.Core.List.{List}
@@ -11,7 +11,8 @@ use Rattle.export_figures.proofs.figures_given.Tie as tie
 
 returns : tie.Need-returns
 returns c =
-    let given = c .before .before .before .before .args .given in
+    let at-codes = c .before .before .before in
+    let given = at-codes .before .before .before .args .given in
     ap₂ (λ (codes : List ℕ) (X : List ℤ). figuresOf (given .n) codes
     (record {
       «scaled_centre» = X;
@@ -20,7 +21,7 @@ returns c =
       settled = eqb (given .settled) 1;
     })
     (given .moves))
-    (c .codes-given .ensures) (c .before .before .centre-given .ensures)
+    (at-codes .fill-codes .ensures) (c .before .centre-given .ensures)
 
 pub figures-given-spec : {M : Type 1} → statement M
-figures-given-spec = tie.close (tie.spec (λ c κs. search needs) (λ c κs. search needs) returns)
+figures-given-spec = tie.close (tie.spec (λ c. search needs) (λ c κs. search needs) (λ c κs. search needs) returns)
