@@ -76,7 +76,7 @@ fn line_of_the_first_trial() {
 /// The program in the gate runs the cases that this implementation writes, on its answers.
 #[test]
 fn the_gate_has_these_cases() {
-    let folder = concat!(env!("CARGO_MANIFEST_DIR"), "/../../crates/cases/");
+    let folder = concat!(env!("CARGO_MANIFEST_DIR"), "/../../crates/drawing_cases/");
     let list = stored::stored_cases(&mut Random::new(stored::SEED));
     let input = std::fs::read(format!("{folder}stdin")).unwrap();
     let output = std::fs::read_to_string(format!("{folder}stdout")).unwrap();
