@@ -64,7 +64,7 @@ fn works(random: &mut Random, radius: impl Fn(&mut Random) -> u64) -> Vec<Work> 
     let work = |_| Work {
         figures: Figures {
             n: CHANNELS,
-            types: (1..=CHANNELS as u8).collect(),
+            codes: (1..=CHANNELS as u8).collect(),
             scaled_centre: (0..CHANNELS).map(|_| place(random)).collect(),
             scaled_squared_radius: radius(random),
             scaled_lower_bound: 0,
@@ -93,12 +93,12 @@ fn plain_chart(root: impl Fn(u64) -> u64, work: &Work) -> Outcome {
 
 fn proved_panel(work: &Work) -> Shown {
     let Figures {
-        types,
+        codes,
         scaled_centre,
         ..
     } = &work.figures;
     let mut steps = [0; CHANNELS];
-    let answer = cundarivo::panel_into(work.figures.given(), types, scaled_centre, &mut steps);
+    let answer = cundarivo::panel_into(work.figures.given(), codes, scaled_centre, &mut steps);
     let shown = match answer.number {
         0 => Ok(()),
         number => Err(Refusal {

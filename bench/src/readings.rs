@@ -87,7 +87,7 @@ fn in_one_pass(work: &Work<'_>) -> Outcome {
 pub fn given(figures: &Figures) -> verdict::Figures<'_> {
     verdict::Figures {
         n: figures.n,
-        types: &figures.types,
+        types: &figures.codes,
         scaled_centre: &figures.scaled_centre,
         scaled_squared_radius: figures.scaled_squared_radius,
         scaled_lower_bound: figures.scaled_lower_bound,

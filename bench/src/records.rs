@@ -88,7 +88,7 @@ fn proved_write(work: &Work) -> Written {
     let weights = &work.envelope.weights;
     let answer = cundarivo::write_record_into(
         figures.given(),
-        &figures.types,
+        &figures.codes,
         &figures.scaled_centre,
         weights,
         &work.rows,

@@ -292,16 +292,16 @@ typedef struct {
 
 /*
  * Reads a reference text and answers with m and n. It fills the first m times n places of `table` with the
- * values, row by row, and the first n places of `types` with the codes. CUNDARIVO_PLACES and
+ * values, row by row, and the first n places of `codes` with the codes. CUNDARIVO_PLACES and
  * CUNDARIVO_CHANNELS places are enough for every text.
  *
  * Refused: 1; 2 at line 1; then line by line 6 for a 257th row, 3, 4, 5; then 6 for no row, at the line after
- * the last; then 7; then 13 for `types` of fewer than n places.
+ * the last; then 7; then 13 for `codes` of fewer than n places.
  */
 cundarivo_reference_answer cundarivo_read_reference(
     const uint8_t *text, size_t text_length,
     int32_t *table, size_t table_length,
-    uint8_t *types, size_t types_length);
+    uint8_t *codes, size_t codes_length);
 
 /*
  * Finds the label of a row, counted from 1, in a reference text. It writes nothing. Start and length are 0
@@ -344,17 +344,17 @@ cundarivo_check_answer cundarivo_check(
 /* ---- the verdict */
 
 /*
- * Judges a reading against the figures of an envelope. It writes nothing. Of `types` and `centre` the first n
+ * Judges a reading against the figures of an envelope. It writes nothing. Of `codes` and `centre` the first n
  * places count. The reading is Quiet where its s is at most M, else an Alarm with s - M.
  *
- * Refused: 8 for n outside 1 to 8, `types` or `centre` of fewer than n places, a code outside 1 to 8, a place
+ * Refused: 8 for n outside 1 to 8, `codes` or `centre` of fewer than n places, a code outside 1 to 8, a place
  * of X, M, L or the moves outside its limits, or `settled` other than 0 and 1; 1; 3, also where the text has
  * not exactly one line, or not n tags and values; 10 for a tag that is not the envelope's, whatever the
  * values; then 4. The line of 3, 10 and 4 is 1.
  */
 cundarivo_verdict_answer cundarivo_judge(
     cundarivo_figures_given figures,
-    const uint8_t *types, size_t types_length,
+    const uint8_t *codes, size_t codes_length,
     const int64_t *centre, size_t centre_length,
     const uint8_t *text, size_t text_length);
 
@@ -363,10 +363,10 @@ cundarivo_verdict_answer cundarivo_judge(
 /*
  * Reads the record of an envelope of the first m rows of n channels of these types, whoever wrote it. It
  * fills the first n places of `centre` with X and the first m places of `weights` with the weights, 0 for a
- * row without a line W. Of `types` the first n places count. The moves are taken as written; every other
+ * row without a line W. Of `codes` the first n places count. The moves are taken as written; every other
  * figure is compared with what cundarivo_check gives of the weights.
  *
- * Refused: 8 as for cundarivo_draw, and for `types` of fewer than n places or a code outside 1 to 8; 1; 11 at
+ * Refused: 8 as for cundarivo_draw, and for `codes` of fewer than n places or a code outside 1 to 8; 1; 11 at
  * the first faulty line, a missing line being the one after the last; 12 where n, the tags, X, M, L or the
  * ending is not what rows, types and weights give, or a line W names a row above m; then 13 for `centre` of
  * fewer than n or `weights` of fewer than m places.
@@ -374,14 +374,14 @@ cundarivo_verdict_answer cundarivo_judge(
 cundarivo_envelope_answer cundarivo_read_record(
     const int32_t *rows, size_t rows_length,
     size_t m, size_t n,
-    const uint8_t *types, size_t types_length,
+    const uint8_t *codes, size_t codes_length,
     const uint8_t *text, size_t text_length,
     int64_t *centre, size_t centre_length,
     uint32_t *weights, size_t weights_length);
 
 /*
  * Writes the record of an envelope of the first m rows and answers with its length. It fills the first
- * `length` places of `buffer`. Of `types` and `centre` the first n places count. `weights` has at least m and
+ * `length` places of `buffer`. Of `codes` and `centre` the first n places count. `weights` has at least m and
  * at most 256 places. CUNDARIVO_RECORD_BYTES places are enough for every record.
  *
  * Refused: 8 as for cundarivo_judge, as for cundarivo_draw, and for `weights` of fewer than m or more than 256
@@ -390,7 +390,7 @@ cundarivo_envelope_answer cundarivo_read_record(
  */
 cundarivo_written_answer cundarivo_write_record(
     cundarivo_figures_given figures,
-    const uint8_t *types, size_t types_length,
+    const uint8_t *codes, size_t codes_length,
     const int64_t *centre, size_t centre_length,
     const uint32_t *weights, size_t weights_length,
     const int32_t *rows, size_t rows_length,
@@ -403,25 +403,25 @@ cundarivo_written_answer cundarivo_write_record(
  * Gives the mark of an envelope on a chart of two channels, counted from 1; they may be the same. It writes
  * nothing. The mark is a dot where M is 0, else a disc, whose radius is the smallest whole number with a
  * square of at least M, divided by D. Each number equals its fraction of D exactly, and no zero is negative.
- * Of `types` and `centre` the first n places count.
+ * Of `codes` and `centre` the first n places count.
  *
  * Refused: 8 as for cundarivo_judge, and for a channel outside 1 to n.
  */
 cundarivo_mark_answer cundarivo_chart(
     cundarivo_figures_given figures,
-    const uint8_t *types, size_t types_length,
+    const uint8_t *codes, size_t codes_length,
     const int64_t *centre, size_t centre_length,
     size_t horizontal, size_t vertical);
 
 /*
  * Gives what the panel shows of an envelope. It fills the first n places of `steps` with the centre of each
- * channel to the nearest whole step, halves away from zero. Of `types` and `centre` the first n places count.
+ * channel to the nearest whole step, halves away from zero. Of `codes` and `centre` the first n places count.
  *
  * Refused: 8 as for cundarivo_judge; then 13 for `steps` of fewer than n places.
  */
 cundarivo_panel_answer cundarivo_panel(
     cundarivo_figures_given figures,
-    const uint8_t *types, size_t types_length,
+    const uint8_t *codes, size_t codes_length,
     const int64_t *centre, size_t centre_length,
     int32_t *steps, size_t steps_length);
 

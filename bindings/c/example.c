@@ -36,7 +36,7 @@ static const char *const READINGS[] = {
 struct envelope {
     size_t m;
     int32_t rows[CUNDARIVO_PLACES];
-    uint8_t types[CUNDARIVO_CHANNELS];
+    uint8_t codes[CUNDARIVO_CHANNELS];
     int64_t centre[CUNDARIVO_CHANNELS];
     uint32_t weights[CUNDARIVO_ROWS];
     cundarivo_figures_given figures;
@@ -123,7 +123,7 @@ static void read_reference(struct envelope *envelope)
     cundarivo_reference_answer answer = cundarivo_read_reference(
         text, text_length,
         envelope->rows, CUNDARIVO_PLACES,
-        envelope->types, CUNDARIVO_CHANNELS);
+        envelope->codes, CUNDARIVO_CHANNELS);
     require("reference text", answer.number, answer.line);
     envelope->m = answer.m;
     envelope->figures.n = answer.n;
@@ -144,9 +144,9 @@ static void read_faulty_reference(void)
 {
     static const char text[] = "REF,1,TOC\nA,2000\nB,2001\n";
     int32_t table[2] = {-1, -1};
-    uint8_t types[1] = {255};
+    uint8_t codes[1] = {255};
     cundarivo_reference_answer answer =
-        cundarivo_read_reference(bytes_of(text), strlen(text), table, 2, types, 1);
+        cundarivo_read_reference(bytes_of(text), strlen(text), table, 2, codes, 1);
     if (answer.number == CUNDARIVO_ACCEPTED) {
         fail("2001 is read as TOC");
     }
@@ -196,7 +196,7 @@ static void write_record(const struct envelope *envelope, struct text *record)
 {
     size_t n = envelope->figures.n;
     cundarivo_written_answer answer = cundarivo_write_record(
-        envelope->figures, envelope->types, n, envelope->centre, n,
+        envelope->figures, envelope->codes, n, envelope->centre, n,
         envelope->weights, envelope->m,
         envelope->rows, CUNDARIVO_PLACES, envelope->m,
         record->bytes, CUNDARIVO_RECORD_BYTES);
@@ -207,7 +207,7 @@ static void write_record(const struct envelope *envelope, struct text *record)
 
     uint8_t small[4];
     answer = cundarivo_write_record(
-        envelope->figures, envelope->types, n, envelope->centre, n,
+        envelope->figures, envelope->codes, n, envelope->centre, n,
         envelope->weights, envelope->m,
         envelope->rows, CUNDARIVO_PLACES, envelope->m,
         small, sizeof small);
@@ -223,7 +223,7 @@ static cundarivo_envelope_answer read_record(
     size_t n = envelope->figures.n;
     return cundarivo_read_record(
         envelope->rows, CUNDARIVO_PLACES, envelope->m, n,
-        envelope->types, n,
+        envelope->codes, n,
         record->bytes, record->length,
         centre, CUNDARIVO_CHANNELS,
         weights, CUNDARIVO_ROWS);
@@ -269,7 +269,7 @@ static void judge(const struct envelope *envelope, const char *reading)
     size_t n = envelope->figures.n;
     size_t length = strlen(reading);
     cundarivo_verdict_answer answer = cundarivo_judge(
-        envelope->figures, envelope->types, n, envelope->centre, n,
+        envelope->figures, envelope->codes, n, envelope->centre, n,
         bytes_of(reading), length);
     printf("reading '%.*s'", length == 0 ? 0 : (int)length - 1, reading);
     if (answer.number != CUNDARIVO_ACCEPTED) {
@@ -285,11 +285,11 @@ static void chart_and_panel(const struct envelope *envelope)
 {
     size_t n = envelope->figures.n;
     cundarivo_mark_answer mark =
-        cundarivo_chart(envelope->figures, envelope->types, n, envelope->centre, n, 1, 2);
+        cundarivo_chart(envelope->figures, envelope->codes, n, envelope->centre, n, 1, 2);
     require("chart", mark.number, mark.line);
     printf("chart of channels 1 and 2: %s at %.17g, %.17g, radius %.17g\n",
         mark.mark == CUNDARIVO_DOT ? "dot" : "disc", mark.horizontal, mark.vertical, mark.radius);
-    mark = cundarivo_chart(envelope->figures, envelope->types, n, envelope->centre, n, 1, 3);
+    mark = cundarivo_chart(envelope->figures, envelope->codes, n, envelope->centre, n, 1, 3);
     if (mark.number == CUNDARIVO_ACCEPTED) {
         fail("there is a chart of a third channel");
     }
@@ -297,7 +297,7 @@ static void chart_and_panel(const struct envelope *envelope)
 
     int32_t steps[CUNDARIVO_CHANNELS];
     cundarivo_panel_answer panel = cundarivo_panel(
-        envelope->figures, envelope->types, n, envelope->centre, n, steps, CUNDARIVO_CHANNELS);
+        envelope->figures, envelope->codes, n, envelope->centre, n, steps, CUNDARIVO_CHANNELS);
     require("panel", panel.number, panel.line);
     printf("panel:");
     for (size_t channel = 0; channel < n; channel++) {

@@ -58,7 +58,7 @@ pub struct PanelAnswer {
 unsafe extern "C" {
     fn cundarivo_chart(
         figures: FiguresGiven,
-        types: *const u8,
+        codes: *const u8,
         types_len: usize,
         centre: *const i64,
         centre_len: usize,
@@ -68,7 +68,7 @@ unsafe extern "C" {
 
     fn cundarivo_panel(
         figures: FiguresGiven,
-        types: *const u8,
+        codes: *const u8,
         types_len: usize,
         centre: *const i64,
         centre_len: usize,
@@ -107,7 +107,7 @@ unsafe extern "C" {
 pub fn chart(figures: &Figures, horizontal: usize, vertical: usize) -> Result<Mark, Refusal> {
     let answer = chart_given(
         figures.given(),
-        &figures.types,
+        &figures.codes,
         &figures.scaled_centre,
         horizontal,
         vertical,
@@ -145,17 +145,17 @@ pub fn chart(figures: &Figures, horizontal: usize, vertical: usize) -> Result<Ma
 pub fn panel(figures: &Figures) -> Result<Vec<i32>, Refusal> {
     // More than CHANNELS are refused, so that no count, however large, is allocated.
     let mut steps = vec![0; figures.n.min(CHANNELS)];
-    let (types, centre) = (&figures.types, &figures.scaled_centre);
-    let answer = panel_into(figures.given(), types, centre, &mut steps);
+    let (codes, centre) = (&figures.codes, &figures.scaled_centre);
+    let answer = panel_into(figures.given(), codes, centre, &mut steps);
     accepted(answer.number, answer.line)?;
     Ok(steps)
 }
 
-/// The library's own call of [`chart`], which takes and answers numbers. `types` and `centre` lend
+/// The library's own call of [`chart`], which takes and answers numbers. `codes` and `centre` lend
 /// at least n places, of which the first n count; fewer are refused by 8.
 pub fn chart_given(
     figures: FiguresGiven,
-    types: &[u8],
+    codes: &[u8],
     centre: &[i64],
     horizontal: usize,
     vertical: usize,
@@ -164,8 +164,8 @@ pub fn chart_given(
     unsafe {
         cundarivo_chart(
             figures,
-            types.as_ptr(),
-            types.len(),
+            codes.as_ptr(),
+            codes.len(),
             centre.as_ptr(),
             centre.len(),
             horizontal,
@@ -175,12 +175,12 @@ pub fn chart_given(
 }
 
 /// The library's own call of [`panel`], which takes and answers numbers. Accepted, it fills the first
-/// n places of `steps`, and no other; refused, it changes nothing. `types` and `centre` lend at least
+/// n places of `steps`, and no other; refused, it changes nothing. `codes` and `centre` lend at least
 /// n places, of which the first n count; fewer are refused by 8. After that comes 13 for `steps` of
 /// fewer than n places; [`CHANNELS`] are always enough.
 pub fn panel_into(
     figures: FiguresGiven,
-    types: &[u8],
+    codes: &[u8],
     centre: &[i64],
     steps: &mut [i32],
 ) -> PanelAnswer {
@@ -188,8 +188,8 @@ pub fn panel_into(
     unsafe {
         cundarivo_panel(
             figures,
-            types.as_ptr(),
-            types.len(),
+            codes.as_ptr(),
+            codes.len(),
             centre.as_ptr(),
             centre.len(),
             steps.as_mut_ptr(),

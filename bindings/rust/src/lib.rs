@@ -94,11 +94,11 @@
 //! are the library's own calls.
 //!
 //! ```
-//! let (rows, types) = ([0, 0, 6, 0, 0, 8], [1, 4]); // TOC and CND
-//! let envelope = cundarivo::draw(&rows, 3, 2, 10_000)?.envelope(&types);
+//! let (rows, codes) = ([0, 0, 6, 0, 0, 8], [1, 4]); // TOC and CND
+//! let envelope = cundarivo::draw(&rows, 3, 2, 10_000)?.envelope(&codes);
 //! let text = cundarivo::write_record(&envelope, &rows, 3)?;
 //! assert!(text.starts_with(b"ENV,2,TOC,CND\nC,196608,262144\n"));
-//! let read = cundarivo::read_record(&rows, 3, 2, &types, &text)?;
+//! let read = cundarivo::read_record(&rows, 3, 2, &codes, &text)?;
 //! assert_eq!(read, envelope);
 //! # Ok::<(), cundarivo::Refusal>(())
 //! ```
@@ -115,7 +115,7 @@
 //! // The envelope of the record above.
 //! let figures = Figures {
 //!     n: 2,
-//!     types: vec![1, 4],
+//!     codes: vec![1, 4],
 //!     scaled_centre: vec![196_608, 262_144],
 //!     scaled_squared_radius: 107_374_182_400,
 //!     scaled_lower_bound: 107_374_182_400,
@@ -278,7 +278,7 @@ pub struct Figures {
     /// The number of channels, 1 to [`CHANNELS`].
     pub n: usize,
     /// The codes of the channel types, 1 to 8; the first n places count.
-    pub types: Vec<u8>,
+    pub codes: Vec<u8>,
     /// X, each place within 262,144,000 of 0; the first n count.
     pub scaled_centre: Vec<i64>,
     /// M, at most 2,199,023,255,552,000,000.
@@ -307,18 +307,18 @@ impl Figures {
 
 impl Drawing {
     /// The drawn envelope, whose channels are of these types.
-    pub fn envelope(&self, types: &[u8]) -> Envelope {
+    pub fn envelope(&self, codes: &[u8]) -> Envelope {
         Envelope {
-            figures: self.figures(types),
+            figures: self.figures(codes),
             weights: self.weights.clone(),
         }
     }
 
     /// The figures of the drawn envelope, whose channels are of these types.
-    pub fn figures(&self, types: &[u8]) -> Figures {
+    pub fn figures(&self, codes: &[u8]) -> Figures {
         Figures {
             n: self.scaled_centre.len(),
-            types: types.to_vec(),
+            codes: codes.to_vec(),
             scaled_centre: self.scaled_centre.clone(),
             scaled_squared_radius: self.scaled_squared_radius,
             scaled_lower_bound: self.scaled_lower_bound,
@@ -331,10 +331,10 @@ impl Drawing {
 impl Checked {
     /// The figures of an envelope of the checked weights, whose channels are of these types. A
     /// check makes no moves; those that the weights came from are given.
-    pub fn figures(&self, types: &[u8], moves: u32) -> Figures {
+    pub fn figures(&self, codes: &[u8], moves: u32) -> Figures {
         Figures {
             n: self.scaled_centre.len(),
-            types: types.to_vec(),
+            codes: codes.to_vec(),
             scaled_centre: self.scaled_centre.clone(),
             scaled_squared_radius: self.scaled_squared_radius,
             scaled_lower_bound: self.scaled_lower_bound,
@@ -484,7 +484,7 @@ unsafe extern "C" {
         text_len: usize,
         table: *mut i32,
         table_len: usize,
-        types: *mut u8,
+        codes: *mut u8,
         types_len: usize,
     ) -> ReferenceAnswer;
 
@@ -492,7 +492,7 @@ unsafe extern "C" {
 
     fn cundarivo_judge(
         figures: FiguresGiven,
-        types: *const u8,
+        codes: *const u8,
         types_len: usize,
         centre: *const i64,
         centre_len: usize,
@@ -601,16 +601,16 @@ pub fn check_into(
 /// ```
 /// let text = b"REF,2,TOC,CND\nA,0,0\nB,6,<3\nC,0,8\n";
 /// let mut table = [0; 6];
-/// let mut types = [0; 2];
-/// let counts = cundarivo::read_reference(text, &mut table, &mut types)?;
+/// let mut codes = [0; 2];
+/// let counts = cundarivo::read_reference(text, &mut table, &mut codes)?;
 /// assert_eq!((counts.m, counts.n), (3, 2));
-/// assert_eq!(types, [1, 4]);
+/// assert_eq!(codes, [1, 4]);
 /// assert_eq!(table, [0, 0, 6, 0, 0, 8]);
 /// let drawing = cundarivo::draw(&table, counts.m, counts.n, 10_000)?;
 /// assert_eq!(drawing.weights, [0, 32_768, 32_768]);
 ///
 /// let faulty = b"REF,1,TOC\nA,2000\nB,2001\n";
-/// let refusal = cundarivo::read_reference(faulty, &mut table, &mut types).unwrap_err();
+/// let refusal = cundarivo::read_reference(faulty, &mut table, &mut codes).unwrap_err();
 /// assert_eq!((refusal.number, refusal.line), (4, 3));
 /// # Ok::<(), cundarivo::Refusal>(())
 /// ```
@@ -619,8 +619,8 @@ pub fn check_into(
 ///
 /// Refusals 1, 2, then line by line 6 for a 257th row, 3, 4, 5; then 6 for no row, 7, and 13 for
 /// types of fewer than n places: see [`Refusal`].
-pub fn read_reference(text: &[u8], table: &mut [i32], types: &mut [u8]) -> Result<Counts, Refusal> {
-    let answer = read_reference_into(text, table, types);
+pub fn read_reference(text: &[u8], table: &mut [i32], codes: &mut [u8]) -> Result<Counts, Refusal> {
+    let answer = read_reference_into(text, table, codes);
     accepted(answer.number, answer.line)?;
     Ok(Counts {
         m: answer.m,
@@ -648,10 +648,10 @@ pub fn label(text: &[u8], row: usize) -> &[u8] {
 /// use cundarivo::{Verdict, judge};
 ///
 /// let text = b"REF,2,TOC,CND\nA,0,0\nB,6,0\nC,0,8\n";
-/// let (mut table, mut types) = ([0; 6], [0; 2]);
-/// let counts = cundarivo::read_reference(text, &mut table, &mut types)?;
+/// let (mut table, mut codes) = ([0; 6], [0; 2]);
+/// let counts = cundarivo::read_reference(text, &mut table, &mut codes)?;
 /// let drawing = cundarivo::draw(&table, counts.m, counts.n, 10_000)?;
-/// let figures = drawing.figures(&types);
+/// let figures = drawing.figures(&codes);
 ///
 /// // A row of the reference text is Quiet, `<3` reads as 0, and (7, 0) is outside.
 /// assert_eq!(judge(&figures, b"B,TOC,6,CND,0\n")?, Verdict::Quiet);
@@ -672,7 +672,7 @@ pub fn label(text: &[u8], row: usize) -> &[u8] {
 pub fn judge(figures: &Figures, text: &[u8]) -> Result<Verdict, Refusal> {
     let answer = judge_given(
         figures.given(),
-        &figures.types,
+        &figures.codes,
         &figures.scaled_centre,
         text,
     );
@@ -685,11 +685,11 @@ pub fn judge(figures: &Figures, text: &[u8]) -> Result<Verdict, Refusal> {
     })
 }
 
-/// The library's own call of [`judge`], which takes and answers numbers. `types` and `centre` lend
+/// The library's own call of [`judge`], which takes and answers numbers. `codes` and `centre` lend
 /// at least n places, of which the first n count; fewer are refused by 8.
 pub fn judge_given(
     figures: FiguresGiven,
-    types: &[u8],
+    codes: &[u8],
     centre: &[i64],
     text: &[u8],
 ) -> VerdictAnswer {
@@ -698,8 +698,8 @@ pub fn judge_given(
     unsafe {
         cundarivo_judge(
             figures,
-            types.as_ptr(),
-            types.len(),
+            codes.as_ptr(),
+            codes.len(),
             centre.as_ptr(),
             centre.len(),
             text.as_ptr(),
@@ -710,7 +710,7 @@ pub fn judge_given(
 
 /// The library's own call of [`read_reference`], which answers with numbers. Its refusals are the
 /// same, and it fills the same places.
-pub fn read_reference_into(text: &[u8], table: &mut [i32], types: &mut [u8]) -> ReferenceAnswer {
+pub fn read_reference_into(text: &[u8], table: &mut [i32], codes: &mut [u8]) -> ReferenceAnswer {
     // SAFETY: each pointer and length are those of a live slice, the written ones lent to nobody
     // else, and the library is proved to keep within the lengths for every text.
     unsafe {
@@ -719,8 +719,8 @@ pub fn read_reference_into(text: &[u8], table: &mut [i32], types: &mut [u8]) -> 
             text.len(),
             table.as_mut_ptr(),
             table.len(),
-            types.as_mut_ptr(),
-            types.len(),
+            codes.as_mut_ptr(),
+            codes.len(),
         )
     }
 }

@@ -38,7 +38,7 @@ unsafe extern "C" {
         rows_len: usize,
         m: usize,
         n: usize,
-        types: *const u8,
+        codes: *const u8,
         types_len: usize,
         text: *const u8,
         text_len: usize,
@@ -50,7 +50,7 @@ unsafe extern "C" {
 
     fn cundarivo_write_record(
         figures: FiguresGiven,
-        types: *const u8,
+        codes: *const u8,
         types_len: usize,
         centre: *const i64,
         centre_len: usize,
@@ -90,16 +90,16 @@ pub fn read_record(
     rows: &[i32],
     m: usize,
     n: usize,
-    types: &[u8],
+    codes: &[u8],
     text: &[u8],
 ) -> Result<Envelope, Refusal> {
     let mut scaled_centre = centre_places(n);
     let mut weights = weight_places(m);
-    let answer = read_record_into(rows, m, n, types, text, &mut scaled_centre, &mut weights);
+    let answer = read_record_into(rows, m, n, codes, text, &mut scaled_centre, &mut weights);
     accepted(answer.number, answer.line)?;
     let figures = Figures {
         n,
-        types: types[..n].to_vec(),
+        codes: codes[..n].to_vec(),
         scaled_centre,
         scaled_squared_radius: answer.scaled_squared_radius,
         scaled_lower_bound: answer.scaled_lower_bound,
@@ -116,9 +116,9 @@ pub fn read_record(
 /// use cundarivo::{draw, read_record, write_record};
 ///
 /// let text = b"REF,2,TOC,CND\nA,0,0\nB,6,0\nC,0,8\n";
-/// let (mut rows, mut types) = ([0; 6], [0; 2]);
-/// let counts = cundarivo::read_reference(text, &mut rows, &mut types)?;
-/// let envelope = draw(&rows, counts.m, counts.n, 10_000)?.envelope(&types);
+/// let (mut rows, mut codes) = ([0; 6], [0; 2]);
+/// let counts = cundarivo::read_reference(text, &mut rows, &mut codes)?;
+/// let envelope = draw(&rows, counts.m, counts.n, 10_000)?.envelope(&codes);
 ///
 /// let record = write_record(&envelope, &rows, counts.m)?;
 /// let expected = "ENV,2,TOC,CND\n\
@@ -127,10 +127,10 @@ pub fn read_record(
 ///     W,2,32768\n\
 ///     W,3,32768\n";
 /// assert_eq!(record, expected.as_bytes());
-/// assert_eq!(read_record(&rows, counts.m, counts.n, &types, &record)?, envelope);
+/// assert_eq!(read_record(&rows, counts.m, counts.n, &codes, &record)?, envelope);
 ///
 /// // An envelope of other rows has no record with these.
-/// let other = draw(&rows, 2, counts.n, 10_000)?.envelope(&types);
+/// let other = draw(&rows, 2, counts.n, 10_000)?.envelope(&codes);
 /// assert_eq!(write_record(&other, &rows, counts.m).unwrap_err().number, 8); // two weights
 /// let mut other = envelope;
 /// other.weights.swap(0, 1);
@@ -143,9 +143,9 @@ pub fn read_record(
 /// Refusals 8, then 12: see [`Refusal`].
 pub fn write_record(envelope: &Envelope, rows: &[i32], m: usize) -> Result<Vec<u8>, Refusal> {
     let Envelope { figures, weights } = envelope;
-    let (types, centre) = (&figures.types, &figures.scaled_centre);
+    let (codes, centre) = (&figures.codes, &figures.scaled_centre);
     let mut text = vec![0; RECORD_BYTES];
-    let answer = write_record_into(figures.given(), types, centre, weights, rows, m, &mut text);
+    let answer = write_record_into(figures.given(), codes, centre, weights, rows, m, &mut text);
     accepted(answer.number, answer.line)?;
     text.truncate(answer.length);
     Ok(text)
@@ -159,7 +159,7 @@ pub fn read_record_into(
     rows: &[i32],
     m: usize,
     n: usize,
-    types: &[u8],
+    codes: &[u8],
     text: &[u8],
     centre: &mut [i64],
     weights: &mut [u32],
@@ -172,8 +172,8 @@ pub fn read_record_into(
             rows.len(),
             m,
             n,
-            types.as_ptr(),
-            types.len(),
+            codes.as_ptr(),
+            codes.len(),
             text.as_ptr(),
             text.len(),
             centre.as_mut_ptr(),
@@ -185,13 +185,13 @@ pub fn read_record_into(
 }
 
 /// The library's own call of [`write_record`], which takes and answers numbers. Accepted, it fills
-/// the first places of `buffer` with the record, and no other; refused, it changes nothing. `types`
+/// the first places of `buffer` with the record, and no other; refused, it changes nothing. `codes`
 /// and `centre` lend at least n places, of which the first n count, and `weights` at least m and at
 /// most [`ROWS`], of which those past m are 0. After the refusals of [`write_record`] comes 13 for a
 /// `buffer` that is too short; [`RECORD_BYTES`] are always enough.
 pub fn write_record_into(
     figures: FiguresGiven,
-    types: &[u8],
+    codes: &[u8],
     centre: &[i64],
     weights: &[u32],
     rows: &[i32],
@@ -202,8 +202,8 @@ pub fn write_record_into(
     unsafe {
         cundarivo_write_record(
             figures,
-            types.as_ptr(),
-            types.len(),
+            codes.as_ptr(),
+            codes.len(),
             centre.as_ptr(),
             centre.len(),
             weights.as_ptr(),

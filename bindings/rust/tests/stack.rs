@@ -38,23 +38,23 @@ fn reading() -> Vec<u8> {
 fn calls() -> Result<(), Refusal> {
     let (text, reading) = (reference(), reading());
     let mut table = vec![0; ROWS * CHANNELS];
-    let mut types = vec![0; CHANNELS];
+    let mut codes = vec![0; CHANNELS];
     let counts = within(CALLS, || {
-        cundarivo::read_reference(&text, &mut table, &mut types)
+        cundarivo::read_reference(&text, &mut table, &mut codes)
     })?;
     let (m, n) = (counts.m, counts.n);
     assert_eq!((m, n), (ROWS, CHANNELS));
     assert_eq!(within(CALLS, || cundarivo::label(&text, m)), b"ROW-256");
     let drawing = within(CALLS, || cundarivo::draw(&table, m, n, 10_000))?;
     within(CALLS, || cundarivo::check(&table, m, n, &drawing.weights))?;
-    let envelope = drawing.envelope(&types);
+    let envelope = drawing.envelope(&codes);
     let figures = &envelope.figures;
     within(CALLS, || cundarivo::judge(figures, &reading))?;
     within(CALLS, || cundarivo::chart(figures, 1, n))?;
     within(CALLS, || cundarivo::panel(figures))?;
     let record = within(CALLS, || cundarivo::write_record(&envelope, &table, m))?;
     within(CALLS, || {
-        cundarivo::read_record(&table, m, n, &types, &record)
+        cundarivo::read_record(&table, m, n, &codes, &record)
     })?;
     Ok(())
 }

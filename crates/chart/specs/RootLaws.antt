@@ -14,7 +14,7 @@ use borrow.Author.Tests.{ltb-true, ltb-false}
 use lib.Dec.{ltb}
 use lib.Ieee.{size}
 use lib.Ieee.Digits.{size-lt}
-use Rattle.limits.specs.Limits.{distanceLimit}
+use Rattle.limits.specs.Limits.{channelLimit, distanceLimit}
 use Rattle.chart.specs.Root.{rootBelow, rootLimit, ceilingRoot}
 
 -- r is the largest whole number whose square is below M
@@ -72,4 +72,4 @@ root-most D M h =
     let side = 2 * (4000 * D) in
     let e : side ≡ 8000 * D = omega arith in
     let limit : side * side ≡ 64000000 * (D * D) = ap₂ _*_ e e ∙ mul-mul-mul-comm 8000 D 8000 D in
-    root-smallest M (rootLimit D) (omega (arith, h, mul-assoc 8 side side, limit, mul-mul-mul-comm 22628 D 22628 D))
+    root-smallest M (rootLimit D) (omega (arith, h, mul-assoc channelLimit side side, limit, mul-mul-mul-comm 22628 D 22628 D))

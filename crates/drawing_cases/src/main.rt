@@ -14,19 +14,17 @@ use case_io::raised;
 use case_io::two_bytes;
 use libc::STDIN_FILENO;
 use libc::STDOUT_FILENO;
+use limits::CENTRE_MOST;
 use limits::CHANNELS;
+use limits::PLACES;
 use limits::ROWS;
 use refusal::Outcome;
 
 const DRAW: u8 = 0;
 
 const END: u8 = 255;
-// The most places and weights that a stored case lends.
-use limits::PLACES;
-
+// The most weights that a stored case lends.
 const WEIGHTS: usize = 512;
-// The limit on X.
-const CENTRE_MOST: i64 = 262_144_000;
 
 // The signed number that two bytes hold.
 fn signed(bits: u32) -> i32

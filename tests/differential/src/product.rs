@@ -45,7 +45,7 @@ pub fn owned(figures: &EnvelopeFigures) -> Option<cundarivo::Figures> {
     };
     Some(cundarivo::Figures {
         n: figures.n,
-        types: figures.types.clone(),
+        codes: figures.types.clone(),
         scaled_centre: figures.scaled_centre.clone(),
         scaled_squared_radius: figures.scaled_squared_radius,
         scaled_lower_bound: figures.scaled_lower_bound,

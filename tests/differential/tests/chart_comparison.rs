@@ -230,7 +230,7 @@ fn lent(figures: &cundarivo::Figures) -> EnvelopeFigures {
     let given = figures.given();
     EnvelopeFigures {
         n: given.n,
-        types: figures.types.clone(),
+        types: figures.codes.clone(),
         scaled_centre: figures.scaled_centre.clone(),
         scaled_squared_radius: given.scaled_squared_radius,
         scaled_lower_bound: given.scaled_lower_bound,

@@ -1,14 +1,16 @@
 -- After each turn the sums are at most a number for each place that was passed, so that neither wraps. The place falls.
+use Prim.Native.Nat.{_^_}
 use native.Mathlib.Omega.{arith}
+use Rattle.limits.specs.Limits.{channelLimit}
 use Rattle.case_io.specs.Digest.{Digesting}
 use Rattle.reference_cases.proofs.codes_digest.Statement.{statement}
 use Rattle.reference_cases.proofs.codes_digest.Tie as tie
 
 abbrev Inv-loop : tie.InvT-loop
-Inv-loop types sum₀ tail₀ k₀ sum tail k = Digesting 8 256 sum tail k
+Inv-loop codes sum₀ tail₀ k₀ sum tail k = Digesting channelLimit (2 ^ 8) sum tail k
 
 abbrev μ-loop : tie.MeasureT-loop
-μ-loop types sum₀ tail₀ k₀ sum tail k = k
+μ-loop codes sum₀ tail₀ k₀ sum tail k = k
 
 loop-holds : tie.Need-loop-holds Inv-loop μ-loop
 loop-holds c = omega arith
