@@ -1,7 +1,7 @@
 -- What the exported drawing and check answer in numbers.
---     checkInNumbers o k     a check in numbers, with the outcome o
---     drawAnswer d m n c w   the answer to a drawing that is lent c places for X and w for the weights
---     checkAnswer k n c      the answer to a check that is lent c places for X
+--     checkInNumbers o k       a check in numbers, with the outcome o
+--     drawAnswer d m n c w     the answer to a drawing that is lent c places for X and w for the weights
+--     checkAnswer k n c        the answer to a check that is lent c places for X
 use Prim.Native.Nat.{ℕ}
 use mathlib.Core.Bool.{cond, _&&_}
 use lib.Dec.{leb}

@@ -1,8 +1,8 @@
 -- What the exported calls on records answer in numbers.
---     readAnswer r m n c w                 the answer to a record that is lent c places for X and w for the weights
---     envelopeWhole limit given ..         what is given in numbers and lent slices is an envelope
---     envelopeGiven limit given ..         that envelope
---     writeAnswer D limit types given ..   what the exported call answers
+--     readAnswer r m n c w                   the answer to a record that is lent c places for X and w for the weights
+--     envelopeWhole limit given ..           what is given in numbers and lent slices is an envelope
+--     envelopeGiven limit given ..           that envelope
+--     writeAnswer D limit types given ..     what the exported call answers
 use Prim.Native.Nat.{ℕ}
 use mathlib.Core.Bool.{Bool, _&&_}
 use mathlib.Core.List.{List}

@@ -4,15 +4,6 @@ use Rattle.export_answers.specs.ContractLaws.{as-number}
 use Rattle.export_answers.proofs.envelope_in_numbers.Statement.{statement}
 use Rattle.export_answers.proofs.envelope_in_numbers.Tie as tie
 
-enum-told : tie.Need-enum-told
-enum-told c = search needs
-
-cast-t6 : tie.Need-cast-t6
-cast-t6 c = search needs
-
-enum-known-outcome : tie.Need-enum-known-outcome
-enum-known-outcome c = search needs
-
 returns : tie.Need-returns
 returns c = rw (c .before .enum-told .given .1, as-number)
 
@@ -21,4 +12,4 @@ returns-2 c = rw (c .before .outcome .given .1)
 
 pub envelope-in-numbers-spec : {M : Type 1} → statement M
 envelope-in-numbers-spec =
-    tie.close (tie.spec enum-told cast-t6 enum-known-outcome returns returns-2)
+    tie.close (tie.spec (λ c. search needs) (λ c. search needs) (λ c. search needs) returns returns-2)

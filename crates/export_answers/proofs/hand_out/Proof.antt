@@ -29,18 +29,6 @@ answered c =
     c .with-room .ensures
     ∙ ap (λ (room : Bool). withRoom room (c .before .before .before .before .args .answered)) (c .before .both-fit .ensures)
 
-both-fit-requires : tie.Need-both-fit-requires
-both-fit-requires c κs = search needs
-
-with-room-requires : tie.Need-with-room-requires
-with-room-requires c κs = search needs
-
-number-of-requires : tie.Need-number-of-requires
-number-of-requires c κs = search needs
-
-envelope-in-numbers-requires : tie.Need-envelope-in-numbers-requires
-envelope-in-numbers-requires c κs = search needs
-
 returns : tie.Need-returns
 returns c =
     let at-number = c .before .before in
@@ -80,15 +68,6 @@ fill-weights-requires c κs =
     let at-else = c .before .before .before .before .before .before in
     (places at-else .0 .1, places at-else .1 .1)
 
-envelope-in-numbers-requires-2 : tie.Need-envelope-in-numbers-requires-2
-envelope-in-numbers-requires-2 c κs = search needs
-
-same-length : tie.Need-same-length
-same-length c = search needs
-
-same-length-2 : tie.Need-same-length-2
-same-length-2 c = search needs
-
 returns-2 : tie.Need-returns-2
 returns-2 c =
     let at-fill-weights = c .before .before .before in
@@ -108,15 +87,15 @@ pub hand-out-spec : {M : Type 1} → statement M
 hand-out-spec =
     tie.close
     (tie.spec
-    both-fit-requires
-    with-room-requires
-    number-of-requires
-    envelope-in-numbers-requires
+    (λ c κs. search needs)
+    (λ c κs. search needs)
+    (λ c κs. search needs)
+    (λ c κs. search needs)
     returns
     slice-aggregate-fill-centre
     fill-centre-requires
     fill-weights-requires
-    envelope-in-numbers-requires-2
-    same-length
-    same-length-2
+    (λ c κs. search needs)
+    (λ c. search needs)
+    (λ c. search needs)
     returns-2)

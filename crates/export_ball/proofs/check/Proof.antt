@@ -21,18 +21,6 @@ use Rattle.lent.specs.ContractLaws.{room-accepted, unwritten, rewritten}
 use Rattle.export_ball.proofs.check.Statement.{statement}
 use Rattle.export_ball.proofs.check.Tie as tie
 
-check-requires : tie.Need-check-requires
-check-requires c κs = search needs
-
-with-room-requires : tie.Need-with-room-requires
-with-room-requires c κs = search needs
-
-number-of-requires : tie.Need-number-of-requires
-number-of-requires c κs = search needs
-
-check-in-numbers-requires : tie.Need-check-in-numbers-requires
-check-in-numbers-requires c κs = search needs
-
 -- the answer is the defined one, and its number that of the outcome
 abbrev answered : (c : tie.After-number-of) {r : CheckAnswer}
     → let args = c .before .before .before .before .args in
@@ -72,12 +60,6 @@ fill-centre-requires c κs =
     let eight : channelLimit ≡ length (at-check .check .result .ball .«scaled_centre») = slice-aggregate-fill-centre c in
     (leb-true _ _ (places .0), omega (arith, places .1 .0))
 
-check-in-numbers-requires-2 : tie.Need-check-in-numbers-requires-2
-check-in-numbers-requires-2 c κs = search needs
-
-same-length : tie.Need-same-length
-same-length c = search needs
-
 returns-2 : tie.Need-returns-2
 returns-2 c =
     let at-number = c .before .before .before .before .before .before .before in
@@ -95,13 +77,13 @@ pub check-spec : {M : Type 1} → statement M
 check-spec =
     tie.close
     (tie.spec
-    check-requires
-    with-room-requires
-    number-of-requires
-    check-in-numbers-requires
+    (λ c κs. search needs)
+    (λ c κs. search needs)
+    (λ c κs. search needs)
+    (λ c κs. search needs)
     returns
     slice-aggregate-fill-centre
     fill-centre-requires
-    check-in-numbers-requires-2
-    same-length
+    (λ c κs. search needs)
+    (λ c. search needs)
     returns-2)

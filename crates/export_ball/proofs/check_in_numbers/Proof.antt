@@ -4,15 +4,6 @@ use Rattle.export_answers.specs.ContractLaws.{as-number}
 use Rattle.export_ball.proofs.check_in_numbers.Statement.{statement}
 use Rattle.export_ball.proofs.check_in_numbers.Tie as tie
 
-enum-told : tie.Need-enum-told
-enum-told c = search needs
-
-cast-t5 : tie.Need-cast-t5
-cast-t5 c = search needs
-
-enum-known-outcome : tie.Need-enum-known-outcome
-enum-known-outcome c = search needs
-
 returns : tie.Need-returns
 returns c = rw (c .before .enum-told .given .1, as-number)
 
@@ -20,4 +11,4 @@ returns-2 : tie.Need-returns-2
 returns-2 c = rw (c .before .outcome .given .1)
 
 pub check-in-numbers-spec : {M : Type 1} → statement M
-check-in-numbers-spec = tie.close (tie.spec enum-told cast-t5 enum-known-outcome returns returns-2)
+check-in-numbers-spec = tie.close (tie.spec (λ c. search needs) (λ c. search needs) (λ c. search needs) returns returns-2)

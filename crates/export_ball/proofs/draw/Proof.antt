@@ -12,12 +12,6 @@ use Rattle.export_answers.specs.ContractLaws.{accepted-places}
 use Rattle.export_ball.proofs.draw.Statement.{statement}
 use Rattle.export_ball.proofs.draw.Tie as tie
 
-draw-requires : tie.Need-draw-requires
-draw-requires c κs = search needs
-
-slice-aggregate-hand-out : tie.Need-slice-aggregate-hand-out
-slice-aggregate-hand-out c = search needs
-
 weights-places : (c : tie.After-draw) → length (c .draw .result .weights) ≡ rowLimit
 weights-places c = search needs
 
@@ -28,12 +22,6 @@ hand-out-requires c κs =
     accepted-places (now (args .rows)) (args .m) (args .n) (weights-places at-draw) (ap (λ (d : Drawing). d .outcome) (at-draw .draw .ensures .is))
     (drawing-zero total rowLimit (now (args .rows)) (args .m) (args .n) (args .budget))
     (λ e. drawing-accepted total rowLimit (now (args .rows)) (args .m) (args .n) (args .budget) e .0)
-
-same-length : tie.Need-same-length
-same-length c = search needs
-
-same-length-2 : tie.Need-same-length-2
-same-length-2 c = search needs
 
 returns : tie.Need-returns
 returns c =
@@ -52,4 +40,4 @@ returns c =
 
 pub draw-spec : {M : Type 1} → statement M
 draw-spec =
-    tie.close (tie.spec draw-requires slice-aggregate-hand-out hand-out-requires same-length same-length-2 returns)
+    tie.close (tie.spec (λ c κs. search needs) (λ c. search needs) hand-out-requires (λ c. search needs) (λ c. search needs) returns)

@@ -6,15 +6,6 @@ use Rattle.export_chart.specs.Contracts.{markInNumbers}
 use Rattle.export_chart.proofs.mark_in_numbers.Statement.{statement}
 use Rattle.export_chart.proofs.mark_in_numbers.Tie as tie
 
-enum-known-mark : tie.Need-enum-known-mark
-enum-known-mark c = search needs
-
-enum-known-mark-2 : tie.Need-enum-known-mark-2
-enum-known-mark-2 c = search needs
-
-enum-known-mark-3 : tie.Need-enum-known-mark-3
-enum-known-mark-3 c = search needs
-
 returns : tie.Need-returns
 unfolding Ieee.ofBits
 returns c = sym (ap markInNumbers (c .before .mark .given .1))
@@ -30,4 +21,4 @@ returns-3 c = sym (ap markInNumbers (c .before .mark3 .given .1))
 pub mark-in-numbers-spec : {M : Type 1} → statement M
 mark-in-numbers-spec =
     tie.close
-    (tie.spec enum-known-mark enum-known-mark-2 enum-known-mark-3 returns returns-2 returns-3)
+    (tie.spec (λ c. search needs) (λ c. search needs) (λ c. search needs) returns returns-2 returns-3)

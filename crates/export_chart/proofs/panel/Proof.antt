@@ -22,18 +22,6 @@ use Rattle.export_chart.proofs.PanelLaws.{panel-accepted}
 use Rattle.export_chart.proofs.panel.Statement.{statement}
 use Rattle.export_chart.proofs.panel.Tie as tie
 
-panel-given-requires : tie.Need-panel-given-requires
-panel-given-requires c κs = search needs
-
-with-room-requires : tie.Need-with-room-requires
-with-room-requires c κs = search needs
-
-number-of-requires : tie.Need-number-of-requires
-number-of-requires c κs = search needs
-
-line-of-requires : tie.Need-line-of-requires
-line-of-requires c κs = search needs
-
 abbrev answered : (c : tie.After-line-of)
     → let args = c .before .before .before .before .before .before .args in
     _≡_ {A = PanelAnswer} (record { number = c .before .number-of .result; line = c .line-of .result })
@@ -67,9 +55,6 @@ fill-table-requires c κs =
     let eight : channelLimit ≡ length (at-panel .panel-given .result .steps) = slice-aggregate-fill-table c in
     (omega (arith, leb-true (args .figures .n) (length (now (args .steps))) (places .0)), omega (arith, places .1))
 
-same-length : tie.Need-same-length
-same-length c = search needs
-
 returns-2 : tie.Need-returns-2
 returns-2 c =
     let at-else = c .before .before .before .before .before in
@@ -86,12 +71,12 @@ pub panel-spec : {M : Type 1} → statement M
 panel-spec =
     tie.close
     (tie.spec
-    panel-given-requires
-    with-room-requires
-    number-of-requires
-    line-of-requires
+    (λ c κs. search needs)
+    (λ c κs. search needs)
+    (λ c κs. search needs)
+    (λ c κs. search needs)
     returns
     slice-aggregate-fill-table
     fill-table-requires
-    same-length
+    (λ c. search needs)
     returns-2)

@@ -13,12 +13,6 @@ use Rattle.export_reading.specs.Contracts.{verdictInNumbers, judgeAnswer
 use Rattle.export_reading.proofs.judge.Statement.{statement}
 use Rattle.export_reading.proofs.judge.Tie as tie
 
-given-whole-requires : tie.Need-given-whole-requires
-given-whole-requires c κs = search needs
-
-verdict-in-numbers-requires : tie.Need-verdict-in-numbers-requires
-verdict-in-numbers-requires c κs = search needs
-
 returns : tie.Need-returns
 unfolding judgeAnswer
 returns c =
@@ -34,12 +28,6 @@ figures-given-requires : tie.Need-figures-given-requires
 figures-given-requires c κs =
     let args = c .before .before .before .before .args in
     given-places (args .figures) (now (args .codes)) (now (args .scaled-centre)) (sym (c .before .given-whole .ensures) ∙ not-false _ (c .if1 .left))
-
-judge-requires : tie.Need-judge-requires
-judge-requires c κs = search needs
-
-verdict-in-numbers-requires-2 : tie.Need-verdict-in-numbers-requires-2
-verdict-in-numbers-requires-2 c κs = search needs
 
 returns-2 : tie.Need-returns-2
 unfolding judgeAnswer
@@ -57,4 +45,4 @@ returns-2 c =
 pub judge-spec : {M : Type 1} → statement M
 judge-spec =
     tie.close
-    (tie.spec given-whole-requires verdict-in-numbers-requires returns figures-given-requires judge-requires verdict-in-numbers-requires-2 returns-2)
+    (tie.spec (λ c κs. search needs) (λ c κs. search needs) returns figures-given-requires (λ c κs. search needs) (λ c κs. search needs) returns-2)

@@ -13,12 +13,6 @@ use Rattle.export_answers.specs.ContractLaws.{accepted-places}
 use Rattle.export_record.proofs.read.Statement.{statement}
 use Rattle.export_record.proofs.read.Tie as tie
 
-read-requires : tie.Need-read-requires
-read-requires c κs = search needs
-
-slice-aggregate-hand-out : tie.Need-slice-aggregate-hand-out
-slice-aggregate-hand-out c = search needs
-
 weights-places : (c : tie.After-read) → length (c .read .result .envelope .weights) ≡ rowLimit
 weights-places c = search needs
 
@@ -30,12 +24,6 @@ hand-out-requires c κs =
     (read-zero total rowLimit channelTypes (now (args .rows)) (args .m) (args .n) (now (args .codes)) (now (args .text)))
     (λ e. given-within rowLimit channelTypes (now (args .rows)) (args .m) (args .n) (now (args .codes))
     (accepted-read total rowLimit channelTypes (now (args .rows)) (args .m) (args .n) (now (args .codes)) (now (args .text)) e .given) .0)
-
-same-length : tie.Need-same-length
-same-length c = search needs
-
-same-length-2 : tie.Need-same-length-2
-same-length-2 c = search needs
 
 returns : tie.Need-returns
 returns c =
@@ -54,4 +42,4 @@ returns c =
 
 pub read-spec : {M : Type 1} → statement M
 read-spec =
-    tie.close (tie.spec read-requires slice-aggregate-hand-out hand-out-requires same-length same-length-2 returns)
+    tie.close (tie.spec (λ c κs. search needs) (λ c. search needs) hand-out-requires (λ c. search needs) (λ c. search needs) returns)

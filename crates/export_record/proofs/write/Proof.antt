@@ -21,15 +21,6 @@ use Rattle.export_record.specs.ContractLaws.{whole-places, write-chosen}
 use Rattle.export_record.proofs.write.Statement.{statement}
 use Rattle.export_record.proofs.write.Tie as tie
 
-envelope-whole-requires : tie.Need-envelope-whole-requires
-envelope-whole-requires c κs = search needs
-
-not-written-requires : tie.Need-not-written-requires
-not-written-requires c κs = search needs
-
-written-in-numbers-requires : tie.Need-written-in-numbers-requires
-written-in-numbers-requires c κs = search needs
-
 returns : tie.Need-returns
 returns c =
     let at-whole = c .before .before .before in
@@ -48,15 +39,6 @@ envelope-given-requires c κs =
     let args = c .before .before .before .before .before .args in
     whole-places rowLimit (args .figures) (now (args .codes)) (now (args .scaled-centre)) (now (args .weights)) (args .m)
     (sym (c .before .envelope-whole .ensures) ∙ not-false _ (c .if1 .left))
-
-write-requires : tie.Need-write-requires
-write-requires c κs = search needs
-
-written-in-numbers-requires-2 : tie.Need-written-in-numbers-requires-2
-written-in-numbers-requires-2 c κs = search needs
-
-same-length : tie.Need-same-length
-same-length c = search needs
 
 returns-2 : tie.Need-returns-2
 returns-2 c =
@@ -81,12 +63,12 @@ pub write-spec : {M : Type 1} → statement M
 write-spec =
     tie.close
     (tie.spec
-    envelope-whole-requires
-    not-written-requires
-    written-in-numbers-requires
+    (λ c κs. search needs)
+    (λ c κs. search needs)
+    (λ c κs. search needs)
     returns
     envelope-given-requires
-    write-requires
-    written-in-numbers-requires-2
-    same-length
+    (λ c κs. search needs)
+    (λ c κs. search needs)
+    (λ c. search needs)
     returns-2)

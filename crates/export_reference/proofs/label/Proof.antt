@@ -5,11 +5,8 @@ use Rattle.export_reference.specs.Contracts.{labelAnswer}
 use Rattle.export_reference.proofs.label.Statement.{statement}
 use Rattle.export_reference.proofs.label.Tie as tie
 
-label-part-requires : tie.Need-label-part-requires
-label-part-requires c κs = search needs
-
 returns : tie.Need-returns
 returns c = ap labelAnswer (c .label-part .ensures)
 
 pub label-spec : {M : Type 1} → statement M
-label-spec = tie.close (tie.spec label-part-requires returns)
+label-spec = tie.close (tie.spec (λ c κs. search needs) returns)

@@ -25,12 +25,6 @@ text-of c = content rowLimit channelTypes (now (c .before .before .before .befor
 abbrev read-is : (c : tie.After-read) → c .read .result ≡ answerOf (text-of c)
 read-is c = c .read .ensures .0 ∙ read-room rowLimit channelTypes (now (c .before .before .before .before .args .text)) (rowLimit * channelLimit) (omega arith)
 
-slice-aggregate-read : tie.Need-slice-aggregate-read
-slice-aggregate-read c = search needs
-
-read-requires : tie.Need-read-requires
-read-requires c κs = search needs
-
 places : (c : tie.After-read) → c .read .result .m * c .read .result .n ≤ rowLimit * channelLimit
 places c =
     subst (λ (r : Reference). r .m * r .n ≤ rowLimit * channelLimit) (sym (read-is c))
@@ -44,9 +38,6 @@ channels c =
 mul-places : tie.Need-mul-places
 mul-places c = omega (arith, places (c .before))
 
-refused-answer-requires : tie.Need-refused-answer-requires
-refused-answer-requires c κs = search needs
-
 returns : tie.Need-returns
 returns c =
     let at-read = c .before .before .before in
@@ -56,9 +47,6 @@ returns c =
           (c .before .if1 .taken),
       (unwritten (c .refused-answer .result) 6 _ _ (now (args .table)) e, unwritten (c .refused-answer .result) 6 _ _ (now (args .codes)) e),
     )
-
-refused-answer-requires-2 : tie.Need-refused-answer-requires-2
-refused-answer-requires-2 c κs = search needs
 
 returns-2 : tie.Need-returns-2
 returns-2 c =
@@ -78,25 +66,10 @@ fill-table-requires c κs =
     let at-read = c .before .before .before .before .before in
     (c .before .before .before .if1 .left, omega (arith, places at-read, slice-aggregate-fill-table c))
 
-slice-aggregate-fill-codes : tie.Need-slice-aggregate-fill-codes
-slice-aggregate-fill-codes c = search needs
-
 fill-codes-requires : tie.Need-fill-codes-requires
 fill-codes-requires c κs =
     let at-else2 = c .before .before .before .before .before .before .before in
     (at-else2 .if2 .left, channels (at-else2 .before .before .before))
-
-number-of-requires : tie.Need-number-of-requires
-number-of-requires c κs = search needs
-
-line-of-requires : tie.Need-line-of-requires
-line-of-requires c κs = search needs
-
-same-length : tie.Need-same-length
-same-length c = search needs
-
-same-length-2 : tie.Need-same-length-2
-same-length-2 c = search needs
 
 returns-3 : tie.Need-returns-3
 returns-3 c =
@@ -121,19 +94,19 @@ pub read-spec : {M : Type 1} → statement M
 read-spec =
     tie.close
     (tie.spec
-    slice-aggregate-read
-    read-requires
+    (λ c. search needs)
+    (λ c κs. search needs)
     mul-places
-    refused-answer-requires
+    (λ c κs. search needs)
     returns
-    refused-answer-requires-2
+    (λ c κs. search needs)
     returns-2
     slice-aggregate-fill-table
     fill-table-requires
-    slice-aggregate-fill-codes
+    (λ c. search needs)
     fill-codes-requires
-    number-of-requires
-    line-of-requires
-    same-length
-    same-length-2
+    (λ c κs. search needs)
+    (λ c κs. search needs)
+    (λ c. search needs)
+    (λ c. search needs)
     returns-3)
