@@ -13,6 +13,9 @@ use text::parts::LINE_END;
 // the room of a number: a hyphen and as many digits as the largest number that is printed has
 pub const NUMBER_ROOM: usize = 1 + DISTANCE_DIGITS;
 
+// the room of a number after a comma
+pub const FIELD_ROOM: usize = 1 + NUMBER_ROOM;
+
 const ZERO: u8 = 48;
 
 const HYPHEN: u8 = 45;

@@ -1,15 +1,11 @@
 -- The room for a line, and the most bytes of a line whose numbers have so many digits.
---     fieldRoom                     the room of a number after a comma: with a hyphen and its digits
 --     lineRoom                      room for the printing of a refusal or a verdict
 --     refusalMost number line       the most bytes of a refusal
 --     quietMost, alarmMost excess   the most bytes of a Quiet, and of an Alarm
 use Prim.Native.Nat.{ℕ, _+_, _*_}
 use lib.ListN.{length}
-use Rattle.limits.specs.Limits.{distanceDigits}
+use Rattle.printing.specs.Contracts.{fieldRoom}
 use Rattle.program_lines.specs.Lines.{refusalWord, quietWord, alarmWord}
-
-abbrev pub fieldRoom : ℕ
-fieldRoom = distanceDigits + 2
 
 -- a word, which is not longer than a number and its comma may be, two numbers and byte 10
 abbrev pub lineRoom : ℕ

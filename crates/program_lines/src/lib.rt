@@ -5,12 +5,9 @@ ghost use Rattle.printing.specs.Contracts.{Put};
 ghost use Rattle.reading.specs.Verdict.{verdictExcess};
 ghost use Rattle.program_lines.specs.Lines.{printRefusal, printVerdict};
 ghost use Rattle.program_lines.specs.Contracts.{lineRoom};
-use limits::DISTANCE_DIGITS;
+use printing::FIELD_ROOM;
 use printing::put_line;
 use reading::Verdict;
-
-// the room of a number after a comma: with a hyphen and its digits
-const FIELD_ROOM: usize = DISTANCE_DIGITS + 2;
 
 // room for a line of `NO`, or of a verdict: a word, which is not longer than a number and its comma may be, two numbers and byte 10
 pub const LINE_MOST: usize = 3 * FIELD_ROOM + 1;

@@ -16,7 +16,7 @@ use Rattle.limits.specs.Limits.{total, rowLimit, channelLimit, tagLimit, distan
 use Rattle.text.specs.Parts.{comma, lineEnd}
 use Rattle.number.specs.Number.{print}
 use Rattle.number.specs.NumberLaws.{print-short}
-use Rattle.printing.specs.Contracts.{numbersAfter, printNumbers, Put}
+use Rattle.printing.specs.Contracts.{numbersAfter, printNumbers, Put, fieldRoom}
 use Rattle.printing.specs.ContractLaws.{put-none, put-byte, put-then, put-as, put-ended, take-next, numbers-none, numbers-more}
 use Rattle.channel.specs.Channel.{channelTypes, tagOf}
 use Rattle.channel.specs.ChannelLaws.{house-sound}
@@ -31,7 +31,6 @@ use Rattle.chart.specs.declared.panel.PanelShown.{PanelShown}
 use Rattle.program_lines.specs.Lines.{printSteps}
 use Rattle.program_panel.specs.Output.{shownOutput}
 use Rattle.program_record.specs.Against.{unlessRefused, recordAgainst}
-use Rattle.program_lines.specs.Contracts.{fieldRoom}
 use Rattle.program_panel.specs.Contracts.{stepRoom}
 use Rattle.program_panel.specs.OutputLaws.{steps-none, steps-more, steps-first}
 use Rattle.program_record.specs.AgainstLaws.{against-within}

@@ -31,6 +31,7 @@ use limits::ROW_DIGITS;
 use limits::ROWS;
 use limits::TAG_MOST;
 use limits::WEIGHT_DIGITS;
+use printing::FIELD_ROOM;
 use record_form::form::Stated;
 use record_form::form::read_form;
 use record_lines::words::LETTER_BYTES;
@@ -63,8 +64,6 @@ pub const RECORD_MOST: usize = HEADING_MOST
     + ROWS * WEIGHT_LINE_MOST;
 
 // Room for the printing of every record: a number may take a hyphen and as many digits as the largest.
-const FIELD_ROOM: usize = 2 + DISTANCE_DIGITS;
-
 const RECORD_ROOM: usize = HEADING_MOST
     + (LINE_WORD_BYTES + CHANNELS * FIELD_ROOM + 1)
     + (LINE_WORD_BYTES + 3 * FIELD_ROOM + (1 + LETTER_BYTES) + 1)

@@ -7,7 +7,7 @@ use mathlib.Core.Path.{refl, ap}
 use lib.IntN.{natAbs}
 use lib.ListN.{length, length-set}
 use Rattle.limits.specs.Limits.{tagLimit}
-use Rattle.program_lines.specs.Contracts.{fieldRoom}
+use Rattle.printing.specs.Contracts.{fieldRoom}
 use Rattle.integers.specs.Absolute.{fits-abs}
 use Rattle.integers.specs.Reading.{Reads, back, held, fits, kept}
 use Rattle.text.specs.Parts.{comma}
