@@ -7,9 +7,10 @@ use programs::root;
 use std::fs;
 use std::os::unix::fs::PermissionsExt;
 
-/// Writes down its arguments, fails where a file `broken` says so, and changes a source where one
-/// called `meddling` does.
+/// Writes down its arguments and, where it tries edits, which crates have some in the folder that it
+/// runs in; fails where a file `broken` says so, and changes a source where one called `meddling` does.
 const NOTES: &str = "#!/bin/sh\nfolder=\"${0%/*}/..\"\necho \"${0##*/} $*\" >> \"$folder/asked\"\n\
+    if [ \"$1\" = must-fail ]; then echo \"edits in\" crates/*/must-fail >> \"$folder/asked\"; fi\n\
     [ \"$*\" != \"$(cat \"$folder/broken\" 2>/dev/null)\" ] || exit 1\n\
     if [ -e \"$folder/meddling\" ]; then echo >> \"$folder/crates/top/src/lib.rt\"; fi\n";
 
@@ -87,10 +88,19 @@ impl Project {
                 .count(),
             4
         );
-        let edits = asked
-            .lines()
-            .filter_map(|line| line.strip_prefix("rt must-fail "));
-        edits.collect::<Vec<_>>().join("; ")
+        let after = |start| {
+            asked
+                .lines()
+                .filter_map(move |line: &str| line.strip_prefix(start))
+        };
+        let named: Vec<&str> = after("rt must-fail ").collect();
+        let mut tried: Vec<&str> = named.iter().flat_map(|names| names.split(' ')).collect();
+        tried.sort();
+        // No other crate's edits are there to be tried.
+        let there = after("edits in ").flat_map(|paths| paths.split(' '));
+        let there: Vec<&str> = there.filter_map(|path| path.split('/').nth(1)).collect();
+        assert_eq!(there, tried);
+        named.join("; ")
     }
 
     fn change(&self, name: &str, content: &str) {
