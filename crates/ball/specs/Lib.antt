@@ -1,9 +1,4 @@
--- The drawing, the check and what the two calls promise, in reading order; then what the run of moves gives, and the laws.
+-- The figures of weights, what is promised of them, and that they keep it.
 pub mod Ball
-pub mod Draw
-pub mod Check
 pub mod Contracts
-pub mod RunLaws
-pub mod DrawLaws
 pub mod Demand
-pub mod DrawnWeights

@@ -12,8 +12,8 @@ use lib.ListN.{length, take}
 use Rattle.integers.specs.Tests.{range-in}
 use Rattle.refusal.specs.declared.Outcome.the-variants.{Accepted}
 use Rattle.limits.specs.Limits.{budgetLimit}
-use Rattle.ball.specs.Draw.{drawing}
-use Rattle.ball.specs.Check.{checking}
+use Rattle.drawing.specs.Draw.{drawing}
+use Rattle.checking.specs.Check.{checking}
 use Rattle.channel.specs.Channel.{Types, codesKnown}
 use Rattle.envelope.specs.Figures.{figuresKnown, figuresOf}
 use Rattle.envelope.specs.FigureLaws.{drawnFigures, drawn-within, checked-within}

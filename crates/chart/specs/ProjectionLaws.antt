@@ -25,10 +25,11 @@ use Rattle.geometry.specs.Table.{coordinate, placesWithin, rowsWithin}
 use Rattle.limits.specs.Limits.{total, rowLimit}
 use Rattle.geometry.specs.Places.{tabulate, centreList, centreOf, weightsTotal}
 use Rattle.ball.specs.Ball.{ballOf}
-use Rattle.ball.specs.Draw.{drawing}
-use Rattle.ball.specs.Check.{checking}
+use Rattle.drawing.specs.Draw.{drawing}
+use Rattle.checking.specs.Check.{checking}
 use Rattle.ball.specs.Contracts.{Tight}
-use Rattle.ball.specs.Demand.{drawing-tight, checking-tight}
+use Rattle.drawing.specs.Demand.{drawing-tight}
+use Rattle.checking.specs.Demand.{checking-tight}
 use Rattle.ball.specs.declared.Ball.{Ball}
 use Rattle.chart.specs.Root.{rootBelow, ceilingRoot}
 use Rattle.chart.specs.RootLaws.{root-reaches}

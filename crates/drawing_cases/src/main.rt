@@ -4,14 +4,14 @@ ghost use Prim.Native.Nat.{_+_, _≤_, _<_};
 ghost use mathlib.Core.Path.{_≡_};
 ghost use lib.ListN.{length, take};
 use ball::Ball;
-use ball::Checked;
-use ball::Drawing;
 use case_io::byte_at;
 use case_io::four_bytes;
 use case_io::least;
 use case_io::print_number;
 use case_io::raised;
 use case_io::two_bytes;
+use checking::Checked;
+use drawing::Drawing;
 use libc::STDIN_FILENO;
 use libc::STDOUT_FILENO;
 use limits::CENTRE_MOST;
@@ -141,13 +141,13 @@ fn run_case(text: &[u8], at: usize) -> usize
     let lent = read_rows(text, at + 10, places, &mut rows);
     let end = at + 10 + 2 * places;
     if byte_at(text, at) == DRAW {
-        print_drawing(ball::draw::draw(&rows[..lent], m, n, budget));
+        print_drawing(drawing::draw(&rows[..lent], m, n, budget));
         return end;
     }
     let count = two_bytes(text, end) as usize;
     let mut weights = [0u32; WEIGHTS];
     let given = read_weights(text, end + 2, count, &mut weights);
-    print_check(ball::check::check(&rows[..lent], m, n, &weights[..given]));
+    print_check(checking::check(&rows[..lent], m, n, &weights[..given]));
     end + 2 + 4 * count
 }
 

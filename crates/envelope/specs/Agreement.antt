@@ -18,10 +18,10 @@ use Rattle.lists.specs.Padded.{padded}
 use Rattle.refusal.specs.Outcome.{numberOf}
 use Rattle.limits.specs.Limits.{channelLimit}
 use Rattle.geometry.specs.Places.{centreList, centreOf}
-use Rattle.ball.specs.Check.{checking}
+use Rattle.checking.specs.Check.{checking}
 use Rattle.ball.specs.declared.Ball.{Ball}
-use Rattle.ball.specs.declared.Checked.{Checked}
-use Rattle.ball.specs.declared.Drawing.{Drawing}
+use Rattle.checking.specs.declared.Checked.{Checked}
+use Rattle.drawing.specs.declared.Drawing.{Drawing}
 use Rattle.envelope.specs.Figures.{channelCodes, figuresOf, envelopeOf}
 use Rattle.envelope.specs.FigureLaws.{drawnFigures}
 use Rattle.envelope.specs.declared.Envelope.{Envelope}

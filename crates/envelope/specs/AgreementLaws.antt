@@ -40,15 +40,15 @@ use Rattle.geometry.specs.Places.{centreList, centreOf, weightsTotal}
 use Rattle.geometry.specs.PlacesLaws.{centreList-at, centreList-cong}
 use Rattle.geometry.specs.TableLaws.{within-limits}
 use Rattle.ball.specs.Ball.{ballOf}
-use Rattle.ball.specs.Check.{checking}
-use Rattle.ball.specs.Draw.{drawing}
-use Rattle.ball.specs.DrawLaws.{checking-checked}
+use Rattle.checking.specs.Check.{checking}
+use Rattle.drawing.specs.Draw.{drawing}
+use Rattle.checking.specs.CheckLaws.{checking-checked}
 use Rattle.ball.specs.Contracts.{Tight}
-use Rattle.ball.specs.Demand.{checking-zero, checking-accepted, checking-tight}
-use Rattle.ball.specs.DrawnWeights.{drawing-rest, drawing-checks}
+use Rattle.checking.specs.Demand.{checking-zero, checking-accepted, checking-tight}
+use Rattle.drawing.specs.DrawnWeights.{drawing-rest, drawing-checks}
 use Rattle.ball.specs.declared.Ball.{Ball}
-use Rattle.ball.specs.declared.Checked.{Checked}
-use Rattle.ball.specs.declared.Drawing.{Drawing}
+use Rattle.checking.specs.declared.Checked.{Checked}
+use Rattle.drawing.specs.declared.Drawing.{Drawing}
 use Rattle.channel.specs.Channel.{Types, codesKnown}
 use Rattle.envelope.specs.Figures.{figuresKnown, figuresOf, envelopeOf}
 use Rattle.envelope.specs.FigureLaws.{known-within, figures-known, checked-within}

@@ -29,14 +29,15 @@ use Rattle.geometry.specs.Places.{centreOf}
 use Rattle.geometry.specs.PlacesLaws.{length-centreList}
 use Rattle.geometry.specs.TableLaws.{placesWithin-at, placesWithin-by, within-limits}
 use Rattle.ball.specs.Ball.{ballOf}
-use Rattle.ball.specs.Draw.{drawing}
-use Rattle.ball.specs.Check.{checking}
-use Rattle.ball.specs.DrawLaws.{checking-checked}
+use Rattle.drawing.specs.Draw.{drawing}
+use Rattle.checking.specs.Check.{checking}
+use Rattle.checking.specs.CheckLaws.{checking-checked}
 use Rattle.ball.specs.Contracts.{Tight}
-use Rattle.ball.specs.Demand.{drawing-accepted, drawing-is, drawing-spent, drawing-tight, checking-accepted, checking-tight}
+use Rattle.drawing.specs.Demand.{drawing-accepted, drawing-is, drawing-spent, drawing-tight}
+use Rattle.checking.specs.Demand.{checking-accepted, checking-tight}
 use Rattle.ball.specs.declared.Ball.{Ball}
-use Rattle.ball.specs.declared.Checked.{Checked}
-use Rattle.ball.specs.declared.Drawing.{Drawing}
+use Rattle.checking.specs.declared.Checked.{Checked}
+use Rattle.drawing.specs.declared.Drawing.{Drawing}
 use Rattle.channel.specs.Channel.{Types, codesKnown}
 use Rattle.envelope.specs.Figures.{channelCodes, figuresWithin, codesWithin, figuresKnown, figuresOf}
 use Rattle.envelope.specs.declared.Figures.{Figures}

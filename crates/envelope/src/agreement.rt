@@ -9,8 +9,8 @@ ghost use Rattle.geometry.specs.Table.{rowsWithin};
 ghost use Rattle.limits.specs.Limits.{total, rowLimit, channelLimit};
 ghost use Rattle.envelope.specs.Agreement.{allZero, samePlaces, ballAgrees, agrees as Agreement·agrees};
 use ball::Ball;
-use ball::Checked;
-use ball::check::check_weights;
+use checking::Checked;
+use checking::check_weights;
 
 // Whether the weights from place m on are 0.
 fn none_past(weights: &[u32], m: usize) -> bool

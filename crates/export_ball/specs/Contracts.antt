@@ -8,8 +8,8 @@ use lib.Dec.{leb}
 use Rattle.refusal.specs.Outcome.{numberOf, lineOf}
 use Rattle.refusal.specs.declared.Outcome.{Outcome}
 use Rattle.lent.specs.Contracts.{withRoom}
-use Rattle.ball.specs.declared.Drawing.{Drawing}
-use Rattle.ball.specs.declared.Checked.{Checked}
+use Rattle.drawing.specs.declared.Drawing.{Drawing}
+use Rattle.checking.specs.declared.Checked.{Checked}
 use Rattle.export_answers.specs.Contracts.{figure, envelopeInNumbers}
 use Rattle.export_answers.specs.declared.EnvelopeAnswer.{EnvelopeAnswer}
 use Rattle.export_ball.specs.declared.CheckAnswer.{CheckAnswer}

@@ -3,10 +3,10 @@ ghost use mathlib.Core.Path.{_≡_};
 ghost use lib.ListN.{length};
 ghost use Rattle.limits.specs.Limits.{total, rowLimit};
 ghost use Rattle.lent.specs.Filled.{filled};
-ghost use Rattle.ball.specs.Draw.{drawing};
-ghost use Rattle.ball.specs.Check.{checking};
+ghost use Rattle.drawing.specs.Draw.{drawing};
+ghost use Rattle.checking.specs.Check.{checking};
 ghost use Rattle.export_ball.specs.Contracts.{checkInNumbers, drawAnswer, checkAnswer};
-use ball::Checked;
+use checking::Checked;
 use export_answers::EnvelopeAnswer;
 use export_answers::hand_out;
 use lent::fill_centre;
@@ -65,7 +65,7 @@ pub fn draw(
         ⌜ now (weights .exit) ≡ filled (r .number) m
         (drawing total rowLimit (now (rows .entry)) m n budget .weights) (now (weights .entry)) ⌝ }
 {
-    let drawing = ball::draw::draw(rows, m, n, budget);
+    let drawing = drawing::draw(rows, m, n, budget);
     let outcome = drawing.outcome;
     let ball = drawing.ball;
     let drawn = drawing.weights;
@@ -97,7 +97,7 @@ pub fn check(
         ⌜ now («scaled_centre» .exit) ≡ filled (r .number) n
         (checking total rowLimit (now (rows .entry)) m n (now (weights .entry)) .ball .«scaled_centre») (now («scaled_centre» .entry)) ⌝ }
 {
-    let checked = ball::check::check(rows, m, n, weights);
+    let checked = checking::check(rows, m, n, weights);
     let answered = checked.outcome;
     let outcome = with_room(answered, n <= scaled_centre.len());
     if refusal::number_of(outcome) != 0 {

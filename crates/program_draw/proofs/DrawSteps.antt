@@ -12,9 +12,9 @@ use Rattle.lent.specs.Filled.{filled}
 use Rattle.lists.specs.Padded.{padded}
 use Rattle.refusal.specs.Outcome.{numberOf}
 use Rattle.limits.specs.Limits.{total, rowLimit, channelLimit}
-use Rattle.ball.specs.Draw.{drawing}
-use Rattle.ball.specs.Contracts.{DrawPromise}
-use Rattle.ball.specs.declared.Drawing.{Drawing}
+use Rattle.drawing.specs.Draw.{drawing}
+use Rattle.drawing.specs.Contracts.{DrawPromise}
+use Rattle.drawing.specs.declared.Drawing.{Drawing}
 use Rattle.printing.specs.Contracts.{Put}
 use Rattle.printing.specs.ContractLaws.{put-as}
 use Rattle.channel.specs.Channel.{channelTypes, codesKnown}

@@ -8,8 +8,8 @@ use mathlib.Core.List.{List}
 use lib.ListN.{length}
 use Rattle.limits.specs.Limits.{channelLimit}
 use Rattle.lists.specs.Padded.{padded}
-use Rattle.ball.specs.Draw.{drawing}
-use Rattle.ball.specs.declared.Drawing.{Drawing}
+use Rattle.drawing.specs.Draw.{drawing}
+use Rattle.drawing.specs.declared.Drawing.{Drawing}
 use Rattle.channel.specs.Channel.{Types}
 use Rattle.reference_rows.specs.ReferenceText.{codesOf, channelCount, rowCount, tableOf}
 use Rattle.reference_rows.specs.Rows.{Content, faulty, sound}

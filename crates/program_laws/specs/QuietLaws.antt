@@ -17,10 +17,11 @@ use Rattle.refusal.specs.Number.{outside-limits}
 use Rattle.refusal.specs.declared.Outcome.the-variants.{Accepted}
 use Rattle.limits.specs.Limits.{budgetLimit}
 use Rattle.geometry.specs.Table.{coordinate}
-use Rattle.ball.specs.Draw.{drawing}
-use Rattle.ball.specs.Check.{checking}
+use Rattle.drawing.specs.Draw.{drawing}
+use Rattle.checking.specs.Check.{checking}
 use Rattle.ball.specs.Contracts.{Tight}
-use Rattle.ball.specs.Demand.{drawing-accepts, drawing-tight, checking-tight}
+use Rattle.drawing.specs.Demand.{drawing-accepts, drawing-tight}
+use Rattle.checking.specs.Demand.{checking-tight}
 use Rattle.ball.specs.declared.Ball.{Ball}
 use Rattle.label.specs.Label.{isLabel}
 use Rattle.label.specs.RowLabelLaws.{row-label}

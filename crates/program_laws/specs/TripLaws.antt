@@ -25,7 +25,7 @@ use Rattle.refusal.specs.Number.{text-length, outside-limits}
 use Rattle.refusal.specs.Outcome.{refused, choose}
 use Rattle.geometry.specs.Table.{rowsWithin}
 use Rattle.limits.specs.Limits.{total, rowLimit, channelLimit}
-use Rattle.ball.specs.Draw.{drawing}
+use Rattle.drawing.specs.Draw.{drawing}
 use Rattle.text.specs.Parts.{lineEnd, textWithin, same, cut, join, free, allFree}
 use Rattle.text.specs.PartsLaws.{cut-some, join-cut, cut-join, cut-free}
 use Rattle.label.specs.Label.{isLabel}

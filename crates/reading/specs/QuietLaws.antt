@@ -19,10 +19,11 @@ use Rattle.refusal.specs.declared.Outcome.the-variants.{Accepted}
 use Rattle.geometry.specs.FigureLaws.{distance-cong}
 use Rattle.geometry.specs.Table.{coordinate}
 use Rattle.limits.specs.Limits.{budgetLimit}
-use Rattle.ball.specs.Draw.{drawing}
-use Rattle.ball.specs.Check.{checking}
+use Rattle.drawing.specs.Draw.{drawing}
+use Rattle.checking.specs.Check.{checking}
 use Rattle.ball.specs.Contracts.{Tight}
-use Rattle.ball.specs.Demand.{drawing-tight, checking-tight}
+use Rattle.drawing.specs.Demand.{drawing-tight}
+use Rattle.checking.specs.Demand.{checking-tight}
 use Rattle.ball.specs.declared.Ball.{Ball}
 use Rattle.text.specs.Parts.{textWithin}
 use Rattle.label.specs.Label.{isLabel}

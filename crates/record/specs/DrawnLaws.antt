@@ -13,10 +13,11 @@ use Rattle.lists.specs.Padded.{padded, padded-first, padded-length}
 use Rattle.refusal.specs.declared.Outcome.the-variants.{Accepted}
 use Rattle.limits.specs.Limits.{total, channelLimit, budgetLimit, textLimit}
 use Rattle.geometry.specs.TableLaws.{within-limits}
-use Rattle.ball.specs.Draw.{drawing}
-use Rattle.ball.specs.Check.{checking}
-use Rattle.ball.specs.Demand.{drawing-accepted, checking-accepted}
-use Rattle.ball.specs.DrawnWeights.{drawing-length}
+use Rattle.drawing.specs.Draw.{drawing}
+use Rattle.checking.specs.Check.{checking}
+use Rattle.drawing.specs.Demand.{drawing-accepted}
+use Rattle.checking.specs.Demand.{checking-accepted}
+use Rattle.drawing.specs.DrawnWeights.{drawing-length}
 use Rattle.number.specs.Contracts.{magnitudeLimit}
 use Rattle.channel.specs.Channel.{Types, codesKnown}
 use Rattle.channel.specs.ChannelLaws.{SoundTypes}

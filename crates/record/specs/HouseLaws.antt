@@ -23,8 +23,8 @@ use Rattle.refusal.specs.declared.Outcome.the-variants.{Accepted}
 use Rattle.geometry.specs.Table.{rowsWithin}
 use Rattle.limits.specs.Limits.{total, rowLimit, channelLimit, textLimit, rowDigits, weightDigits, centreDigits, distanceDigits, movesDigits}
 use Rattle.geometry.specs.TableLaws.{within-limits}
-use Rattle.ball.specs.Draw.{drawing}
-use Rattle.ball.specs.DrawnWeights.{drawing-length}
+use Rattle.drawing.specs.Draw.{drawing}
+use Rattle.drawing.specs.DrawnWeights.{drawing-length}
 use Rattle.printing.specs.UnsignedLaws.{Below}
 use Rattle.channel.specs.Channel.{channelTypes, codesKnown}
 use Rattle.channel.specs.ChannelLaws.{house-sound}

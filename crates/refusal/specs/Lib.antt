@@ -1,3 +1,4 @@
--- The refusals, in reading order: the numbers by name, then the outcome of a call.
+-- The refusals, in reading order: the numbers by name, then the outcome of a call and its laws.
 pub mod Number
 pub mod Outcome
+pub mod OutcomeLaws

@@ -17,8 +17,8 @@ use Rattle.geometry.specs.Table.{coordinate, placesWithin, rowsWithin}
 use Rattle.limits.specs.Limits.{total, rowLimit}
 use Rattle.geometry.specs.Places.{tabulate, centreList}
 use Rattle.ball.specs.Ball.{ballOf, emptyBall}
-use Rattle.ball.specs.Draw.{run, start, runFrom, drawing}
-use Rattle.ball.specs.declared.Drawing.{Drawing}
+use Rattle.drawing.specs.Draw.{run, start, runFrom, drawing}
+use Rattle.drawing.specs.declared.Drawing.{Drawing}
 use Rattle.text.specs.Parts.{join}
 use Rattle.text.specs.Lines.{printLines}
 use Rattle.number.specs.Number.{decimal, printMagnitude, print}

@@ -1,8 +1,33 @@
 -- `ball::ball_of` meets its contract: M is s of the far row, and the weights are Settled by the test of the definition.
 use borrow.Author.Needs.{needs}
-use Rattle.ball.proofs.Laws.{gathered}
+use Prim.Native.Nat.{ℕ}
+use mathlib.Core.Path.{_≡_}
+use mathlib.Core.List.{List}
+use lib.Dec.{leb}
+use lib.IntN.{ℤ}
+use Rattle.geometry.specs.Figures.{scaledLowerBound}
+use Rattle.geometry.specs.Move.{settled, weightOf}
+use Rattle.geometry.specs.Table.{coordinate}
+use Rattle.geometry.specs.Contracts.{Table, IsCentre}
+use Rattle.geometry.specs.MoveLaws.{radius-far}
+use Rattle.moves.specs.Contracts.{Paired}
+use Rattle.moves.specs.declared.Pair.{Pair}
+use Rattle.ball.specs.declared.Ball.{Ball}
+use Rattle.ball.specs.Ball.{filledBall, ballOf}
 use Rattle.ball.proofs.ball_of.Statement.{statement}
 use Rattle.ball.proofs.ball_of.Tie as tie
+
+-- the figures, put together
+
+module _ {rows : List ℤ} {m n : ℕ} where
+  gathered : {D : ℕ} {ws : List ℕ} {centre : List ℤ} {pair : Pair} {bound : ℕ} {b : Ball} → Table rows m n
+      → IsCentre rows m n ws centre
+      → Paired D rows m n ws pair
+      → bound ≡ scaledLowerBound D m n (coordinate rows n) (weightOf ws)
+      → b ≡ filledBall centre (pair .«scaled_squared_distance») bound (leb (pair .difference) (pair .separation))
+      → b ≡ ballOf D m n (coordinate rows n) (weightOf ws)
+  unfolding ballOf settled
+  gathered {D} {ws} table centres pairs bounds filled = cc (radius-far D m n (coordinate rows n) (weightOf ws) (table .some-row))
 
 scaled-lower-bound-requires : tie.Need-scaled-lower-bound-requires
 scaled-lower-bound-requires c κs = search needs

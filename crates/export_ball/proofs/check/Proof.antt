@@ -11,9 +11,9 @@ use Rattle.lent.specs.Filled.{filled}
 use Rattle.refusal.specs.Outcome.{numberOf}
 use Rattle.refusal.specs.declared.Outcome.{Outcome}
 use Rattle.limits.specs.Limits.{total, rowLimit, channelLimit}
-use Rattle.ball.specs.Check.{checking}
-use Rattle.ball.specs.Demand.{checking-zero, checking-accepted}
-use Rattle.ball.specs.declared.Checked.{Checked}
+use Rattle.checking.specs.Check.{checking}
+use Rattle.checking.specs.Demand.{checking-zero, checking-accepted}
+use Rattle.checking.specs.declared.Checked.{Checked}
 use Rattle.export_ball.specs.Contracts.{checkInNumbers, checkAnswer}
 use Rattle.export_ball.specs.declared.CheckAnswer.{CheckAnswer}
 use Rattle.export_answers.specs.ContractLaws.{accepted-places}

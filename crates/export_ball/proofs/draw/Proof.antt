@@ -5,8 +5,8 @@ use lib.ListN.{length}
 use denote.Ref.{now}
 use Rattle.lent.specs.Filled.{filled}
 use Rattle.limits.specs.Limits.{total, rowLimit}
-use Rattle.ball.specs.Demand.{drawing-zero, drawing-accepted}
-use Rattle.ball.specs.declared.Drawing.{Drawing}
+use Rattle.drawing.specs.Demand.{drawing-zero, drawing-accepted}
+use Rattle.drawing.specs.declared.Drawing.{Drawing}
 use Rattle.export_ball.specs.Contracts.{drawAnswer}
 use Rattle.export_answers.specs.ContractLaws.{accepted-places}
 use Rattle.export_ball.proofs.draw.Statement.{statement}

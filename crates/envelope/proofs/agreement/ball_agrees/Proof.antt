@@ -9,7 +9,7 @@ use lib.ListN.{length}
 use Rattle.integers.specs.Tests.{clash, sameFlag}
 use Rattle.limits.specs.Limits.{channelLimit}
 use Rattle.ball.specs.declared.Ball.{Ball}
-use Rattle.ball.specs.declared.Checked.{Checked}
+use Rattle.checking.specs.declared.Checked.{Checked}
 use Rattle.envelope.specs.AgreementLaws.{samePlaces-at, samePlaces-by, ball-refused, ball-ending}
 use Rattle.envelope.proofs.agreement.ball_agrees.Statement.{statement}
 use Rattle.envelope.proofs.agreement.ball_agrees.Tie as tie

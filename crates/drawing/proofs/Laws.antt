@@ -1,0 +1,167 @@
+-- What the loop of `run` keeps from its start to its end, and what is made of it.
+--     Carried D rows m n budget weights centre pair moves   the moves so far; X and the pair are those of the weights, which sum to D
+--     start-good, begins                                    the first weights sum to D, and all is kept at the start
+--     centre-good                                           X is within its limit
+--     ends                                                  where the test for another move fails, the run is done
+--     more, apart                                           where it holds, a move is left and d² is above 0
+--     transfer-most, can-move                               what a turn asks of t
+--     moved-good, shifted-is, again                         the weights and X after a turn, and all is kept
+--     drew                                                  what `drawn_within` puts together
+use Prim.Native.Nat.{ℕ, _+_, _≤_, _<_}
+use mathlib.Core.Path.{_≡_, sym, _∙_, ap, ap₂, subst}
+use mathlib.Core.Bool.{Bool, true, false, _&&_}
+use mathlib.Core.Logic.{⊎-elim}
+use mathlib.Core.List.{List}
+use native.Mathlib.Omega.{arith}
+use lib.Dec.{ltb}
+use lib.IntN.{ℤ}
+use lib.ListN.{length}
+use Rattle.refusal.specs.declared.Outcome.the-variants.{Accepted}
+use Rattle.geometry.specs.Figures.{scaledCentre}
+use Rattle.geometry.specs.Move.{difference, separation, cappedStep, transfer, settled, moveWeight, moved, weightOf}
+use Rattle.geometry.specs.Table.{coordinate}
+use Rattle.limits.specs.Limits.{total, rowLimit}
+use Rattle.geometry.specs.Places.{centreList}
+use Rattle.integers.specs.Reading.{Bounded}
+use Rattle.geometry.specs.Contracts.{CentreWithin, Table, WeightsOf, IsCentre}
+use Rattle.geometry.specs.TableLaws.{weights-within, weight-most}
+use Rattle.geometry.specs.FigureLaws.{centre-within}
+use Rattle.geometry.specs.MoveLaws.{separation-positive, moveWeight-length, moved-by}
+use Rattle.moves.specs.Contracts.{Paired, Movable, shiftCentre}
+use Rattle.moves.specs.ContractLaws.{movable, weights-moved, centre-moved}
+use Rattle.moves.specs.declared.Pair.{Pair}
+use Rattle.ball.specs.declared.Ball.{Ball}
+use Rattle.drawing.specs.declared.Ended.{Ended}
+use Rattle.ball.specs.Ball.{ballOf}
+use Rattle.drawing.specs.Draw.{start, runFrom, drawn}
+use Rattle.drawing.specs.Contracts.{Ran}
+use Rattle.drawing.specs.RunLaws.{Running, running-start, running-turn, running-stopped, running-spent}
+use Rattle.drawing.specs.DrawLaws.{goes-on, stops, is-settled, not-settled, start-length, start-total}
+
+-- D is at most what the machine's numbers hold the figures of
+pub record Carried (D : ℕ) (rows : List ℤ) (m n budget : ℕ) (weights : List ℕ) (centre : List ℤ) (pair : Pair) (moves : ℕ) : Type 0 where
+  pub total-some : 0 < D
+  pub total-most : D ≤ total
+  pub running : Running (λ ws. settled D m n (coordinate rows n) (weightOf ws)) (moved D m n (coordinate rows n)) budget (start rowLimit D) moves weights
+  pub places : length weights ≡ rowLimit
+  pub centre-is : IsCentre rows m n weights centre
+  pub weights-good : WeightsOf D m weights
+  pub paired : Paired D rows m n weights pair
+
+-- ---- the start
+
+module _ {rows : List ℤ} {m n : ℕ} (table : Table rows m n) {D : ℕ} {ws : List ℕ} (first : ws ≡ start rowLimit D) where
+  pub start-good : WeightsOf D m ws
+  start-good =
+      subst (WeightsOf D m) (sym first)
+      record {
+        places = omega (arith, start-length rowLimit D, table .rows-most);
+        sum = start-total rowLimit D m (table .some-row) (table .rows-most);
+      }
+
+  pub begins : {budget : ℕ} {x : List ℤ} {p : Pair} → 0 < D → D ≤ total → IsCentre rows m n ws x → Paired D rows m n ws p
+      → Carried D rows m n budget ws x p 0
+  begins some most centres pairs =
+      record {
+        total-some = some;
+        total-most = most;
+        running = running-start first;
+        places = ap length first ∙ start-length rowLimit D;
+        centre-is = centres;
+        weights-good = start-good;
+        paired = pairs;
+      }
+
+-- ---- the end, and a turn
+
+module _ {D : ℕ} {rows : List ℤ} {m n budget : ℕ} {weights : List ℕ} {centre : List ℤ} {pair : Pair} {moves : ℕ}
+    (table : Table rows m n) (here : Carried D rows m n budget weights centre pair moves) where
+  abbrev a : ℕ → ℕ → ℤ
+  a = coordinate rows n
+
+  abbrev w : ℕ → ℕ
+  w = weightOf weights
+
+  abbrev test : Bool
+  test = ltb (pair .separation) (pair .difference) && ltb moves budget
+
+  same : test ≡ (ltb (separation D m n a w) (difference D m n a w) && ltb moves budget)
+  same = ap₂ (λ d g. ltb d g && ltb moves budget) (here .paired .separation-is) (here .paired .difference-is)
+
+  pub ends : {flag : Bool} → flag ≡ test → flag ≡ false
+      → Ran D rowLimit rows m n budget record { weights = weights; «scaled_centre» = centre; pair = pair; moves = moves }
+  unfolding runFrom
+  ends tells left =
+      let whole = ⊎-elim (λ h. running-stopped (here .running) (is-settled D m n a weights h)) (running-spent (here .running))
+      (stops (separation D m n a w) (difference D m n a w) moves budget (sym same ∙ sym tells ∙ left)) in
+      record {
+        weights-are = sym (ap (λ r. r .weights) whole);
+        moves-are = sym (ap (λ r. r .moves) whole);
+        centre-is = here .centre-is;
+        weights-good = here .weights-good;
+        paired = here .paired;
+      }
+
+  pub centre-good : CentreWithin n centre
+  centre-good = subst (CentreWithin n) (sym (here .centre-is)) (centre-within table (weights-within (here .total-most) (here .weights-good)))
+
+  module _ (goes : test ≡ true) where
+    both : (separation D m n a w < difference D m n a w) × (moves < budget)
+    both = goes-on (separation D m n a w) (difference D m n a w) moves budget (sym same ∙ goes)
+
+    unsettled : settled D m n a w ≡ false
+    unsettled = not-settled D m n a weights (both .0)
+
+    pub more : moves < budget
+    more = both .1
+
+    pub apart : 0 < pair .separation
+    apart = omega (arith, separation-positive D m n a w (here .total-some) (table .some-row) unsettled, here .paired)
+
+    -- whatever rows the turn takes, weights and X stay together; only the near and the far row make it the move
+    module _ {t from : ℕ} (stepped : Bounded (w from) t (cappedStep (pair .difference) (pair .separation) (w from))) (hf : from < m) where
+      pub transfer-most : t ≤ total
+      transfer-most = omega (arith, stepped .most, weight-most (weights-within (here .total-most) (here .weights-good)) from hf)
+
+      pub can-move : {to : ℕ} → to < m → Movable t from to weights
+      can-move ht = movable (here .weights-good) hf ht (stepped .most) (here .total-most)
+
+      module _ (to : ℕ) {later : List ℕ} (move : later ≡ moveWeight t from to weights) (ht : to < m) where
+        pub moved-good : WeightsOf D m later
+        moved-good = subst (WeightsOf D m) (sym move) (weights-moved (here .weights-good) hf ht (stepped .most))
+
+        module _ {x : List ℤ} (shift : x ≡ shiftCentre rows n from to t centre) where
+          pub shifted-is : IsCentre rows m n later x
+          shifted-is =
+              shift
+              ∙ centre-moved (here .weights-good) hf ht (stepped .most) rows n (table .channels) (here .centre-is)
+              ∙ ap (λ ws. centreList n (scaledCentre a (weightOf ws) m)) (sym move)
+
+          transfer-is : from ≡ pair .near → t ≡ transfer D m n a w
+          unfolding transfer
+          transfer-is e =
+              stepped .is
+              ∙ ap₂ (λ g d. cappedStep g d (w from)) (here .paired .difference-is) (here .paired .separation-is)
+              ∙ ap (λ j. cappedStep (difference D m n a w) (separation D m n a w) (w j)) (e ∙ here .paired .near-is)
+
+          pub again : {p : Pair} → from ≡ pair .near → to ≡ pair .far → Paired D rows m n later p → Carried D rows m n budget later x p (moves + 1)
+          again near far pairs =
+              let is-move = moved-by D m n a weights (transfer-is near) (near ∙ here .paired .near-is) (far ∙ here .paired .far-is) in
+              record {
+                total-some = here .total-some;
+                total-most = here .total-most;
+                running = running-turn (here .running) unsettled more (move ∙ is-move);
+                places = ap length move ∙ moveWeight-length t from to weights ∙ here .places;
+                centre-is = shifted-is;
+                weights-good = moved-good;
+                paired = pairs;
+              }
+
+-- ---- what is put together
+
+module _ {rows : List ℤ} {m n : ℕ} where
+  pub drew : {D limit budget : ℕ} {e : Ended} {b : Ball} → Ran D limit rows m n budget e
+      → b ≡ ballOf D m n (coordinate rows n) (weightOf (e .weights))
+      → record { outcome = Accepted; ball = b; weights = e .weights; moves = e .moves }
+      ≡ drawn D m n (coordinate rows n) (runFrom D m n (coordinate rows n) budget 0 (start limit D))
+  drew ran balls = cc

@@ -1,0 +1,155 @@
+-- `drawing::run` meets its contract. The loop's invariant: the run from these weights with the moves left is the whole run, the
+-- weights sum to the total, and X and the pair of rows are theirs. The measure is the number of moves left.
+use Prim.Native.Nat.{_-_}
+use mathlib.Core.Path.{_≡_, refl, sym, _∙_}
+use mathlib.Core.Bool.{true, _&&_}
+use borrow.Author.Needs.{needs}
+use native.Mathlib.Omega.{arith}
+use native.Mathlib.Nat.{le-refl}
+use lib.Dec.{ltb, lit≤}
+use Rattle.geometry.specs.TableLaws.{table-row, weights-within}
+use Rattle.limits.specs.Limits.{total}
+use Rattle.drawing.proofs.Laws.{Carried, start-good, begins, ends, centre-good, more, apart, transfer-most, can-move, moved-good, shifted-is, again}
+use Rattle.drawing.proofs.run.Statement.{statement}
+use Rattle.drawing.proofs.run.Tie as tie
+
+abbrev Inv-loop : tie.InvT-loop
+Inv-loop rows m n budget weights₀ centre₀ pair₀ moves₀ weights centre pair moves = Carried total rows m n budget weights centre pair moves
+
+abbrev μ-loop : tie.MeasureT-loop
+μ-loop rows m n budget weights₀ centre₀ pair₀ moves₀ weights centre pair moves = budget - moves
+
+-- seen from the body of the loop: the function's entry, the loop's head, and that the test holds
+abbrev entry : tie.Then1 Inv-loop μ-loop → tie.Start Inv-loop μ-loop
+entry c = c .before .before .before .before .before .before .before .before .before
+
+abbrev head : tie.Then1 Inv-loop μ-loop → tie.At-loop Inv-loop μ-loop
+head c = c .before .before
+
+goes : (c : tie.Then1 Inv-loop μ-loop) → (ltb (head c .loop .pair .separation) (head c .loop .pair .difference) && ltb (head c .loop .moves) (entry c .args .budget)) ≡ true
+goes c = sym (c .before .goes-on .ensures) ∙ c .if1 .taken
+
+all-on-first-requires : tie.Need-all-on-first-requires Inv-loop μ-loop
+all-on-first-requires c κs = search needs
+
+slice-aggregate-scaled-centre : tie.Need-slice-aggregate-scaled-centre Inv-loop μ-loop
+slice-aggregate-scaled-centre c = search needs
+
+scaled-centre-requires : tie.Need-scaled-centre-requires Inv-loop μ-loop
+scaled-centre-requires c κs =
+    let table = c .before .before .pre in
+    (table, weights-within (le-refl total) (start-good table (c .before .all-on-first .ensures)))
+
+slice-aggregate-pair-of : tie.Need-slice-aggregate-pair-of Inv-loop μ-loop
+slice-aggregate-pair-of c = search needs
+
+slice-aggregate-pair-of-2 : tie.Need-slice-aggregate-pair-of-2 Inv-loop μ-loop
+slice-aggregate-pair-of-2 c = search needs
+
+pair-of-requires : tie.Need-pair-of-requires Inv-loop μ-loop
+pair-of-requires c κs =
+    let table = c .before .before .before .before .before .pre in
+    (table, (start-good table (c .before .before .before .before .all-on-first .ensures), c .before .before .scaled-centre .ensures))
+
+loop-holds : tie.Need-loop-holds Inv-loop μ-loop
+loop-holds c =
+    let first = c .before .before .before .before .before in
+    begins (first .before .pre) (first .all-on-first .ensures) (lit≤ tt) (le-refl total) (c .before .before .before .scaled-centre .ensures) (c .pair-of .ensures)
+
+goes-on-requires : tie.Need-goes-on-requires Inv-loop μ-loop
+goes-on-requires c κs = search needs
+
+mul-transfer-of : tie.Need-mul-transfer-of Inv-loop μ-loop
+mul-transfer-of c = omega (arith, head c .loop .inv .paired, entry c .pre .rows-most)
+
+array-read-transfer-of : tie.Need-array-read-transfer-of Inv-loop μ-loop
+array-read-transfer-of c = omega (arith, head c .loop .inv .paired, entry c .pre .rows-most)
+
+transfer-of-requires : tie.Need-transfer-of-requires Inv-loop μ-loop
+transfer-of-requires c κs =
+    let here = head c .loop .inv in
+    (apart (entry c .pre) here (goes c), (here .paired .separation-most, here .paired .difference-most))
+
+one-move-requires : tie.Need-one-move-requires Inv-loop μ-loop
+one-move-requires c κs =
+    let turn = c .before in
+    let here = head turn .loop .inv in
+    can-move (entry turn .pre) here (goes turn) (c .transfer-of .ensures) (omega (arith, here .paired)) (omega (arith, here .paired))
+
+shift-centre-requires : tie.Need-shift-centre-requires Inv-loop μ-loop
+shift-centre-requires c κs =
+    let turn = c .before .before in
+    let table = entry turn .pre in
+    let here = head turn .loop .inv in
+    let t-most = transfer-most table here (goes turn) (c .before .transfer-of .ensures) (omega (arith, here .paired)) in
+    (table-row table _ (omega (arith, here .paired)), (table-row table _ (omega (arith, here .paired)), (centre-good table here, t-most)))
+
+slice-aggregate-pair-of-3 : tie.Need-slice-aggregate-pair-of-3 Inv-loop μ-loop
+slice-aggregate-pair-of-3 c = search needs
+
+slice-aggregate-pair-of-4 : tie.Need-slice-aggregate-pair-of-4 Inv-loop μ-loop
+slice-aggregate-pair-of-4 c = search needs
+
+pair-of-requires-2 : tie.Need-pair-of-requires-2 Inv-loop μ-loop
+pair-of-requires-2 c κs =
+    let turn = c .before .before .before .before .before in
+    let table = entry turn .pre in
+    let here = head turn .loop .inv in
+    let stepped = c .before .before .before .before .transfer-of .ensures in
+    let move = c .before .before .before .one-move .ensures in
+    let shift = c .before .before .shift-centre .ensures in (
+      table,
+      (
+        moved-good table here (goes turn) stepped (omega (arith, here .paired)) _ move (omega (arith, here .paired)),
+        shifted-is table here (goes turn) stepped (omega (arith, here .paired)) _ move (omega (arith, here .paired)) shift,
+      ),
+    )
+
+add-moves : tie.Need-add-moves Inv-loop μ-loop
+add-moves c =
+    let turn = c .before .before .before .before .before .before in
+    omega (arith, more (entry turn .pre) (head turn .loop .inv) (goes turn), entry turn .fits .budget)
+
+loop-less : tie.Need-loop-less Inv-loop μ-loop
+loop-less c =
+    let turn = c .before .before .before .before .before .before in
+    omega (arith, more (entry turn .pre) (head turn .loop .inv) (goes turn))
+
+loop-again : tie.Need-loop-again Inv-loop μ-loop
+loop-again c =
+    let turn = c .before .before .before .before .before .before in
+    let stepped = c .before .before .before .before .before .transfer-of .ensures in
+    let move = c .before .before .before .before .one-move .ensures in
+    let shift = c .before .before .before .shift-centre .ensures in
+    let here = head turn .loop .inv in
+    again (entry turn .pre) here (goes turn) stepped (omega (arith, here .paired)) _ move (omega (arith, here .paired)) shift refl refl (c .pair-of2 .ensures)
+
+returns : tie.Need-returns Inv-loop μ-loop
+returns c = ends (c .before .before .before .before .before .before .before .before .before .pre) (c .before .before .loop .inv) (c .before .goes-on .ensures) (c .if1 .left)
+
+pub run-spec : {M : Type 1} → statement M
+run-spec =
+    tie.close
+    (tie.spec
+    Inv-loop
+    μ-loop
+    all-on-first-requires
+    slice-aggregate-scaled-centre
+    scaled-centre-requires
+    slice-aggregate-pair-of
+    slice-aggregate-pair-of-2
+    pair-of-requires
+    loop-holds
+    goes-on-requires
+    mul-transfer-of
+    array-read-transfer-of
+    transfer-of-requires
+    one-move-requires
+    shift-centre-requires
+    slice-aggregate-pair-of-3
+    slice-aggregate-pair-of-4
+    pair-of-requires-2
+    add-moves
+    loop-less
+    loop-again
+    returns)
