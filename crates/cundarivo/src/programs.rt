@@ -12,7 +12,6 @@ ghost use Rattle.program_panel.specs.Output.{panelOutput};
 ghost use Rattle.program_judge.specs.Output.{judgeOutput};
 ghost use Rattle.export_answers.specs.Contracts.{writtenInNumbers};
 use export_answers::WrittenAnswer;
-use export_answers::written_in_numbers;
 
 // The program `draw`: the record of the drawing of a reference text's rows. Where the output fits, it fills the first `length` places
 // of `output` and no other. Refused, with `output` as it was: 13.
@@ -25,7 +24,7 @@ pub extern "C" fn cundarivo_program_draw(reference: &[u8], output: &mut [u8]) ->
         ⌜ now (output .exit) ≡ filled (r .number) (r .length)
         (drawOutput total rowLimit channelTypes (now (reference .entry))) (now (output .entry)) ⌝ }
 {
-    written_in_numbers(program_draw::draw(reference, output))
+    export_programs::draw(reference, output)
 }
 
 // The program `verify`: whether a record agrees with a reference text. Output and refusal as for `draw`.
@@ -42,7 +41,7 @@ pub extern "C" fn cundarivo_program_verify(
         ⌜ now (output .exit) ≡ filled (r .number) (r .length)
         (verifyOutput total rowLimit channelTypes (now (reference .entry)) (now («record_text» .entry))) (now (output .entry)) ⌝ }
 {
-    written_in_numbers(program_verify::verify(reference, record_text, output))
+    export_programs::verify(reference, record_text, output)
 }
 
 // The program `judge`: the verdict on each reading, against a record that agrees with a reference text. Output and refusal as for `draw`.
@@ -60,7 +59,7 @@ pub extern "C" fn cundarivo_program_judge(
         ⌜ now (output .exit) ≡ filled (r .number) (r .length)
         (judgeOutput total rowLimit channelTypes (now (reference .entry)) (now («record_text» .entry)) (now (readings .entry))) (now (output .entry)) ⌝ }
 {
-    written_in_numbers(program_judge::judge(reference, record_text, readings, output))
+    export_programs::judge(reference, record_text, readings, output)
 }
 
 // The program `panel`: the centre of a record that agrees with a reference text, in whole steps. Output and refusal as for `draw`.
@@ -77,5 +76,5 @@ pub extern "C" fn cundarivo_program_panel(
         ⌜ now (output .exit) ≡ filled (r .number) (r .length)
         (panelOutput total rowLimit channelTypes (now (reference .entry)) (now («record_text» .entry))) (now (output .entry)) ⌝ }
 {
-    written_in_numbers(program_panel::panel(reference, record_text, output))
+    export_programs::panel(reference, record_text, output)
 }

@@ -5,7 +5,7 @@ ghost use Rattle.limits.specs.Limits.{total, rowLimit};
 ghost use Rattle.lent.specs.Filled.{filled};
 ghost use Rattle.channel.specs.Channel.{channelTypes};
 ghost use Rattle.record_print.specs.Printed.{recordText};
-ghost use Rattle.record.specs.Contracts.{recordRead};
+ghost use Rattle.record_read.specs.Contracts.{recordRead};
 ghost use Rattle.export_record.specs.Contracts.{envelopeGiven, readAnswer, writeAnswer};
 use channel::Code;
 use export_answers::EnvelopeAnswer;

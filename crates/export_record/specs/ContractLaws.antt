@@ -14,7 +14,7 @@ use Rattle.refusal.specs.Number.{outside-limits}
 use Rattle.refusal.specs.Outcome.{refused, choose}
 use Rattle.lent.specs.Contracts.{notWritten}
 use Rattle.channel.specs.Channel.{Types}
-use Rattle.record.specs.Contracts.{recordWritten}
+use Rattle.record_write.specs.Contracts.{recordWritten}
 use Rattle.export_answers.specs.Contracts.{writtenInNumbers}
 use Rattle.export_figures.specs.Contracts.{givenWhole, GivenPlaces}
 use Rattle.export_figures.specs.ContractLaws.{given-places}

@@ -15,8 +15,8 @@ use Rattle.lent.specs.Contracts.{notWritten, withRoom}
 use Rattle.lent.specs.Filled.{filled}
 use Rattle.channel.specs.Channel.{Types}
 use Rattle.envelope.specs.declared.Envelope.{Envelope}
-use Rattle.record.specs.Contracts.{recordWritten}
-use Rattle.record.specs.declared.EnvelopeRead.{EnvelopeRead}
+use Rattle.record_write.specs.Contracts.{recordWritten}
+use Rattle.record_read.specs.declared.EnvelopeRead.{EnvelopeRead}
 use Rattle.export_answers.specs.Contracts.{envelopeInNumbers, writtenInNumbers}
 use Rattle.export_answers.specs.declared.EnvelopeAnswer.{EnvelopeAnswer}
 use Rattle.export_answers.specs.declared.WrittenAnswer.{WrittenAnswer}

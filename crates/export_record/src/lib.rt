@@ -6,7 +6,7 @@ ghost use Rattle.limits.specs.Limits.{total, rowLimit};
 ghost use Rattle.lent.specs.Filled.{filled};
 ghost use Rattle.channel.specs.Channel.{channelTypes};
 ghost use Rattle.record_print.specs.Printed.{recordText};
-ghost use Rattle.record.specs.Contracts.{recordRead};
+ghost use Rattle.record_read.specs.Contracts.{recordRead};
 ghost use Rattle.export_figures.specs.Contracts.{GivenPlaces};
 ghost use Rattle.export_record.specs.Contracts.{envelopeWhole, envelopeGiven, readAnswer, writeAnswer};
 use channel::Code;
@@ -45,7 +45,7 @@ pub fn read(
         (recordRead total rowLimit channelTypes (now (rows .entry)) m n (now (codes .entry)) (now (text .entry)) .envelope .weights)
         (now (weights .entry)) ⌝ }
 {
-    let answer = record::read(rows, m, n, codes, text);
+    let answer = record_read::read(rows, m, n, codes, text);
     let outcome = answer.outcome;
     let envelope = answer.envelope;
     let figures = envelope.figures;
@@ -127,6 +127,6 @@ pub fn write(
         return written_in_numbers(not_written(refusal::OUTSIDE_LIMITS));
     }
     let envelope = envelope_given(figures, codes, scaled_centre, weights);
-    let written = record::write(envelope, rows, m, buffer);
+    let written = record_write::write(envelope, rows, m, buffer);
     written_in_numbers(written)
 }

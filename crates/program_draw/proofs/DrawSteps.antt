@@ -26,7 +26,7 @@ use Rattle.channel.specs.CodesLaws.{each-codes}
 use Rattle.envelope.specs.Agreement.{drawnEnvelope}
 use Rattle.envelope.specs.declared.Envelope.{Envelope}
 use Rattle.record_print.specs.Printed.{recordText}
-use Rattle.record.specs.Contracts.{recordWritten}
+use Rattle.record_write.specs.Contracts.{recordWritten}
 use Rattle.lent.specs.Contracts.{written}
 use Rattle.record.specs.HouseLaws.{house-drawn-most, house-drawn-written}
 use Rattle.lent.specs.declared.TextWritten.{TextWritten}

@@ -27,8 +27,8 @@ use Rattle.reference_rows.specs.Rows.{Content, faulty, sound}
 use Rattle.reference.specs.Reference.{contentOf, content}
 use Rattle.envelope.specs.declared.Figures.{Figures}
 use Rattle.record_form.specs.Record.{form}
-use Rattle.record.specs.Contracts.{notRead, givenWithin, formAnswer, recordRead}
-use Rattle.record.specs.declared.EnvelopeRead.{EnvelopeRead}
+use Rattle.record_read.specs.Contracts.{notRead, givenWithin, formAnswer, recordRead}
+use Rattle.record_read.specs.declared.EnvelopeRead.{EnvelopeRead}
 use Rattle.text.specs.EndedLines.{linesWithEnds}
 use Rattle.program_lines.specs.Lines.{printRefusal, printAccepted, printVerdicts}
 use Rattle.program_draw.specs.Output.{contentOutput, drawOutput}

@@ -56,8 +56,8 @@ use Rattle.reading.specs.declared.Verdict.{Verdict}
 use Rattle.reading.specs.declared.Verdict.the-variants.{Quiet, Alarm, Refused as RefusedReading}
 use Rattle.record_form.specs.Record.{printRecord}
 use Rattle.record_print.specs.Printed.{recordText}
-use Rattle.record.specs.ReadLaws.{each-read}
-use Rattle.record.specs.declared.EnvelopeRead.{EnvelopeRead}
+use Rattle.record_read.specs.ReadLaws.{each-read}
+use Rattle.record_read.specs.declared.EnvelopeRead.{EnvelopeRead}
 use Rattle.chart.specs.Panel.{panelShown}
 use Rattle.text.specs.EndedLines.{withEnds, linesWithEnds}
 use Rattle.program_lines.specs.Lines.{refusalWord, printRefusal, printAccepted, printVerdict, printVerdicts, printSteps}

@@ -51,10 +51,10 @@ use Rattle.reading.specs.declared.Verdict.{Verdict}
 use Rattle.reading.specs.declared.Verdict.the-variants.{Quiet}
 use Rattle.record_form.specs.Record.{form}
 use Rattle.record_print.specs.Printed.{recordText}
-use Rattle.record.specs.Contracts.{notRead, formAnswer, recordRead}
-use Rattle.record.specs.ReadLaws.{accepting}
+use Rattle.record_read.specs.Contracts.{notRead, formAnswer, recordRead}
+use Rattle.record_read.specs.ReadLaws.{accepting}
 use Rattle.record.specs.HouseLaws.{house-drawn-read}
-use Rattle.record.specs.declared.EnvelopeRead.{EnvelopeRead}
+use Rattle.record_read.specs.declared.EnvelopeRead.{EnvelopeRead}
 use Rattle.text.specs.EndedLines.{withEnds, linesWithEnds}
 use Rattle.program_lines.specs.Lines.{printAccepted, printVerdict, printVerdicts}
 use Rattle.program_draw.specs.Output.{drawBudget, drawOutput}

@@ -24,7 +24,7 @@ use Rattle.channel.specs.ContractLaws.{house-short, type-short}
 use Rattle.envelope.specs.Figures.{figuresKnown}
 use Rattle.envelope.specs.FigureLaws.{known-within, known-coded}
 use Rattle.envelope.specs.declared.Figures.{Figures}
-use Rattle.record.specs.declared.EnvelopeRead.{EnvelopeRead}
+use Rattle.record_read.specs.declared.EnvelopeRead.{EnvelopeRead}
 use Rattle.chart.specs.Panel.{panelShown}
 use Rattle.chart.specs.OwnLaws.{figures-shown}
 use Rattle.chart.specs.declared.panel.PanelShown.{PanelShown}

@@ -26,7 +26,7 @@ use Rattle.reference.specs.TableLaws.{table-length}
 use Rattle.reference.specs.Contracts.{answerOf, referenceRead, valuesIn}
 use Rattle.reference.specs.ContractLaws.{answer-places, answer-codes, answer-rows, answer-channels, read-room}
 use Rattle.reference.specs.declared.read.Reference.{Reference}
-use Rattle.record.specs.Contracts.{recordRead}
+use Rattle.record_read.specs.Contracts.{recordRead}
 use Rattle.program_record.specs.Against.{recordAgainst}
 use Rattle.program_record.specs.AgainstLaws.{against-sound}
 

@@ -14,8 +14,8 @@ use Rattle.reference_rows.specs.ReferenceText.{codesOf, channelCount, rowCount,
 use Rattle.reference_rows.specs.Rows.{Content, faulty, sound}
 use Rattle.reference.specs.Reference.{content}
 use Rattle.envelope.specs.declared.Figures.{Figures}
-use Rattle.record.specs.Contracts.{notRead, recordRead}
-use Rattle.record.specs.declared.EnvelopeRead.{EnvelopeRead}
+use Rattle.record_read.specs.Contracts.{notRead, recordRead}
+use Rattle.record_read.specs.declared.EnvelopeRead.{EnvelopeRead}
 use Rattle.program_lines.specs.Lines.{printRefusal}
 
 abbrev pub contentAgainst : ℕ → ℕ → Types → List ℕ → Content → EnvelopeRead

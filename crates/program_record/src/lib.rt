@@ -5,7 +5,7 @@ ghost use Rattle.limits.specs.Limits.{total, rowLimit};
 ghost use Rattle.channel.specs.Channel.{channelTypes};
 ghost use Rattle.program_record.specs.Against.{recordAgainst};
 use limits::PLACES;
-use record::EnvelopeRead;
+use record_read::EnvelopeRead;
 use refusal::Outcome;
 
 // Reads a record against the rows and tags of a reference text. Refused: as the reference text is, then as the record is.
@@ -20,7 +20,9 @@ pub fn record_against(reference: &[u8], record_text: &[u8]) -> EnvelopeRead
     let places = read.m * n;
     let codes = read.codes;
     match outcome {
-        Outcome::Accepted => { record::read(&table[..places], read.m, n, &codes[..n], record_text) }
-        Outcome::Refused(refusal) => record::not_read(refusal.number, refusal.line),
+        Outcome::Accepted => {
+            record_read::read(&table[..places], read.m, n, &codes[..n], record_text)
+        }
+        Outcome::Refused(refusal) => record_read::not_read(refusal.number, refusal.line),
     }
 }

@@ -5,7 +5,7 @@ use mathlib.Core.Path.{_≡_}
 use mathlib.Core.List.{List}
 use Rattle.refusal.specs.declared.Outcome.{Outcome}
 use Rattle.channel.specs.Channel.{Types}
-use Rattle.record.specs.declared.EnvelopeRead.{EnvelopeRead}
+use Rattle.record_read.specs.declared.EnvelopeRead.{EnvelopeRead}
 use Rattle.program_lines.specs.Lines.{printAccepted}
 use Rattle.program_record.specs.Against.{unlessRefused, recordAgainst}
 use Rattle.program_record.specs.AgainstLaws.{figures-by}

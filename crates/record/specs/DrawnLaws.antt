@@ -27,10 +27,11 @@ use Rattle.envelope.specs.Agreement.{allZero, drawnEnvelope}
 use Rattle.envelope.specs.AgreementLaws.{agrees-agreed, agreed-weight, drawn-agrees, drawn-cleared, checked-agrees}
 use Rattle.envelope.specs.declared.Envelope.{Envelope}
 use Rattle.record_print.specs.Printed.{recordText}
-use Rattle.record.specs.Contracts.{recordRead, recordWritten}
+use Rattle.record_read.specs.Contracts.{recordRead}
+use Rattle.record_write.specs.Contracts.{recordWritten}
 use Rattle.lent.specs.Contracts.{written}
-use Rattle.record.specs.ReadLaws.{accepting}
-use Rattle.record.specs.WriteLaws.{Writing, writing-written}
+use Rattle.record_read.specs.ReadLaws.{accepting}
+use Rattle.record_write.specs.WriteLaws.{Writing, writing-written}
 use Rattle.record.specs.TripLaws.{Holds, written-envelope}
 
 module _ (D limit : ℕ) (types : Types) (positive : 0 < D) (rows : List ℤ) (m n : ℕ)

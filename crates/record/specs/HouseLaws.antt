@@ -37,12 +37,13 @@ use Rattle.envelope.specs.declared.Envelope.{Envelope}
 use Rattle.record_print.specs.Printed.{recordOf, recordText, recordMost}
 use Rattle.record_print.specs.Contracts.{recordRoom}
 use Rattle.record_print.specs.PrintedLaws.{heading-short, centre-short, result-short, lines-short, record-length, record-room}
-use Rattle.record.specs.Contracts.{recordRead, recordWritten}
+use Rattle.record_read.specs.Contracts.{recordRead}
+use Rattle.record_write.specs.Contracts.{recordWritten}
 use Rattle.lent.specs.Contracts.{notWritten, written}
-use Rattle.record.specs.declared.EnvelopeRead.{EnvelopeRead}
+use Rattle.record_read.specs.declared.EnvelopeRead.{EnvelopeRead}
 use Rattle.lent.specs.declared.TextWritten.{TextWritten}
-use Rattle.record.specs.ReadLaws.{accepting}
-use Rattle.record.specs.WriteLaws.{within-printing, Writing, each-written, written-writing, writing-written}
+use Rattle.record_read.specs.ReadLaws.{accepting}
+use Rattle.record_write.specs.WriteLaws.{within-printing, Writing, each-written, written-writing, writing-written}
 use Rattle.record.specs.TripLaws.{Holds, written-envelope, disagreement-unread, unread-disagreement}
 use Rattle.record.specs.DrawnLaws.{drawn-writing, drawn-read}
 

@@ -6,8 +6,8 @@ use denote.Ref.{now}
 use Rattle.lent.specs.Filled.{filled}
 use Rattle.limits.specs.Limits.{total, rowLimit}
 use Rattle.channel.specs.Channel.{channelTypes}
-use Rattle.record.specs.ReadLaws.{given-within, accepted-read, read-zero}
-use Rattle.record.specs.declared.EnvelopeRead.{EnvelopeRead}
+use Rattle.record_read.specs.ReadLaws.{given-within, accepted-read, read-zero}
+use Rattle.record_read.specs.declared.EnvelopeRead.{EnvelopeRead}
 use Rattle.export_record.specs.Contracts.{readAnswer}
 use Rattle.export_answers.specs.ContractLaws.{accepted-places}
 use Rattle.export_record.proofs.read.Statement.{statement}

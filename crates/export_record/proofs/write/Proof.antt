@@ -12,7 +12,7 @@ use Rattle.lent.specs.Filled.{filled, filled-refused}
 use Rattle.channel.specs.Channel.{channelTypes}
 use Rattle.envelope.specs.declared.Envelope.{Envelope}
 use Rattle.record_print.specs.Printed.{recordText}
-use Rattle.record.specs.Contracts.{recordWritten}
+use Rattle.record_write.specs.Contracts.{recordWritten}
 use Rattle.lent.specs.Contracts.{notWritten}
 use Rattle.export_answers.specs.Contracts.{writtenInNumbers}
 use Rattle.export_answers.specs.declared.WrittenAnswer.{WrittenAnswer}

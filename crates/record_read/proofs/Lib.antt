@@ -1,0 +1,2 @@
+-- What the proofs of reading use.
+pub mod ReadSteps

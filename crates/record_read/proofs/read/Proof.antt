@@ -1,0 +1,122 @@
+-- The tests of what is given and of the text's length are the definition's own. What the reader of the form hands over has the line
+-- at fault, and 0 where there is none; a record in form answers what it states, kept in its places.
+use mathlib.Core.Path.{_≡_, sym, _∙_}
+use mathlib.Core.Bool.{true}
+use borrow.Author.Needs.{needs}
+use borrow.Author.Tests.{not-true, not-false}
+use lib.ListN.{length, take}
+use lib.Seq.{length-take-le}
+use denote.Ref.{now}
+use Rattle.limits.specs.Limits.{total, rowLimit}
+use Rattle.text.specs.Parts.{textWithin}
+use Rattle.channel.specs.Channel.{channelTypes}
+use Rattle.channel.specs.ChannelLaws.{house-sound}
+use Rattle.record_read.specs.Contracts.{givenWithin}
+use Rattle.record_read.specs.HeldLaws.{holding-total}
+use Rattle.record_read.specs.ReadLaws.{given-within, read-limits, read-length, read-form}
+use Rattle.record_read.proofs.ReadSteps.{read-faulty, read-channels, read-sound}
+use Rattle.record_read.proofs.read.Statement.{statement}
+use Rattle.record_read.proofs.read.Tie as tie
+
+given-within-requires : tie.Need-given-within-requires
+given-within-requires c κs = search needs
+
+not-read-requires : tie.Need-not-read-requires
+not-read-requires c κs = search needs
+
+returns : tie.Need-returns
+returns c =
+    let test = c .before .before in
+    let args = test .before .before .before .args in
+    c .not-read .ensures
+    ∙ sym (read-limits total rowLimit channelTypes (now (args .rows)) (args .m) (args .n) (now (args .codes)) (now (args .text))
+    (sym (test .given-within .ensures) ∙ not-true _ (c .before .if1 .taken)))
+
+-- past the first test the rows and codes are within their limits
+within : (c : tie.Else1) → let args = c .before .before .before .before .args in
+    givenWithin rowLimit channelTypes (now (args .rows)) (args .m) (args .n) (now (args .codes)) ≡ true
+within c = sym (c .before .given-within .ensures) ∙ not-false _ (c .if1 .left)
+
+text-within-requires : tie.Need-text-within-requires
+text-within-requires c κs = search needs
+
+not-read-requires-2 : tie.Need-not-read-requires-2
+not-read-requires-2 c κs = search needs
+
+returns-2 : tie.Need-returns-2
+returns-2 c =
+    let test = c .before .before in
+    let args = test .before .before .before .before .before .args in
+    c .not-read2 .ensures
+    ∙ sym (read-length total rowLimit channelTypes (now (args .rows)) (args .m) (args .n) (now (args .codes)) (now (args .text)) (within (test .before))
+    (sym (test .text-within .ensures) ∙ not-true _ (c .before .if2 .taken)))
+
+-- past the second test so is the text
+fitting : (c : tie.Else2) → textWithin (now (c .before .before .before .before .before .before .args .text)) ≡ true
+fitting c = sym (c .before .text-within .ensures) ∙ not-false _ (c .if2 .left)
+
+read-form-requires : tie.Need-read-form-requires
+read-form-requires c κs = search needs
+
+not-read-requires-3 : tie.Need-not-read-requires-3
+not-read-requires-3 c κs = search needs
+
+returns-3 : tie.Need-returns-3
+returns-3 c =
+    let at-form = c .before .before .before in
+    let past-given = at-form .before .before .before in
+    let args = past-given .before .before .before .before .args in
+    c .not-read3 .ensures
+    ∙ read-faulty channelTypes (now (args .text)) (at-form .read-form .result) (at-form .read-form .ensures) total (now (args .rows)) (args .m)
+    (take (args .n) (now (args .codes))) (c .before .if3 .taken)
+    ∙ sym (read-form total rowLimit channelTypes (now (args .rows)) (args .m) (args .n) (now (args .codes)) (now (args .text)) (within past-given)
+    (fitting (at-form .before)))
+
+-- there are n codes
+count : (c : tie.Else1) → let args = c .before .before .before .before .args in length (take (args .n) (now (args .codes))) ≡ args .n
+count c =
+    let args = c .before .before .before .before .args in
+    length-take-le (args .n) (now (args .codes))
+    (given-within rowLimit channelTypes (now (args .rows)) (args .m) (args .n) (now (args .codes)) (within c) .1)
+
+slice-aggregate-agreed : tie.Need-slice-aggregate-agreed
+slice-aggregate-agreed c = sym (count (c .before .before .before .before .before .before))
+
+agreed-requires : tie.Need-agreed-requires
+agreed-requires c κs =
+    let at-form = c .before .before .before in
+    let past-given = at-form .before .before .before in
+    let args = past-given .before .before .before .before .args in
+    record {
+      within = given-within rowLimit channelTypes (now (args .rows)) (args .m) (args .n) (now (args .codes)) (within past-given) .0;
+      count = count past-given;
+      channels = read-channels channelTypes (now (args .text)) (at-form .read-form .result) (at-form .read-form .ensures) house-sound;
+    }
+
+returns-4 : tie.Need-returns-4
+returns-4 c =
+    let at-form = c .before .before .before .before in
+    let past-given = at-form .before .before .before in
+    let args = past-given .before .before .before .before .args in
+    c .agreed .ensures
+    ∙ read-sound channelTypes (now (args .text)) (at-form .read-form .result) (at-form .read-form .ensures) total (now (args .rows)) (args .m)
+    (take (args .n) (now (args .codes))) house-sound holding-total (c .before .before .if3 .left)
+    ∙ sym (read-form total rowLimit channelTypes (now (args .rows)) (args .m) (args .n) (now (args .codes)) (now (args .text)) (within past-given)
+    (fitting (at-form .before)))
+
+pub read-spec : {M : Type 1} → statement M
+read-spec =
+    tie.close
+    (tie.spec
+    given-within-requires
+    not-read-requires
+    returns
+    text-within-requires
+    not-read-requires-2
+    returns-2
+    read-form-requires
+    not-read-requires-3
+    returns-3
+    slice-aggregate-agreed
+    agreed-requires
+    returns-4)

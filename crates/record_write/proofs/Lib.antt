@@ -1,0 +1,2 @@
+-- What the proof of writing uses.
+pub mod WriteSteps
