@@ -1,5 +1,4 @@
-// What the programs tell on standard error. Each message starts with the program's name, and goes out in one write up to the reason.
-// What is printed of a message is an equation; that it is written, no contract can say.
+// The messages of the programs, as they are printed before they are told. Each starts with the program's name.
 ghost use Prim.Native.Nat.{_^_, _≤_, _<_};
 ghost use lib.ListN.{length};
 ghost use Rattle.message.specs.Message.{
@@ -23,7 +22,6 @@ use file_name::NAME_ROOM;
 use file_name::START_ROOM;
 use file_name::put_name;
 use file_name::put_start;
-use libc::STDERR_FILENO;
 use printing::NUMBER_ROOM;
 use printing::put_bytes;
 use printing::put_number;
@@ -43,7 +41,7 @@ const MISSING: [u8; 10] = *b": missing\n";
 const EXCESS: [u8; 15] = *b": one too many\n";
 
 // room for every message; the longest is that of an argument which is one too many, with these parts
-const MESSAGE_ROOM: usize = START_ROOM + 2 + 9 + NUMBER_ROOM + 1 + NAME_ROOM + 15;
+pub const MESSAGE_ROOM: usize = START_ROOM + 2 + 9 + NUMBER_ROOM + 1 + NAME_ROOM + 15;
 
 // Each of these prints a message at the start of a slice with room for it, and answers its length.
 fn put_program(out: &mut [u8], program: &[u8]) -> usize
@@ -63,7 +61,7 @@ fn put_argument(out: &mut [u8], program: &[u8], index: usize) -> usize
     put_number(out, end, index as i64)
 }
 
-fn put_missing(out: &mut [u8], program: &[u8], index: usize) -> usize
+pub fn put_missing(out: &mut [u8], program: &[u8], index: usize) -> usize
     requires { ⌜ (index < 2 ^ 63) × (messageRoom ≤ length (now out)) ⌝ }
     ensures { λ r. ⌜ PutWithin messageRoom (missingMessage (now (program .entry)) index) (now (out .entry)) 0 (now (out .exit)) r ⌝ }
 {
@@ -71,7 +69,7 @@ fn put_missing(out: &mut [u8], program: &[u8], index: usize) -> usize
     put_bytes(out, end, &MISSING)
 }
 
-fn put_named_argument(out: &mut [u8], program: &[u8], index: usize, name: &[u8]) -> usize
+pub fn put_named_argument(out: &mut [u8], program: &[u8], index: usize, name: &[u8]) -> usize
     requires { ⌜ (index < 2 ^ 63) × (namedRoom ≤ length (now out)) ⌝ }
     ensures { λ r.
         ⌜ PutWithin namedRoom (namedArgument (now (program .entry)) index (now (name .entry))) (now (out .entry)) 0 (now (out .exit)) r ⌝ }
@@ -81,7 +79,7 @@ fn put_named_argument(out: &mut [u8], program: &[u8], index: usize, name: &[u8])
     put_name(out, start, name)
 }
 
-fn put_excess(out: &mut [u8], program: &[u8], index: usize, name: &[u8]) -> usize
+pub fn put_excess(out: &mut [u8], program: &[u8], index: usize, name: &[u8]) -> usize
     requires { ⌜ (index < 2 ^ 63) × (messageRoom ≤ length (now out)) ⌝ }
     ensures { λ r.
         ⌜ PutWithin messageRoom (excessMessage (now (program .entry)) index (now (name .entry))) (now (out .entry)) 0 (now (out .exit)) r ⌝ }
@@ -90,7 +88,7 @@ fn put_excess(out: &mut [u8], program: &[u8], index: usize, name: &[u8]) -> usiz
     put_bytes(out, end, &EXCESS)
 }
 
-fn put_file(out: &mut [u8], program: &[u8], name: &[u8]) -> usize
+pub fn put_file(out: &mut [u8], program: &[u8], name: &[u8]) -> usize
     requires { ⌜ messageRoom ≤ length (now out) ⌝ }
     ensures { λ r.
         ⌜ PutWithin messageRoom (fileMessage (now (program .entry)) (now (name .entry))) (now (out .entry)) 0 (now (out .exit)) r ⌝ }
@@ -108,7 +106,7 @@ fn put_stream(out: &mut [u8], program: &[u8], stream: &[u8]) -> usize
     put_bytes(out, start, stream)
 }
 
-fn put_input(out: &mut [u8], program: &[u8]) -> usize
+pub fn put_input(out: &mut [u8], program: &[u8]) -> usize
     requires { ⌜ messageRoom ≤ length (now out) ⌝ }
     ensures { λ r.
         ⌜ PutWithin messageRoom (streamMessage (now (program .entry)) standardInput) (now (out .entry)) 0 (now (out .exit)) r ⌝ }
@@ -116,53 +114,10 @@ fn put_input(out: &mut [u8], program: &[u8]) -> usize
     put_stream(out, program, &STANDARD_INPUT)
 }
 
-fn put_output(out: &mut [u8], program: &[u8]) -> usize
+pub fn put_output(out: &mut [u8], program: &[u8]) -> usize
     requires { ⌜ messageRoom ≤ length (now out) ⌝ }
     ensures { λ r.
         ⌜ PutWithin messageRoom (streamMessage (now (program .entry)) standardOutput) (now (out .entry)) 0 (now (out .exit)) r ⌝ }
 {
     put_stream(out, program, &STANDARD_OUTPUT)
-}
-
-pub fn tell_missing(program: &[u8], index: usize)
-    requires { ⌜ index < 2 ^ 63 ⌝ }
-{
-    let mut message = [0u8; MESSAGE_ROOM];
-    let length = put_missing(&mut message, program, index);
-    io::write_all(STDERR_FILENO, &message[..length]);
-}
-
-pub fn tell_excess(program: &[u8], index: usize, name: &[u8])
-    requires { ⌜ index < 2 ^ 63 ⌝ }
-{
-    let mut message = [0u8; MESSAGE_ROOM];
-    let length = put_excess(&mut message, program, index, name);
-    io::write_all(STDERR_FILENO, &message[..length]);
-}
-
-// The reason that follows in these is that of the call which failed last.
-pub fn fail_argument(program: &[u8], index: usize, name: &[u8])
-    requires { ⌜ index < 2 ^ 63 ⌝ }
-{
-    let mut message = [0u8; MESSAGE_ROOM];
-    let length = put_named_argument(&mut message, program, index, name);
-    os::fail(&message[..length]);
-}
-
-pub fn fail_file(program: &[u8], name: &[u8]) {
-    let mut message = [0u8; MESSAGE_ROOM];
-    let length = put_file(&mut message, program, name);
-    os::fail(&message[..length]);
-}
-
-pub fn fail_input(program: &[u8]) {
-    let mut message = [0u8; MESSAGE_ROOM];
-    let length = put_input(&mut message, program);
-    os::fail(&message[..length]);
-}
-
-pub fn fail_output(program: &[u8]) {
-    let mut message = [0u8; MESSAGE_ROOM];
-    let length = put_output(&mut message, program);
-    os::fail(&message[..length]);
 }

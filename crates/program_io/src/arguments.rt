@@ -3,8 +3,8 @@ ghost use mathlib.Core.Path.{_≡_};
 ghost use Prim.Native.Nat.{_^_, _<_};
 ghost use Rattle.program_io.specs.Arguments.{argumentsGiven};
 use libc::ENAMETOOLONG;
-use message::tell_excess;
-use message::tell_missing;
+use report::tell_excess;
+use report::tell_missing;
 
 // How the arguments that are there compare with those that are taken. An argument is told by its index, counted from 1.
 pub enum Given {

@@ -10,11 +10,11 @@ use libc::ENAMETOOLONG;
 use libc::STDIN_FILENO;
 use libc::STDOUT_FILENO;
 use limits::TEXT_MOST;
-use message::fail_argument;
-use message::fail_file;
-use message::fail_input;
-use message::fail_output;
-use message::tell_missing;
+use report::fail_argument;
+use report::fail_file;
+use report::fail_input;
+use report::fail_output;
+use report::tell_missing;
 
 // The most bytes that a program reads of each of its texts, one more than a text may have: what follows them changes no output.
 pub const TEXT_READ: usize = TEXT_MOST + 1;
