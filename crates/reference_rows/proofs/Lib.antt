@@ -1,4 +1,3 @@
--- How the code reads a row field by field, and the rows line by line.
-pub mod RowSteps
+-- How the code reads the rows line by line.
 pub mod RowsSteps
 pub mod Walk
