@@ -43,7 +43,7 @@ use text::parts::text_within;
 
 // The most bytes of a heading, of a `C`, an `R` and a `W` line, each with its byte 10, and of a record that is written. Each field is a
 // comma and a tag, a number of so many digits (those of X after a hyphen), or a letter.
-const HEADING_MOST: usize = RECORD_WORD_BYTES
+const HEADING_LINE_MOST: usize = RECORD_WORD_BYTES
     + (1 + CHANNEL_DIGITS)
     + CHANNELS * (1 + TAG_MOST)
     + 1;
@@ -58,13 +58,13 @@ const RESULT_LINE_MOST: usize = LINE_WORD_BYTES
 
 const WEIGHT_LINE_MOST: usize = LINE_WORD_BYTES + (1 + ROW_DIGITS) + (1 + WEIGHT_DIGITS) + 1;
 
-pub const RECORD_MOST: usize = HEADING_MOST
+pub const RECORD_MOST: usize = HEADING_LINE_MOST
     + CENTRE_LINE_MOST
     + RESULT_LINE_MOST
     + ROWS * WEIGHT_LINE_MOST;
 
 // Room for the printing of every record: a number may take a hyphen and as many digits as the largest.
-const RECORD_ROOM: usize = HEADING_MOST
+const RECORD_ROOM: usize = HEADING_LINE_MOST
     + (LINE_WORD_BYTES + CHANNELS * FIELD_ROOM + 1)
     + (LINE_WORD_BYTES + 3 * FIELD_ROOM + (1 + LETTER_BYTES) + 1)
     + ROWS * (LINE_WORD_BYTES + 2 * FIELD_ROOM + 1);
@@ -133,7 +133,7 @@ fn agreed(rows: &[i32], m: usize, n: usize, codes: &[Code], stated: Stated) -> E
     }
 }
 
-// Reads a record against the first m rows of n channels and the first n codes of types. Refused: 8, 1, 11, 12.
+// Reads a record against the first m rows of n channels and the first n codes. Refused: 8, 1, 11, 12.
 pub fn read(rows: &[i32], m: usize, n: usize, codes: &[Code], text: &[u8]) -> EnvelopeRead
     ensures { λ r.
         ⌜ r ≡ recordRead total rowLimit channelTypes (now (rows .entry)) m n (now (codes .entry)) (now (text .entry)) ⌝ }
