@@ -35,7 +35,7 @@
  *
  *   The weights are Settled where no move of weight between two rows is called for. A drawing ends Settled,
  *   or Budget where it has made as many moves as it may and the weights are not Settled.
- *   The figures of an envelope are n, the types of its channels, X, M, L, the ending and the moves made.
+ *   The figures of an envelope are n, the codes of its channels, X, M, L, the ending and the moves made.
  *
  * Texts
  *
@@ -146,8 +146,8 @@ extern "C" {
  */
 #define CUNDARIVO_PROGRAM_JUDGE_BYTES (7 * CUNDARIVO_TEXT_BYTES + 64)
 
-/* 64 for the line of a refusal and 32 for each channel: `output_room` in crates/program_panel/src/lib.rt. */
-#define CUNDARIVO_PROGRAM_PANEL_BYTES (64 + 32 * CUNDARIVO_CHANNELS)
+/* 64 for the line of a refusal and 25 for each channel: `output_room` in crates/program_panel/src/lib.rt. */
+#define CUNDARIVO_PROGRAM_PANEL_BYTES (64 + 25 * CUNDARIVO_CHANNELS)
 
 /* ---- numbers that stand for something */
 
@@ -248,7 +248,7 @@ typedef struct {
     uint64_t scaled_lower_bound;    /* L */
 } cundarivo_check_answer;
 
-/* The figures of an envelope, whoever made them, but for its types and X, which are lent beside them. */
+/* The figures of an envelope, whoever made them, but for its codes and X, which are lent beside them. */
 typedef struct {
     size_t n;                       /* 1 to 8 */
     uint64_t scaled_squared_radius; /* M, at most CUNDARIVO_DISTANCE_MOST */
@@ -315,74 +315,75 @@ cundarivo_label_answer cundarivo_label(
 
 /*
  * Draws the ball round the first m rows of n channels: all weight is on the first row at the start, and at
- * most `budget` moves are made. It fills the first n places of `centre` with X and the first m places of
- * `weights` with the weights of the rows.
+ * most `budget` moves are made. It fills the first n places of `scaled_centre` with X and the first m places
+ * of `weights` with the weights of the rows.
  *
  * Refused: 8 for n outside 1 to 8, m outside 1 to 256, `rows` of fewer than m times n places, or one of these
- * places outside -4,000 to 4,000; 9; then 13 for `centre` of fewer than n or `weights` of fewer than m places.
+ * places outside -4,000 to 4,000; 9; then 13 for `scaled_centre` of fewer than n or `weights` of fewer than m
+ * places.
  */
 cundarivo_envelope_answer cundarivo_draw(
     const int32_t *rows, size_t rows_length,
     size_t m, size_t n,
     uint32_t budget,
-    int64_t *centre, size_t centre_length,
+    int64_t *scaled_centre, size_t scaled_centre_length,
     uint32_t *weights, size_t weights_length);
 
 /*
  * Gives the figures of any weights of the first m rows of n channels, whoever chose them. It fills the first
- * n places of `centre` with X.
+ * n places of `scaled_centre` with X.
  *
  * Refused: 8 as for cundarivo_draw, and for `weights` of more or fewer than m places; 12 where the weights do
- * not sum to 65,536; then 13 for `centre` of fewer than n places.
+ * not sum to 65,536; then 13 for `scaled_centre` of fewer than n places.
  */
 cundarivo_check_answer cundarivo_check(
     const int32_t *rows, size_t rows_length,
     size_t m, size_t n,
     const uint32_t *weights, size_t weights_length,
-    int64_t *centre, size_t centre_length);
+    int64_t *scaled_centre, size_t scaled_centre_length);
 
 /* ---- the verdict */
 
 /*
- * Judges a reading against the figures of an envelope. It writes nothing. Of `codes` and `centre` the first n
- * places count. The reading is Quiet where its s is at most M, else an Alarm with s - M.
+ * Judges a reading against the figures of an envelope. It writes nothing. Of `codes` and `scaled_centre` the
+ * first n places count. The reading is Quiet where its s is at most M, else an Alarm with s - M.
  *
- * Refused: 8 for n outside 1 to 8, `codes` or `centre` of fewer than n places, a code outside 1 to 8, a place
- * of X, M, L or the moves outside its limits, or `settled` other than 0 and 1; 1; 3, also where the text has
- * not exactly one line, or not n tags and values; 10 for a tag that is not the envelope's, whatever the
+ * Refused: 8 for n outside 1 to 8, `codes` or `scaled_centre` of fewer than n places, a code outside 1 to 8, a
+ * place of X, M, L or the moves outside its limits, or `settled` other than 0 and 1; 1; 3, also where the text
+ * has not exactly one line, or not n tags and values; 10 for a tag that is not the envelope's, whatever the
  * values; then 4. The line of 3, 10 and 4 is 1.
  */
 cundarivo_verdict_answer cundarivo_judge(
     cundarivo_figures_given figures,
     const uint8_t *codes, size_t codes_length,
-    const int64_t *centre, size_t centre_length,
+    const int64_t *scaled_centre, size_t scaled_centre_length,
     const uint8_t *text, size_t text_length);
 
 /* ---- the record */
 
 /*
- * Reads the record of an envelope of the first m rows of n channels of these types, whoever wrote it. It
- * fills the first n places of `centre` with X and the first m places of `weights` with the weights, 0 for a
- * row without a line W. Of `codes` the first n places count. The moves are taken as written; every other
+ * Reads the record of an envelope of the first m rows of n channels of these codes, whoever wrote it. It
+ * fills the first n places of `scaled_centre` with X and the first m places of `weights` with the weights, 0
+ * for a row without a line W. Of `codes` the first n places count. The moves are taken as written; every other
  * figure is compared with what cundarivo_check gives of the weights.
  *
  * Refused: 8 as for cundarivo_draw, and for `codes` of fewer than n places or a code outside 1 to 8; 1; 11 at
  * the first faulty line, a missing line being the one after the last; 12 where n, the tags, X, M, L or the
- * ending is not what rows, types and weights give, or a line W names a row above m; then 13 for `centre` of
- * fewer than n or `weights` of fewer than m places.
+ * ending is not what rows, codes and weights give, or a line W names a row above m; then 13 for
+ * `scaled_centre` of fewer than n or `weights` of fewer than m places.
  */
 cundarivo_envelope_answer cundarivo_read_record(
     const int32_t *rows, size_t rows_length,
     size_t m, size_t n,
     const uint8_t *codes, size_t codes_length,
     const uint8_t *text, size_t text_length,
-    int64_t *centre, size_t centre_length,
+    int64_t *scaled_centre, size_t scaled_centre_length,
     uint32_t *weights, size_t weights_length);
 
 /*
  * Writes the record of an envelope of the first m rows and answers with its length. It fills the first
- * `length` places of `buffer`. Of `codes` and `centre` the first n places count. `weights` has at least m and
- * at most 256 places. CUNDARIVO_RECORD_BYTES places are enough for every record.
+ * `length` places of `buffer`. Of `codes` and `scaled_centre` the first n places count. `weights` has at least
+ * m and at most 256 places. CUNDARIVO_RECORD_BYTES places are enough for every record.
  *
  * Refused: 8 as for cundarivo_judge, as for cundarivo_draw, and for `weights` of fewer than m or more than 256
  * places; 12 where cundarivo_read_record would refuse the record by 12, also for a weight above 0 past the
@@ -391,7 +392,7 @@ cundarivo_envelope_answer cundarivo_read_record(
 cundarivo_written_answer cundarivo_write_record(
     cundarivo_figures_given figures,
     const uint8_t *codes, size_t codes_length,
-    const int64_t *centre, size_t centre_length,
+    const int64_t *scaled_centre, size_t scaled_centre_length,
     const uint32_t *weights, size_t weights_length,
     const int32_t *rows, size_t rows_length,
     size_t m,
@@ -403,26 +404,27 @@ cundarivo_written_answer cundarivo_write_record(
  * Gives the mark of an envelope on a chart of two channels, counted from 1; they may be the same. It writes
  * nothing. The mark is a dot where M is 0, else a disc, whose radius is the smallest whole number with a
  * square of at least M, divided by D. Each number equals its fraction of D exactly, and no zero is negative.
- * Of `codes` and `centre` the first n places count.
+ * Of `codes` and `scaled_centre` the first n places count.
  *
  * Refused: 8 as for cundarivo_judge, and for a channel outside 1 to n.
  */
 cundarivo_mark_answer cundarivo_chart(
     cundarivo_figures_given figures,
     const uint8_t *codes, size_t codes_length,
-    const int64_t *centre, size_t centre_length,
+    const int64_t *scaled_centre, size_t scaled_centre_length,
     size_t horizontal, size_t vertical);
 
 /*
  * Gives what the panel shows of an envelope. It fills the first n places of `steps` with the centre of each
- * channel to the nearest whole step, halves away from zero. Of `codes` and `centre` the first n places count.
+ * channel to the nearest whole step, halves away from zero. Of `codes` and `scaled_centre` the first n places
+ * count.
  *
  * Refused: 8 as for cundarivo_judge; then 13 for `steps` of fewer than n places.
  */
 cundarivo_panel_answer cundarivo_panel(
     cundarivo_figures_given figures,
     const uint8_t *codes, size_t codes_length,
-    const int64_t *centre, size_t centre_length,
+    const int64_t *scaled_centre, size_t scaled_centre_length,
     int32_t *steps, size_t steps_length);
 
 /* ---- the programs */

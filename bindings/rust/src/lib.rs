@@ -186,7 +186,7 @@ pub const TOTAL: u32 = 65_536;
 /// | 5 | a label that an earlier row has |
 /// | 6 | no row, or a 257th |
 /// | 7 | a lent table of fewer than m·n places |
-/// | 8 | n, m, a coordinate, a type code or a figure of an envelope outside its limits, a channel of a chart outside 1 to n, rows of fewer than m·n places, a weight list not of m places or, in an envelope, of fewer than m or more than [`ROWS`], types or X of fewer than n places, an ending that is neither 0 nor 1 |
+/// | 8 | n, m, a coordinate, a type code or a figure of an envelope outside its limits, a channel of a chart outside 1 to n, rows of fewer than m·n places, a weight list not of m places or, in an envelope, of fewer than m or more than [`ROWS`], codes or X of fewer than n places, an ending that is neither 0 nor 1 |
 /// | 9 | a budget above 1,000,000 |
 /// | 10 | a tag of a reading that is not the envelope's |
 /// | 11 | a record that is not in form |
@@ -272,7 +272,7 @@ pub struct Checked {
 /// The figures of an envelope, which a reading is judged against, and of which charts and the panel
 /// are made. Whoever made them, [`judge`], [`chart`] and [`panel`] refuse by 8 those outside their
 /// limits; [`Drawing::figures`] and, with moves of at most 1,000,000, [`Checked::figures`] give
-/// figures that are within them, for rows and types of a reference text.
+/// figures that are within them, for rows and codes of a reference text.
 #[derive(Clone, Debug, PartialEq, Eq, Hash)]
 pub struct Figures {
     /// The number of channels, 1 to [`CHANNELS`].
@@ -293,7 +293,7 @@ pub struct Figures {
 }
 
 impl Figures {
-    /// The figures as the library's own calls take them, beside the types and X.
+    /// The figures as the library's own calls take them, beside the codes and X.
     pub fn given(&self) -> FiguresGiven {
         FiguresGiven {
             n: self.n,
@@ -306,7 +306,7 @@ impl Figures {
 }
 
 impl Drawing {
-    /// The drawn envelope, whose channels are of these types.
+    /// The drawn envelope, whose channels are of these codes.
     pub fn envelope(&self, codes: &[u8]) -> Envelope {
         Envelope {
             figures: self.figures(codes),
@@ -314,7 +314,7 @@ impl Drawing {
         }
     }
 
-    /// The figures of the drawn envelope, whose channels are of these types.
+    /// The figures of the drawn envelope, whose channels are of these codes.
     pub fn figures(&self, codes: &[u8]) -> Figures {
         Figures {
             n: self.scaled_centre.len(),
@@ -329,7 +329,7 @@ impl Drawing {
 }
 
 impl Checked {
-    /// The figures of an envelope of the checked weights, whose channels are of these types. A
+    /// The figures of an envelope of the checked weights, whose channels are of these codes. A
     /// check makes no moves; those that the weights came from are given.
     pub fn figures(&self, codes: &[u8], moves: u32) -> Figures {
         Figures {
@@ -424,7 +424,7 @@ pub struct LabelAnswer {
     pub length: usize,
 }
 
-/// The figures of an envelope as they are given to the library, but for its types and X; see
+/// The figures of an envelope as they are given to the library, but for its codes and X; see
 /// [`judge_given`], [`write_record_into`], [`chart_given`] and [`panel_into`].
 #[repr(C)]
 #[derive(Clone, Copy, Debug, PartialEq, Eq, Hash)]
@@ -594,7 +594,7 @@ pub fn check_into(
 }
 
 /// Reads a reference text into a lent table, row by row, and the codes of its channel types into
-/// lent types. Accepted, it fills the first m·n places of the table and the first n of the types,
+/// lent codes. Accepted, it fills the first m·n places of the table and the first n of the codes,
 /// and no other; refused, it changes nothing. [`ROWS`]·[`CHANNELS`] and [`CHANNELS`] places are
 /// enough for every text.
 ///
@@ -618,7 +618,7 @@ pub fn check_into(
 /// # Errors
 ///
 /// Refusals 1, 2, then line by line 6 for a 257th row, 3, 4, 5; then 6 for no row, 7, and 13 for
-/// types of fewer than n places: see [`Refusal`].
+/// codes of fewer than n places: see [`Refusal`].
 pub fn read_reference(text: &[u8], table: &mut [i32], codes: &mut [u8]) -> Result<Counts, Refusal> {
     let answer = read_reference_into(text, table, codes);
     accepted(answer.number, answer.line)?;

@@ -13,7 +13,7 @@ pub const RECORD_BYTES: usize = 38 + 90 + 52 + 12 * ROWS;
 /// An envelope: its figures, and the weights of its rows.
 #[derive(Clone, Debug, PartialEq, Eq, Hash)]
 pub struct Envelope {
-    /// Its channels and their types, X, M, L, the ending and the moves.
+    /// Its channels and their codes, X, M, L, the ending and the moves.
     pub figures: Figures,
     /// The weight of each row, at least m places and at most [`ROWS`]; those past m are 0.
     pub weights: Vec<u32>,
@@ -64,8 +64,8 @@ unsafe extern "C" {
     ) -> WrittenAnswer;
 }
 
-/// Reads the record of an envelope of these rows, whose channels are of these types, whoever wrote
-/// it. Of the types and the coordinates the first n and m·n places count.
+/// Reads the record of an envelope of these rows, whose channels are of these codes, whoever wrote
+/// it. Of the codes and the coordinates the first n and m·n places count.
 ///
 /// ```
 /// let rows = [0, 10];
@@ -110,7 +110,7 @@ pub fn read_record(
 }
 
 /// Writes the record of an envelope of the first m rows, whoever made it. [`read_record`] reads a
-/// written record, with the same rows and types, as this envelope, its places past m and n aside.
+/// written record, with the same rows and codes, as this envelope, its places past m and n aside.
 ///
 /// ```
 /// use cundarivo::{draw, read_record, write_record};

@@ -14,7 +14,7 @@
 --     tags-free                 no byte that stands in no label stands in the tags of known codes
 --     range-within, range-zero  every range is within 4,000 of 0, and has 0
 --     code-tag, tag-code        a code has one tag, and a tag one code
-use Prim.Native.Nat.{ℕ, zero, suc, _≤_}
+use Prim.Native.Nat.{ℕ, zero, suc, _-_, _≤_}
 use mathlib.Core.Path.{_≡_, refl, sym, ap, subst, _∙_}
 use mathlib.Core.Bool.{Bool, true, false, not, cond, _&&_, _||_, or-true}
 use mathlib.Core.List.{List, [], _∷_, map}
@@ -207,7 +207,7 @@ ends t h =
 
 low-within : (z : ℤ) → (leZ (negℤ (pos coordinateLimit)) z ≡ true) × (leZ z (pos 0) ≡ true) → natAbs z ≤ coordinateLimit
 low-within (pos n) h = omega (arith, leb-true n 0 (h .1))
-low-within (negsuc n) h = omega (arith, leb-true n 3999 (h .0))
+low-within (negsuc n) h = omega (arith, leb-true n (coordinateLimit - 1) (h .0))
 
 high-within : (z : ℤ) → (leZ (pos 0) z ≡ true) × (leZ z (pos coordinateLimit) ≡ true) → natAbs z ≤ coordinateLimit
 high-within (pos n) h = leb-true n coordinateLimit (h .1)

@@ -13,6 +13,7 @@ use mathlib.Core.Path.{_≡_, refl, sym, ap, _∙_, subst}
 use mathlib.Core.Logic.{_≢_}
 use mathlib.Core.Bool.{Bool, true, false, _&&_}
 use native.Mathlib.Nat.{zero-mul, pow-le-pow-right}
+use native.Mathlib.Decide.{decLt}
 use native.Mathlib.Omega.{arith}
 use borrow.Author.Tests.{leb-true}
 use lib.Dec.{leb, lit<}
@@ -20,6 +21,7 @@ use lib.IntN.{ℤ, pos, natAbs}
 use Rattle.integers.specs.Tests.{both, nonzero}
 use Rattle.refusal.specs.Number.{outside-limits}
 use Rattle.refusal.specs.Outcome.{choose}
+use Rattle.limits.specs.Limits.{total}
 use Rattle.channel.specs.Channel.{Types}
 use Rattle.envelope.specs.Figures.{figuresKnown}
 use Rattle.envelope.specs.FigureLaws.{known-within}
@@ -106,13 +108,20 @@ pub record Shows (D M : ℕ) (x y : ℤ) (mark : Mark) : Type 0 where
   pub dot : M ≡ 0 → mark ≡ Dot (markPoint mark)
   pub disc : M ≢ 0 → mark ≡ Disc (markPoint mark) (markRadius mark)
 
-module _ (D e : ℕ) (power : D ≡ 2 ^ e) (most : e ≤ 16) where
-  total-most : D ≤ 65536
-  total-most = subst (λ (d : ℕ). d ≤ 65536) (sym power) (pow-le-pow-right (lit< tt) most)
+module _ (D e : ℕ) (power : D ≡ 2 ^ e) (most : D ≤ total) where
+  exponent-most : e < 53
+  exponent-most = go (decLt e 53)
+    where
+      go : Dec (e < 53) → e < 53
+      go (yes l) = l
+      go (no l) =
+          let k : 53 ≤ e = omega arith in
+          let h : 2 ^ 53 ≤ 2 ^ e = pow-le-pow-right (lit< tt) k in
+          absurd (omega (arith, h, power, most))
 
   -- a whole number below 2^53, over D
   exact : (z : ℤ) → natAbs z < 2 ^ 53 → Exact D z (fractionOf D z)
-  exact = fraction-exact D e power (omega arith)
+  exact = fraction-exact D e power (omega (arith, exponent-most))
 
   module _ (x y : ℤ) (x-small : natAbs x < 2 ^ 53) (y-small : natAbs y < 2 ^ 53) where
     abbrev point : Point
@@ -150,7 +159,7 @@ module _ (D e : ℕ) (power : D ≡ 2 ^ e) (most : e ≤ 16) where
       let small : (channel : ℕ) → channelWithin (f .n) channel ≡ true → natAbs (channelCentre f channel) < 2 ^ 53 =
       λ channel k.
       let known = channel-known (f .n) channel k in
-      omega (arith, total-most, limits .centre-limit (channel - 1) (omega arith)) in
+      omega (arith, most, limits .centre-limit (channel - 1) (omega arith)) in
       subst (Shows D M (channelCentre f h) (channelCentre f v)) (sym (chart-marks D types f h v (within .0) (within .1) (within .2)))
       (mark-shows (channelCentre f h) (channelCentre f v) (small h (within .1)) (small v (within .2)) M
-      (omega (arith, total-most, root-most D M (limits .radius-limit))))
+      (omega (arith, most, root-most D M (limits .radius-limit))))

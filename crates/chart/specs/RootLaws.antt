@@ -2,20 +2,21 @@
 --     root-reaches      its square is at least M
 --     root-smallest     no smaller whole number has such a square
 --     root-is           it is the number after low, where the square of low is below M and its own is not
+--     separation-root   the root of the limit on d² is separationRoot
 --     root-most         where M is within its limit, so is the root
-use Prim.Native.Nat.{ℕ, zero, suc, _+_, _*_, _^_, _≤_, _<_}
-use mathlib.Core.Path.{_≡_, refl, ap₂, _∙_, subst}
+use Prim.Native.Nat.{ℕ, zero, suc, _+_, _-_, _*_, _^_, _≤_, _<_}
+use mathlib.Core.Path.{_≡_, refl, sym, ap₂, _∙_, subst}
 use mathlib.Core.Bool.{Bool, true, false, cond}
 use native.Mathlib.Nat.{le-antisymm, le-trans, mul-le-mul, zero-lt-suc, le-of-lt, mul-assoc, mul-mul-mul-comm, pow-suc}
 use native.Mathlib.Numerals.{add-one-le}
 use native.Mathlib.Decide.{decLt}
 use native.Mathlib.Omega.{arith}
 use borrow.Author.Tests.{ltb-true, ltb-false}
-use lib.Dec.{ltb}
+use lib.Dec.{ltb, lit<, lit≤}
 use lib.Ieee.{size}
 use lib.Ieee.Digits.{size-lt}
-use Rattle.limits.specs.Limits.{channelLimit, distanceLimit}
-use Rattle.chart.specs.Root.{rootBelow, rootLimit, ceilingRoot}
+use Rattle.limits.specs.Limits.{channelLimit, coordinateLimit, centreLimit, distanceLimit, separationLimit}
+use Rattle.chart.specs.Root.{rootBelow, ceilingRoot, separationRoot, rootLimit}
 
 -- r is the largest whole number whose square is below M
 record Below (M r : ℕ) : Type 0 where
@@ -67,9 +68,14 @@ pub root-is : (M low : ℕ) → low * low < M → M ≤ (low + 1) * (low + 1) �
 root-is M low under reached =
     le-antisymm (add-one-le (below-reaching M low (ceilingRoot M) under (root-reaches M))) (root-smallest M (low + 1) reached)
 
+pub separation-root : ceilingRoot separationLimit ≡ separationRoot
+separation-root = sym (root-is separationLimit (separationRoot - 1) (lit< tt) (lit≤ tt))
+
 pub root-most : (D M : ℕ) → M ≤ distanceLimit D → ceilingRoot M ≤ rootLimit D
 root-most D M h =
-    let side = 2 * (4000 * D) in
-    let e : side ≡ 8000 * D = omega arith in
-    let limit : side * side ≡ 64000000 * (D * D) = ap₂ _*_ e e ∙ mul-mul-mul-comm 8000 D 8000 D in
-    root-smallest M (rootLimit D) (omega (arith, h, mul-assoc channelLimit side side, limit, mul-mul-mul-comm 22628 D 22628 D))
+    let width = 2 * coordinateLimit in
+    let side = 2 * centreLimit D in
+    let e : side ≡ width * D = omega arith in
+    let limit : side * side ≡ width * width * (D * D) = ap₂ _*_ e e ∙ mul-mul-mul-comm width D width D in
+    root-smallest M (rootLimit D)
+    (omega (arith, h, mul-assoc channelLimit side side, limit, mul-mul-mul-comm separationRoot D separationRoot D))

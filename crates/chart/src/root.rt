@@ -5,8 +5,11 @@ ghost use Rattle.limits.specs.Limits.{total, distanceLimit};
 ghost use Rattle.chart.specs.Root.{ceilingRoot, rootLimit};
 use limits::TOTAL;
 
-// a whole number whose square is at least the largest M
-const ROOT_MOST: u64 = 22_628 * TOTAL as u64;
+// the smallest whole number whose square is at least the largest d²: 8 channels of (2 * 4,000)²
+const SEPARATION_ROOT: u64 = 22_628;
+
+// a whole number whose square is at least the largest M, which is D² times that
+const ROOT_MOST: u64 = SEPARATION_ROOT * TOTAL as u64;
 
 // By bisection: the square of `low` is below M, and the square of `high` is not.
 pub fn ceiling_root(scaled_squared_radius: u64) -> u64

@@ -19,7 +19,7 @@ use text::parts::COMMA;
 use text::parts::field_end;
 use text::parts::same_bytes;
 
-// The types of a heading's n channels; n is 0 where the line is no heading.
+// The codes of a heading's n channels; n is 0 where the line is no heading.
 pub struct Heading {
     pub n: usize,
     pub codes: [Code; CHANNELS],
@@ -56,7 +56,7 @@ fn channel_count(field: &[u8]) -> usize
     }
 }
 
-// The types of exactly n tags from `at` on.
+// The codes of exactly n tags from `at` on.
 fn read_tags(line: &[u8], at: usize, n: usize) -> Heading
     requires { ⌜ n ≤ channelLimit ⌝ }
     ensures { λ r. ⌜ r ≡ tagsRead channelTypes n (partsFrom comma (now (line .entry)) at) ⌝ }

@@ -193,10 +193,10 @@ abs-negative (pos n) e = let h : n < 0 = ltb→lt n 0 (subst T (sym e) tt) in ab
 abs-negative (negsuc n) e = refl
 
 -- worked calls: a range test of the code, and the fit of a square
-in-range : (z : ℤ) → leZ (negℤ (pos 4000)) z ≡ true → leZ z (pos 4000) ≡ true → natAbs z ≤ 4000
-in-range z h k = within z 4000 h k
+in-range : (z : ℤ) → leZ (negℤ (pos 1000)) z ≡ true → leZ z (pos 1000) ≡ true → natAbs z ≤ 1000
+in-range z h k = within z 1000 h k
 
-square-back : (a x : ℤ) → natAbs a ≤ 4000 → natAbs x ≤ 4000 → toZ w64 (ofZ w64 ((a -ℤ x) *ℤ (a -ℤ x))) ≡ (a -ℤ x) *ℤ (a -ℤ x)
+square-back : (a x : ℤ) → natAbs a ≤ 1000 → natAbs x ≤ 1000 → toZ w64 (ofZ w64 ((a -ℤ x) *ℤ (a -ℤ x))) ≡ (a -ℤ x) *ℤ (a -ℤ x)
 square-back a x h k =
-    let gap : natAbs (a -ℤ x) ≤ 8000 = omega (arith, abs-sub a x) in
+    let gap : natAbs (a -ℤ x) ≤ 2000 = omega (arith, abs-sub a x) in
     back64 ((a -ℤ x) *ℤ (a -ℤ x)) (omega (arith, abs-mul (a -ℤ x) (a -ℤ x), mul-le-mul gap gap))

@@ -117,8 +117,8 @@ module _ {z d : ℤ} {B : ℕ} (r : Reads z d B) {L v : ℕ} where
   pub given₂ : (f : ℤ → ℤ → ℕ) {y e : ℤ} {C : ℕ} → Reads y e C → Bounded L v (f z y) → Bounded L v (f d e)
   given₂ f s b = subst (Bounded L v) (ap₂ f (r .is) (s .is)) b
 
--- a worked call: the square of (D times a - x) fits an i64, for a within 4,000 and x within 262,144,000 of 0
-square-fits : (a x : ℤ) → Reads a a 4000 → Reads x x 262144000 → SFits w64 ((pos 65536 *ℤ a -ℤ x) *ℤ (pos 65536 *ℤ a -ℤ x))
+-- a worked call: the square of (3 times a - x) fits an i64, for a and x within 1,000 of 0
+square-fits : (a x : ℤ) → Reads a a 1000 → Reads x x 1000 → SFits w64 ((pos 3 *ℤ a -ℤ x) *ℤ (pos 3 *ℤ a -ℤ x))
 square-fits a x r s =
-    let gap = difference (product (number 65536 (le-refl 65536)) r) s in
+    let gap = difference (product (number 3 (le-refl 3)) r) s in
     fits (product gap gap) tt

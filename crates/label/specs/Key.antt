@@ -1,5 +1,7 @@
 -- The number by which the code tells labels apart: the digits 1 to 37 in base 38.
---     labelDigit b      which of the 37 bytes b is, from 1; 0 for any other byte
+--     labelByteCount    how many bytes may stand in a label
+--     keyBase           the base of the numbers
+--     labelDigit b      which of these bytes b is, from 1; 0 for any other byte
 --     keyFrom l k       the number of the bytes l after those of k, 0 where some byte is not of a label
 --     labelKey l        the number by which the code tells labels apart, 0 where l is no label
 use Prim.Native.Nat.{ℕ, zero, suc, _+_, _-_, _*_}
@@ -11,13 +13,21 @@ use Rattle.number.specs.Number.{hyphen, isDigit}
 use Rattle.label.specs.Label.{isLetter}
 use Rattle.limits.specs.Limits.{labelLimit}
 
+-- 26 letters, 10 digits and the hyphen, which is the last
+abbrev pub labelByteCount : ℕ
+labelByteCount = 26 + 10 + 1
+
+-- 0 is the digit of no byte
+abbrev pub keyBase : ℕ
+keyBase = labelByteCount + 1
+
 abbrev pub labelDigit : ℕ → ℕ
-labelDigit b = cond (isLetter b) (b - 64) (cond (isDigit b) (b - 21) (cond (eqb b hyphen) 37 0))
+labelDigit b = cond (isLetter b) (b - 64) (cond (isDigit b) (b - 21) (cond (eqb b hyphen) labelByteCount 0))
 
 -- the key with one more digit, 0 where there is none
 abbrev pub keyAfter : ℕ → (ℕ → ℕ) → ℕ → ℕ
 keyAfter zero further k = 0
-keyAfter (suc d) further k = further (k * 38 + suc d)
+keyAfter (suc d) further k = further (k * keyBase + suc d)
 
 unfoldable pub keyFrom : List ℕ → ℕ → ℕ
 keyFrom [] k = k

@@ -1,9 +1,9 @@
 -- Laws of labels and their keys.
 --     digit-at                         the digit of a byte, by the three tests
---     digit-most                       a digit is at most 37
+--     digit-most                       a digit is at most labelByteCount
 --     key-long, key-short              the key of a field that is too long for a label, and of any other
 --     key-stop, key-further, key-done  the key from an index on, by the digit of the byte there, and at the end
---     digit-below, digit-fits          one digit more is one power of 38 more; no more than a label has are below 38 ^ labelLimit
+--     digit-below, digit-fits          one digit more is one power of keyBase more; no more than a label has are below keyBase ^ labelLimit
 --     key-label                        the key is 0 where the field is no label, and only there
 --     label-short                      a label has at most 12 bytes
 --     label-empty, label-long          a field of no bytes, or of more than 12, is no label
@@ -28,14 +28,14 @@ use Rattle.integers.specs.Tests.{both, clash, neither}
 use Rattle.number.specs.Number.{hyphen, isDigit}
 use Rattle.label.specs.Label.{isLetter, isLabelByte, labelBytes, isLabel}
 use Rattle.limits.specs.Limits.{labelLimit}
-use Rattle.label.specs.Key.{labelDigit, keyAfter, keyFrom, labelKey}
+use Rattle.label.specs.Key.{labelByteCount, keyBase, labelDigit, keyAfter, keyFrom, labelKey}
 
 -- ---- digits
 
 pub digit-at : (b : ℕ) {letter digit dash : Bool} → isLetter b ≡ letter → isDigit b ≡ digit → eqb b hyphen ≡ dash
-    → labelDigit b ≡ cond letter (b - 64) (cond digit (b - 21) (cond dash 37 0))
+    → labelDigit b ≡ cond letter (b - 64) (cond digit (b - 21) (cond dash labelByteCount 0))
 digit-at b p q r =
-    ap₂ (λ x y. cond x (b - 64) y) p (ap₂ (λ x y. cond x (b - 21) y) q (ap (λ x. cond x 37 0) r))
+    ap₂ (λ x y. cond x (b - 64) y) p (ap₂ (λ x y. cond x (b - 21) y) q (ap (λ x. cond x labelByteCount 0) r))
 
 -- the byte of a digit
 byteOf : ℕ → ℕ
@@ -44,7 +44,7 @@ byteOf d = cond (leb d 26) (d + 64) (cond (leb d 36) (d + 21) 45)
 -- d is the digit of the byte b, which stands in labels or does not
 record Read (b d : ℕ) (labelled : Bool) : Type 0 where
   positive : leb 1 d ≡ labelled
-  most : d ≤ 37
+  most : d ≤ labelByteCount
   back : labelled ≡ true → byteOf d ≡ b
 
 digit-read : (b : ℕ) → Read b (labelDigit b) (isLabelByte b)
@@ -52,7 +52,7 @@ unfolding byteOf
 digit-read b = go (isLetter b) (isDigit b) (eqb b hyphen) refl refl refl
   where
     go : (x y z : Bool) → isLetter b ≡ x → isDigit b ≡ y → eqb b hyphen ≡ z
-        → Read b (cond x (b - 64) (cond y (b - 21) (cond z 37 0))) (x || (y || z))
+        → Read b (cond x (b - 64) (cond y (b - 21) (cond z labelByteCount 0))) (x || (y || z))
     go true y z p q r =
         let t = both (leb 65 b) (leb b 90) p in
         let low = leb-true 65 b (t .0) in
@@ -77,7 +77,7 @@ digit-read b = go (isLetter b) (isDigit b) (eqb b hyphen) refl refl refl
     go false false true p q r = record { positive = refl; most = omega arith; back = λ h. sym (eqb-true b 45 r) }
     go false false false p q r = record { positive = refl; most = omega arith; back = λ h. clash h refl }
 
-pub digit-most : (b : ℕ) → labelDigit b ≤ 37
+pub digit-most : (b : ℕ) → labelDigit b ≤ labelByteCount
 digit-most b = digit-read b .most
 
 -- ---- keys
@@ -94,7 +94,7 @@ pub key-done : (f : List ℕ) (i k : ℕ) → length f ≤ i → keyFrom (drop i
 unfolding keyFrom
 key-done f i k h = ap (λ l. keyFrom l k) (drop-of-length-le f h)
 
-after : (d : ℕ) (further : ℕ → ℕ) (k : ℕ) → (d ≡ 0 → ⊥) → keyAfter d further k ≡ further (k * 38 + d)
+after : (d : ℕ) (further : ℕ → ℕ) (k : ℕ) → (d ≡ 0 → ⊥) → keyAfter d further k ≡ further (k * keyBase + d)
 after zero further k h = absurd (h refl)
 after (suc d) further k h = refl
 
@@ -106,28 +106,28 @@ module _ (f : List ℕ) (i k d : ℕ) (h : i < length f) (e : d ≡ labelDigit (
   pub key-stop : d ≡ 0 → keyFrom (drop i f) k ≡ 0
   key-stop z = key-at ∙ ap (λ x. keyAfter x (keyFrom (drop (i + 1) f)) k) z
 
-  pub key-further : (d ≡ 0 → ⊥) → keyFrom (drop i f) k ≡ keyFrom (drop (i + 1) f) (k * 38 + d)
+  pub key-further : (d ≡ 0 → ⊥) → keyFrom (drop i f) k ≡ keyFrom (drop (i + 1) f) (k * keyBase + d)
   key-further n = key-at ∙ after d (keyFrom (drop (i + 1) f)) k n
 
-power-most : (i : ℕ) → i ≤ labelLimit → 38 ^ i ≤ 38 ^ labelLimit
+power-most : (i : ℕ) → i ≤ labelLimit → keyBase ^ i ≤ keyBase ^ labelLimit
 power-most i h = pow-le-pow-right (omega arith) h
 
-pub digit-below : (k i d : ℕ) → k < 38 ^ i → d ≤ 37 → k * 38 + d < 38 ^ (i + 1)
-digit-below k i d h m = omega (arith, ap (λ j. 38 ^ j) (add-one i) ∙ pow-suc 38 i)
+pub digit-below : (k i d : ℕ) → k < keyBase ^ i → d ≤ labelByteCount → k * keyBase + d < keyBase ^ (i + 1)
+digit-below k i d h m = omega (arith, ap (λ j. keyBase ^ j) (add-one i) ∙ pow-suc keyBase i)
 
-pub digit-fits : (k i : ℕ) → k < 38 ^ i → i < labelLimit → k * 38 + 37 < 38 ^ labelLimit
-digit-fits k i h l = omega (arith, power-most (i + 1) (omega arith), digit-below k i 37 h (omega arith))
+pub digit-fits : (k i : ℕ) → k < keyBase ^ i → i < labelLimit → k * keyBase + labelByteCount < keyBase ^ labelLimit
+digit-fits k i h l = omega (arith, power-most (i + 1) (omega arith), digit-below k i labelByteCount h (omega arith))
 
-from-most : (l : List ℕ) (k i : ℕ) → k < 38 ^ i → keyFrom l k < 38 ^ (i + length l)
+from-most : (l : List ℕ) (k i : ℕ) → k < keyBase ^ i → keyFrom l k < keyBase ^ (i + length l)
 unfolding keyFrom
-from-most [] k i h = subst (λ j. k < 38 ^ j) (sym (add-zero i)) h
+from-most [] k i h = subst (λ j. k < keyBase ^ j) (sym (add-zero i)) h
 from-most (b ∷ l) k i h = go (labelDigit b) (digit-most b) (from-most l)
   where
-    go : (d : ℕ) → d ≤ 37 → ((k i : ℕ) → k < 38 ^ i → keyFrom l k < 38 ^ (i + length l)) → keyAfter d (keyFrom l) k < 38 ^ (i + suc (length l))
-    go zero m f = one-le-pow (i + suc (length l)) 38 (omega arith)
+    go : (d : ℕ) → d ≤ labelByteCount → ((k i : ℕ) → k < keyBase ^ i → keyFrom l k < keyBase ^ (i + length l)) → keyAfter d (keyFrom l) k < keyBase ^ (i + suc (length l))
+    go zero m f = one-le-pow (i + suc (length l)) keyBase (omega arith)
     go (suc d) m f =
         let e : i + 1 + length l ≡ i + suc (length l) = omega arith in
-        subst (λ j. keyFrom l (k * 38 + suc d) < 38 ^ j) e (f (k * 38 + suc d) (i + 1) (digit-below k i (suc d) h m))
+        subst (λ j. keyFrom l (k * keyBase + suc d) < keyBase ^ j) e (f (k * keyBase + suc d) (i + 1) (digit-below k i (suc d) h m))
 
 -- ---- which keys are 0
 
@@ -135,7 +135,7 @@ after-positive : (l : List ℕ) (k d : ℕ) (t : Bool) → leb 1 d ≡ t → ((k
     → leb 1 (keyAfter d (keyFrom l) k) ≡ (t && labelBytes l)
 after-positive l k zero t h f = ap (λ s. s && labelBytes l) h
 after-positive l k (suc d) t h f =
-    f (k * 38 + suc d) (omega arith) ∙ ap (λ s. s && labelBytes l) (sym (le-leb 1 (suc d) (omega arith)) ∙ h)
+    f (k * keyBase + suc d) (omega arith) ∙ ap (λ s. s && labelBytes l) (sym (le-leb 1 (suc d) (omega arith)) ∙ h)
 
 from-positive : (l : List ℕ) (k : ℕ) → 1 ≤ k → leb 1 (keyFrom l k) ≡ labelBytes l
 unfolding keyFrom labelBytes
@@ -206,19 +206,19 @@ module _ (f : List ℕ) (i d : ℕ) (h : i < length f) (e : d ≡ labelDigit (ge
 spell : ℕ → ℕ → List ℕ → List ℕ
 spell zero k l = l
 spell (suc n) zero l = l
-spell (suc n) (suc k) l = spell n (suc k / 38) (byteOf (suc k % 38) ∷ l)
+spell (suc n) (suc k) l = spell n (suc k / keyBase) (byteOf (suc k % keyBase) ∷ l)
 
 spell-zero : (n : ℕ) (l : List ℕ) → spell n 0 l ≡ l
 unfolding spell
 spell-zero zero l = refl
 spell-zero (suc n) l = refl
 
-spell-digit : (n k d b : ℕ) (l : List ℕ) → d ≤ 36 → byteOf (suc d) ≡ b → spell (suc n) (k * 38 + suc d) l ≡ spell n k (b ∷ l)
+spell-digit : (n k d b : ℕ) (l : List ℕ) → suc d ≤ labelByteCount → byteOf (suc d) ≡ b → spell (suc n) (k * keyBase + suc d) l ≡ spell n k (b ∷ l)
 unfolding spell
 spell-digit n k d b l h e =
-    let q : suc (k * 38 + d) / 38 ≡ k = omega arith in
-    let r : suc (k * 38 + d) % 38 ≡ suc d = omega arith in
-    ap (λ m. spell (suc n) m l) (add-suc (k * 38) d) ∙ ap₂ (λ x y. spell n x (byteOf y ∷ l)) q r ∙ ap (λ x. spell n k (x ∷ l)) e
+    let q : suc (k * keyBase + d) / keyBase ≡ k = omega arith in
+    let r : suc (k * keyBase + d) % keyBase ≡ suc d = omega arith in
+    ap (λ m. spell (suc n) m l) (add-suc (k * keyBase) d) ∙ ap₂ (λ x y. spell n x (byteOf y ∷ l)) q r ∙ ap (λ x. spell n k (x ∷ l)) e
 
 spell-from : (l : List ℕ) (k n : ℕ) → labelBytes l ≡ true → spell (n + length l) (keyFrom l k) [] ≡ spell n k l
 unfolding keyFrom labelBytes
@@ -233,7 +233,7 @@ spell-from (b ∷ l) k n h =
     go zero r t f = clash t (sym (r .positive))
     go (suc d) r t f =
         let e : n + suc (length l) ≡ suc n + length l = omega arith in
-        ap (λ m. spell m (keyFrom l (k * 38 + suc d)) []) e ∙ f (k * 38 + suc d) (suc n)
+        ap (λ m. spell m (keyFrom l (k * keyBase + suc d)) []) e ∙ f (k * keyBase + suc d) (suc n)
         ∙ spell-digit n k d b l (omega (arith, r .most)) (r .back t)
 
 spell-key : (l : List ℕ) → isLabel l ≡ true → spell labelLimit (labelKey l) [] ≡ l

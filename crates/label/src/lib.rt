@@ -10,6 +10,11 @@ ghost use Rattle.label.specs.Label.{isLabel};
 ghost use Rattle.label.specs.Key.{labelDigit, labelKey};
 use limits::LABEL_MOST;
 
+// how many bytes may stand in a label: 26 letters, 10 digits and the hyphen
+const LABEL_BYTE_COUNT: u64 = 26 + 10 + 1;
+
+const KEY_BASE: u64 = LABEL_BYTE_COUNT + 1;
+
 // Whether a field is short enough for a label.
 fn is_short(field: &[u8]) -> bool
     ensures { λ r. ⌜ r ≡ leb (length (now (field .entry))) labelLimit ⌝ }
@@ -24,7 +29,7 @@ fn label_digit(byte: u8) -> u64
     match byte {
         65..=90 => (byte - 64) as u64,
         48..=57 => (byte - 21) as u64,
-        45 => 37,
+        45 => LABEL_BYTE_COUNT,
         _ => 0,
     }
 }
@@ -43,7 +48,7 @@ pub fn label_key(field: &[u8]) -> u64
         if digit == 0 {
             return 0;
         }
-        key = key * 38 + digit;
+        key = key * KEY_BASE + digit;
         i += 1;
     }
     key

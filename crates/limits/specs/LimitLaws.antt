@@ -1,8 +1,8 @@
 -- The digits of the limits: each limit is below the power of ten that its number of digits says, and not below the one before.
---     channel-digits, row-digits, weight-digits, centre-digits, distance-digits, moves-digits
+--     channel-digits, row-digits, coordinate-digits, weight-digits, centre-digits, distance-digits, moves-digits
 use Prim.Native.Nat.{ℕ, _-_, _^_, _≤_, _<_}
 use lib.Dec.{lit<, lit≤}
-use Rattle.limits.specs.Limits.{total, rowLimit, channelLimit, centreLimit, distanceLimit, budgetLimit, channelDigits, rowDigits, weightDigits, centreDigits, distanceDigits, movesDigits}
+use Rattle.limits.specs.Limits.{total, rowLimit, channelLimit, coordinateLimit, centreLimit, distanceLimit, budgetLimit, channelDigits, rowDigits, coordinateDigits, weightDigits, centreDigits, distanceDigits, movesDigits}
 
 -- limit has so many digits
 pub record Digits (limit digits : ℕ) : Type 0 where
@@ -14,6 +14,9 @@ channel-digits = record { below = lit< tt; least = lit≤ tt }
 
 pub row-digits : Digits rowLimit rowDigits
 row-digits = record { below = lit< tt; least = lit≤ tt }
+
+pub coordinate-digits : Digits coordinateLimit coordinateDigits
+coordinate-digits = record { below = lit< tt; least = lit≤ tt }
 
 pub weight-digits : Digits total weightDigits
 weight-digits = record { below = lit< tt; least = lit≤ tt }

@@ -56,12 +56,15 @@ labelLimit = 12
 abbrev pub tagLimit : ℕ
 tagLimit = 3
 
--- of n, a row, a weight, a place of X, s, and the moves made
+-- of n, a row, a coordinate, a weight, a place of X, s, and the moves made
 abbrev pub channelDigits : ℕ
 channelDigits = 1
 
 abbrev pub rowDigits : ℕ
 rowDigits = 3
+
+abbrev pub coordinateDigits : ℕ
+coordinateDigits = 4
 
 abbrev pub weightDigits : ℕ
 weightDigits = 5

@@ -8,8 +8,8 @@ ghost use Rattle.number.specs.Contracts.{magnitudeLimit, grown, magnitud
 // 10^19: the least number of more than 19 digits
 pub const MAGNITUDE_MOST: u64 = 10_000_000_000_000_000_000;
 
-// below it, one more digit stays below 10^19
-const GROWS_BELOW: u64 = 1_000_000_000_000_000_000;
+// below it, one more digit stays below that
+const GROWS_BELOW: u64 = MAGNITUDE_MOST / 10;
 
 const ZERO: u8 = 48;
 

@@ -1,5 +1,5 @@
 -- The room for a line, and the most bytes of a line whose numbers have so many digits.
---     lineRoom                      room for the printing of a refusal or a verdict
+--     answerRoom                    room for the printing of a refusal or a verdict
 --     refusalMost number line       the most bytes of a refusal
 --     quietMost, alarmMost excess   the most bytes of a Quiet, and of an Alarm
 use Prim.Native.Nat.{ℕ, _+_, _*_}
@@ -8,8 +8,8 @@ use Rattle.printing.specs.Contracts.{fieldRoom}
 use Rattle.program_lines.specs.Lines.{refusalWord, quietWord, alarmWord}
 
 -- a word, which is not longer than a number and its comma may be, two numbers and byte 10
-abbrev pub lineRoom : ℕ
-lineRoom = 3 * fieldRoom + 1
+abbrev pub answerRoom : ℕ
+answerRoom = 3 * fieldRoom + 1
 
 -- a word, a comma before each number, and byte 10
 abbrev pub refusalMost : ℕ → ℕ → ℕ

@@ -4,15 +4,17 @@ ghost use lib.ListN.{length};
 ghost use Rattle.printing.specs.Contracts.{Put};
 ghost use Rattle.reading.specs.Verdict.{verdictExcess};
 ghost use Rattle.program_lines.specs.Lines.{printRefusal, printVerdict};
-ghost use Rattle.program_lines.specs.Contracts.{lineRoom};
+ghost use Rattle.program_lines.specs.Contracts.{answerRoom};
 use printing::FIELD_ROOM;
 use printing::put_line;
 use reading::Verdict;
 
 // room for a line of `NO`, or of a verdict: a word, which is not longer than a number and its comma may be, two numbers and byte 10
-pub const LINE_MOST: usize = 3 * FIELD_ROOM + 1;
+pub const ANSWER_ROOM: usize = 3 * FIELD_ROOM + 1;
 
-const REFUSAL_WORD: [u8; 2] = *b"NO";
+pub const REFUSAL_WORD_BYTES: usize = 2;
+
+const REFUSAL_WORD: [u8; REFUSAL_WORD_BYTES] = *b"NO";
 
 const QUIET_WORD: [u8; 5] = *b"QUIET";
 
@@ -20,8 +22,8 @@ const ALARM_WORD: [u8; 5] = *b"ALARM";
 
 // Prints a refusal from index `at` on, and answers the index after it.
 pub fn put_refusal(out: &mut [u8], at: usize, number: u32, line: u32) -> usize
-    requires { ⌜ at + lineRoom ≤ length (now out) ⌝ }
-    ensures room { λ r. ⌜ r ≤ at + lineRoom ⌝ }
+    requires { ⌜ at + answerRoom ≤ length (now out) ⌝ }
+    ensures room { λ r. ⌜ r ≤ at + answerRoom ⌝ }
     ensures line { λ r. ⌜ Put (printRefusal number line) (now (out .entry)) at (now (out .exit)) r ⌝ }
 {
     let numbers = [number as i64, line as i64];
@@ -30,7 +32,7 @@ pub fn put_refusal(out: &mut [u8], at: usize, number: u32, line: u32) -> usize
 
 // Prints a verdict in the same way.
 pub fn put_verdict(out: &mut [u8], at: usize, verdict: Verdict) -> usize
-    requires { ⌜ (verdictExcess verdict < 2 ^ 63) × (at + lineRoom ≤ length (now out)) ⌝ }
+    requires { ⌜ (verdictExcess verdict < 2 ^ 63) × (at + answerRoom ≤ length (now out)) ⌝ }
     ensures { λ r. ⌜ Put (printVerdict verdict) (now (out .entry)) at (now (out .exit)) r ⌝ }
 {
     match verdict {

@@ -1,8 +1,8 @@
 -- The panel as it is printed, channel by channel.
 --     StepPut, step-put              a tag, a comma and a step, with room for byte 10
---     Steps types steps out₀ ..      the first channels are printed
+--     Steps codes steps out₀ ..      the first channels are printed
 --     steps-start, -next, -done      before the first, after one more, and after the last
---     Shown f steps, shown           the panel of an accepted record: its figures have their types, and its lines are what is owed
+--     Shown f steps, shown           the panel of an accepted record: its figures have n codes, and its lines are what is owed
 use Prim.Native.Nat.{ℕ, _+_, _*_, _^_, _≤_, _<_}
 use mathlib.Core.Path.{_≡_, refl, sym, ap, ap₂, _∙_}
 use mathlib.Core.List.{List, [], _∷_, _++_}
@@ -59,34 +59,34 @@ step-put code step {a = a} {b} {at} {end} {r} room small f g =
     ap (λ (l : List ℕ). l ++ (comma ∷ print step)) (sym (numbers-none tag)) ∙ sym (numbers-more tag [] step) in
     record { within = within; end = omega (arith, g .next, ends .0); line = put-ended (put-as printed is refl) within }
 
-pub record Steps (types : List ℕ) (steps : List ℤ) (n : ℕ) (out₀ out : List ℕ) (from i : ℕ) : Type 0 where
+pub record Steps (codes : List ℕ) (steps : List ℤ) (n : ℕ) (out₀ out : List ℕ) (from i : ℕ) : Type 0 where
   pub within : i ≤ n
   pub most : from ≤ i * stepRoom
-  pub put : Put (printSteps channelTypes (take i types) (take i steps)) out₀ 0 out from
+  pub put : Put (printSteps channelTypes (take i codes) (take i steps)) out₀ 0 out from
 
-module _ (types : List ℕ) (steps : List ℤ) (n : ℕ) where
-  pub steps-start : (out : List ℕ) → Steps types steps n out out 0 0
+module _ (codes : List ℕ) (steps : List ℤ) (n : ℕ) where
+  pub steps-start : (out : List ℕ) → Steps codes steps n out out 0 0
   steps-start out = record { within = omega arith; most = omega arith; put = put-as (put-none out 0) (sym (steps-none channelTypes [])) refl }
 
-  pub steps-next : {out₀ out out′ : List ℕ} {from i r : ℕ} → n ≤ length types → n ≤ length steps → i < n → Steps types steps n out₀ out from i
-      → r ≤ from + stepRoom → Put (printNumbers (tagOf channelTypes (getD types i 0)) (getD steps i (pos 0) ∷ [])) out from out′ r
-      → Steps types steps n out₀ out′ r (i + 1)
+  pub steps-next : {out₀ out out′ : List ℕ} {from i r : ℕ} → n ≤ length codes → n ≤ length steps → i < n → Steps codes steps n out₀ out from i
+      → r ≤ from + stepRoom → Put (printNumbers (tagOf channelTypes (getD codes i 0)) (getD steps i (pos 0) ∷ [])) out from out′ r
+      → Steps codes steps n out₀ out′ r (i + 1)
   steps-next {i = i} typed placed below s room f =
       record {
         within = omega arith;
         most = omega (arith, s .most);
         put =
             put-as (put-then (s .put) f)
-            (steps-more channelTypes (take i types) (take i steps) (getD types i 0) (getD steps i (pos 0))
-            (length-take-le i types (omega arith) ∙ sym (length-take-le i steps (omega arith)))
-            ∙ ap₂ (printSteps channelTypes) (take-next types i 0 (omega arith)) (take-next steps i (pos 0) (omega arith))) refl;
+            (steps-more channelTypes (take i codes) (take i steps) (getD codes i 0) (getD steps i (pos 0))
+            (length-take-le i codes (omega arith) ∙ sym (length-take-le i steps (omega arith)))
+            ∙ ap₂ (printSteps channelTypes) (take-next codes i 0 (omega arith)) (take-next steps i (pos 0) (omega arith))) refl;
       }
 
-  pub steps-done : {out₀ out : List ℕ} {from i : ℕ} → n ≤ i → Steps types steps n out₀ out from i
-      → Put (printSteps channelTypes (take n types) (take n steps)) out₀ 0 out from
+  pub steps-done : {out₀ out : List ℕ} {from i : ℕ} → n ≤ i → Steps codes steps n out₀ out from i
+      → Put (printSteps channelTypes (take n codes) (take n steps)) out₀ 0 out from
   steps-done {i = i} h s =
       let all : i ≡ n = omega (arith, s .within) in
-      put-as (s .put) (ap (λ (k : ℕ). printSteps channelTypes (take k types) (take k steps)) all) refl
+      put-as (s .put) (ap (λ (k : ℕ). printSteps channelTypes (take k codes) (take k steps)) all) refl
 
 pub record Shown (f : Figures) (steps : List ℤ) : Type 0 where
   pub channels : f .n ≤ channelLimit

@@ -143,10 +143,10 @@ module _ (D limit : ℕ) (types : Types) (types-sound : SoundTypes types) where
     pub accepted-cleared : cleared e ≡ e
     accepted-cleared =
         let r = a .stated in
-        let types-are : padded channelLimit (take (length (r .codes)) (padded channelLimit (r .codes))) ≡ padded channelLimit (r .codes) =
+        let codes-are : padded channelLimit (take (length (r .codes)) (padded channelLimit (r .codes))) ≡ padded channelLimit (r .codes) =
         ap (padded channelLimit) (padded-take channelLimit (r .codes) (printed .0 .heading .channels)) in
         ap cleared (a .envelope-is)
-        ∙ ap₂ of types-are ball-cleared
+        ∙ ap₂ of codes-are ball-cleared
         ∙ sym (a .envelope-is)
       where
         of : List ℕ → Ball → Envelope

@@ -75,7 +75,7 @@ fn read_weights(text: &[u8], at: usize, weights: &mut [u32]) -> u32
     0
 }
 
-// What a record states from `at` of the text on, which is line 3: the `R` line and the `W` lines. n, the types and X are those of
+// What a record states from `at` of the text on, which is line 3: the `R` line and the `W` lines. n, the codes and X are those of
 // the lines before.
 fn read_after_centre(
     text: &[u8],

@@ -32,7 +32,7 @@ use Rattle.record_lines.specs.Lines.{recordWord, centreWord, resultWord, weight
 use Rattle.record_form.specs.Record.{printRecord}
 use Rattle.record_form.specs.Weights.{listed}
 use Rattle.record_print.specs.Printed.{resultFor, recordOf}
-use Rattle.record_print.specs.Contracts.{weightLines, lineRoom, resultRoom, recordRoom, Printing}
+use Rattle.record_print.specs.Contracts.{weightLines, numbersRoom, resultRoom, recordRoom, Printing}
 use Rattle.record_print.specs.PrintedLaws.{result-numbers, result-length, weight-length, linesFrom, record-lines, heading-most}
 
 -- a line that is printed, with room for its byte 10
@@ -62,7 +62,7 @@ module _ {out out′ : List ℕ} {at r : ℕ} where
 
   module _ (M L moves : ℕ) (below : Below (2 ^ 63) (M ∷ L ∷ moves ∷ [])) where
     pub numbers-put : Put (numbersAfter resultWord (map (toZ w64) (M ∷ L ∷ moves ∷ []))) out at out′ r
-        → (r < at + lineRoom resultWord 3) × Put (numbersAfter resultWord (map pos (M ∷ L ∷ moves ∷ []))) out at out′ r
+        → (r < at + numbersRoom resultWord 3) × Put (numbersAfter resultWord (map pos (M ∷ L ∷ moves ∷ []))) out at out′ r
     numbers-put f =
         let ns = M ∷ L ∷ moves ∷ [] in
         let printed : Put (numbersAfter resultWord (map pos ns)) out at out′ r = put-as f (ap (numbersAfter resultWord) (held-signed ns below)) refl in
@@ -101,7 +101,7 @@ lines-more row (suc w) weights h = sym (append-snoc (printWeight (record { row =
 -- before turn i of the walk over the weights: what is printed so far and the lines from the next row on are the whole
 pub record WeightsSoFar (weights out₀ : List ℕ) (at : ℕ) (out : List ℕ) (from i : ℕ) : Type 0 where
   pub within : i ≤ length weights
-  pub room : from ≤ at + i * lineRoom weightWord 2
+  pub room : from ≤ at + i * numbersRoom weightWord 2
   pub printed : List ℕ
   pub put : Put printed out₀ at out from
   pub continues : printed ++ linesFrom (suc i) (drop i weights) ≡ weightLines weights

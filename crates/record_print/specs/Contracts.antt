@@ -1,7 +1,7 @@
 -- What the functions that print a record ask and write. A number may take the room of the largest that a record states, whatever its
 -- own limit.
 --     weightLines weights                            the `W` lines of a record, each with its byte 10
---     lineRoom word count                            room for a line of a word and so many numbers, with its byte 10
+--     numbersRoom word count                         room for a line of a word and so many numbers, with its byte 10
 --     resultRoom                                     room for an `R` line
 --     centreStart, resultStart, weightsStart         where the lines after the heading start at most
 --     recordRoom rows                                room for a record of so many rows
@@ -10,13 +10,14 @@ use Prim.Native.Nat.{ℕ, _+_, _*_, _≤_, _<_, _^_}
 use mathlib.Core.List.{List, map}
 use lib.IntN.{natAbs}
 use lib.ListN.{length}
-use Rattle.limits.specs.Limits.{rowLimit, channelLimit, distanceDigits}
+use Rattle.limits.specs.Limits.{rowLimit, channelLimit}
 use Rattle.geometry.specs.Places.{centreOf}
 use Rattle.text.specs.Lines.{printLines}
+use Rattle.printing.specs.Contracts.{fieldRoom}
 use Rattle.envelope.specs.declared.Figures.{Figures}
 use Rattle.record_lines.specs.Lines.{recordWord, centreWord, resultWord, weightWord, printWeight}
 use Rattle.record_form.specs.Weights.{listed}
-use Rattle.record_print.specs.Printed.{unsignedMost, signedMost}
+use Rattle.record_print.specs.Printed.{unsignedMost}
 use Rattle.heading.specs.Contracts.{headingMost}
 
 unfoldable pub weightLines : List ℕ → List ℕ
@@ -24,24 +25,24 @@ weightLines weights = printLines (map printWeight (listed 1 weights))
 
 -- ---- room
 
-abbrev pub lineRoom : List ℕ → ℕ → ℕ
-lineRoom word count = length word + count * signedMost distanceDigits + 1
+abbrev pub numbersRoom : List ℕ → ℕ → ℕ
+numbersRoom word count = length word + count * fieldRoom + 1
 
 -- three numbers and a letter
 abbrev pub resultRoom : ℕ
-resultRoom = lineRoom resultWord 3 + unsignedMost 1
+resultRoom = numbersRoom resultWord 3 + unsignedMost 1
 
 abbrev pub centreStart : ℕ
 centreStart = headingMost recordWord channelLimit + 1
 
 abbrev pub resultStart : ℕ
-resultStart = centreStart + lineRoom centreWord channelLimit
+resultStart = centreStart + numbersRoom centreWord channelLimit
 
 abbrev pub weightsStart : ℕ
 weightsStart = resultStart + resultRoom
 
 abbrev pub recordRoom : ℕ → ℕ
-recordRoom rows = weightsStart + rows * lineRoom weightWord 2
+recordRoom rows = weightsStart + rows * numbersRoom weightWord 2
 
 -- ---- what can be printed
 

@@ -39,7 +39,7 @@ use Rattle.record_form.specs.Record.{Record, printRecord}
 use Rattle.record_form.specs.Weights.{listed}
 use Rattle.record_print.specs.Printed.{resultFor, recordOf, unsignedMost, signedMost, centreMost, resultMost, weightMost}
 use Rattle.heading.specs.Contracts.{headingMost}
-use Rattle.record_print.specs.Contracts.{lineRoom, resultRoom, centreStart, recordRoom, Printing}
+use Rattle.record_print.specs.Contracts.{numbersRoom, resultRoom, centreStart, recordRoom, Printing}
 
 -- ---- the lines, for numbers of so many digits
 
@@ -182,7 +182,7 @@ result-below M L moves radius floor made =
     below-more most M (L ∷ moves ∷ []) radius (below-more most L (moves ∷ []) floor (below-more most moves [] made (below-none most)))
 
 module _ (M L moves : ℕ) (below : Below (2 ^ 63) (M ∷ L ∷ moves ∷ [])) where
-  pub result-numbers : length (numbersAfter resultWord (pos M ∷ pos L ∷ pos moves ∷ [])) < lineRoom resultWord 3
+  pub result-numbers : length (numbersAfter resultWord (pos M ∷ pos L ∷ pos moves ∷ [])) < numbersRoom resultWord 3
   result-numbers =
       omega (
         arith,
@@ -194,7 +194,7 @@ module _ (M L moves : ℕ) (below : Below (2 ^ 63) (M ∷ L ∷ moves ∷ [])) w
   result-length settled = omega (arith, result-ended M L moves settled, result-numbers)
 
 pub weight-length : (row weight : ℕ) → Below (2 ^ 63) (row ∷ weight ∷ [])
-    → length (printWeight (record { row = row; weight = weight })) < lineRoom weightWord 2
+    → length (printWeight (record { row = row; weight = weight })) < numbersRoom weightWord 2
 weight-length row weight below =
     omega (
       arith,
@@ -206,7 +206,7 @@ module _ (f : Figures) (weights : List ℕ) (p : Printing f weights) where
   pub heading-most : (types : Types) → ShortTags types → length (printHeading recordWord types (channelCodes f)) < centreStart
   heading-most types short = omega (arith, p .channels, heading-short f types short (p .channels) (p .typed))
 
-  pub centre-most : length (printCentre (recordOf f weights .scaledCentre)) < lineRoom centreWord channelLimit
+  pub centre-most : length (printCentre (recordOf f weights .scaledCentre)) < numbersRoom centreWord channelLimit
   centre-most =
       omega (
         arith,

@@ -11,7 +11,7 @@ ghost use Rattle.channel.specs.Channel.{channelTypes};
 ghost use Rattle.record_lines.specs.Lines.{centreWord, weightWord, printCentre, printResult, printWeight};
 ghost use Rattle.record_form.specs.Record.{printRecord};
 ghost use Rattle.record_print.specs.Printed.{resultFor, recordOf};
-ghost use Rattle.record_print.specs.Contracts.{weightLines, lineRoom, resultRoom, recordRoom, Printing};
+ghost use Rattle.record_print.specs.Contracts.{weightLines, numbersRoom, resultRoom, recordRoom, Printing};
 use envelope::Figures;
 use heading::put_heading;
 use printing::put_bytes;
@@ -29,7 +29,7 @@ use text::parts::LINE_END;
 // `C` and X, with its byte 10.
 fn put_centre(out: &mut [u8], at: usize, scaled_centre: &[i64], n: usize) -> usize
     requires { ⌜ (n ≤ length (now «scaled_centre»)) × (((k : ℕ) → k < n → natAbs (getD (now «scaled_centre») k (pos 0)) < 2 ^ 63)
-        × (at + lineRoom centreWord n ≤ length (now out))) ⌝ }
+        × (at + numbersRoom centreWord n ≤ length (now out))) ⌝ }
     ensures { λ r.
         ⌜ Put (printCentre (take n (now («scaled_centre» .entry))) ++ (lineEnd ∷ [])) (now (out .entry)) at (now (out .exit)) r ⌝ }
 {
@@ -69,7 +69,7 @@ fn put_result(
 
 // `W`, row and weight, with its byte 10.
 fn put_weight(out: &mut [u8], at: usize, row: usize, weight: u32) -> usize
-    requires { ⌜ (row ≤ rowLimit) × (at + lineRoom weightWord 2 ≤ length (now out)) ⌝ }
+    requires { ⌜ (row ≤ rowLimit) × (at + numbersRoom weightWord 2 ≤ length (now out)) ⌝ }
     ensures { λ r.
         ⌜ Put (printWeight (record { row = row; weight = weight }) ++ (lineEnd ∷ [])) (now (out .entry)) at (now (out .exit)) r ⌝ }
 {
@@ -79,7 +79,7 @@ fn put_weight(out: &mut [u8], at: usize, row: usize, weight: u32) -> usize
 
 // The `W` lines of the weights above 0.
 fn put_weights(out: &mut [u8], at: usize, weights: &[u32]) -> usize
-    requires { ⌜ (length (now weights) ≤ rowLimit) × (at + length (now weights) * lineRoom weightWord 2 ≤ length (now out)) ⌝ }
+    requires { ⌜ (length (now weights) ≤ rowLimit) × (at + length (now weights) * numbersRoom weightWord 2 ≤ length (now out)) ⌝ }
     ensures { λ r. ⌜ Put (weightLines (now (weights .entry))) (now (out .entry)) at (now (out .exit)) r ⌝ }
 {
     let mut from = at;

@@ -84,7 +84,7 @@ fn agreed(rows: &[i32], m: usize, n: usize, codes: &[Code], stated: Stated) -> E
     }
 }
 
-// Reads a record against the first m rows of n channels and the first n codes of types. Refused: 8, 1, 11, 12.
+// Reads a record against the first m rows of n channels and the first n codes. Refused: 8, 1, 11, 12.
 pub fn read(rows: &[i32], m: usize, n: usize, codes: &[Code], text: &[u8]) -> EnvelopeRead
     ensures { λ r.
         ⌜ r ≡ recordRead total rowLimit channelTypes (now (rows .entry)) m n (now (codes .entry)) (now (text .entry)) ⌝ }

@@ -31,7 +31,7 @@ use record_print::print_record;
 
 // The most bytes of a heading, of a `C`, an `R` and a `W` line, each with its byte 10, and of a record that is written. Each field is a
 // comma and a tag, a number of so many digits (those of X after a hyphen), or a letter.
-const HEADING_MOST: usize = RECORD_WORD_BYTES
+const HEADING_LINE_MOST: usize = RECORD_WORD_BYTES
     + (1 + CHANNEL_DIGITS)
     + CHANNELS * (1 + TAG_MOST)
     + 1;
@@ -46,13 +46,13 @@ const RESULT_LINE_MOST: usize = LINE_WORD_BYTES
 
 const WEIGHT_LINE_MOST: usize = LINE_WORD_BYTES + (1 + ROW_DIGITS) + (1 + WEIGHT_DIGITS) + 1;
 
-pub const RECORD_MOST: usize = HEADING_MOST
+pub const RECORD_MOST: usize = HEADING_LINE_MOST
     + CENTRE_LINE_MOST
     + RESULT_LINE_MOST
     + ROWS * WEIGHT_LINE_MOST;
 
 // Room for the printing of every record: a number may take a hyphen and as many digits as the largest.
-const RECORD_ROOM: usize = HEADING_MOST
+const RECORD_ROOM: usize = HEADING_LINE_MOST
     + (LINE_WORD_BYTES + CHANNELS * FIELD_ROOM + 1)
     + (LINE_WORD_BYTES + 3 * FIELD_ROOM + (1 + LETTER_BYTES) + 1)
     + ROWS * (LINE_WORD_BYTES + 2 * FIELD_ROOM + 1);

@@ -11,6 +11,7 @@ use case_io::two_bytes;
 use channel::Code;
 use libc::STDIN_FILENO;
 use limits::CHANNELS;
+use limits::COORDINATE_MOST;
 use limits::PLACES;
 use reference::read::Part;
 use reference::read::Reference;
@@ -21,13 +22,16 @@ use reference::read::read;
 const INPUT_MOST: usize = 200_000;
 
 // What stands in a place of the table before a call. No value reads as this.
-const UNTOUCHED: i32 = -4000;
+const UNTOUCHED: i32 = -COORDINATE_MOST;
 
-// A number of the table with 4,000 added.
+// What is added to a number of the table.
+const RAISED_BY: i64 = COORDINATE_MOST as i64;
+
+// A number of the table with this added.
 fn raised_number(number: i32) -> u64
     ensures { λ r. ⌜ r < 4294967296 ⌝ }
 {
-    raised(number as i64, 4000)
+    raised(number as i64, RAISED_BY)
 }
 
 fn widened(code: Code) -> u64
@@ -36,7 +40,7 @@ fn widened(code: Code) -> u64
     code as u64
 }
 
-// The sum of place times (number there + 4,000), as the sum of the sums from each place on.
+// The sum of place times (number there + RAISED_BY), as the sum of the sums from each place on.
 fn table_digest(table: &[i32; PLACES]) -> u64 {
     let mut sum: u64 = 0;
     let mut tail: u64 = 0;

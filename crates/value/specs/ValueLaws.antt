@@ -7,7 +7,7 @@
 --     reads-most        which is within 4,000 of 0
 --     valueLimit        the most bytes of a value within the range of its type
 --     value-short       such a value is printed in at most so many
-use Prim.Native.Nat.{ℕ, suc, _≤_, _<_}
+use Prim.Native.Nat.{ℕ, suc, _+_, _≤_, _<_}
 use mathlib.Core.Path.{_≡_, refl, sym, ap, ap₂, _∙_}
 use mathlib.Core.Bool.{Bool, true, false, not, cond, _&&_, and-false}
 use mathlib.Core.List.{List, [], _∷_}
@@ -27,7 +27,7 @@ use Rattle.number.specs.NumberLaws.{plain-print, print-plain, print-free, print
 use Rattle.channel.specs.Channel.{Types, typeOf}
 use Rattle.channel.specs.Contracts.{rangeOf}
 use Rattle.channel.specs.ChannelLaws.{SoundTypes, range-within, range-zero}
-use Rattle.limits.specs.Limits.{coordinateLimit}
+use Rattle.limits.specs.Limits.{coordinateLimit, coordinateDigits}
 use Rattle.value.specs.Value.{Written, number, below, lessThan, valueOf, valueInRange, reads, printValue}
 
 -- ---- printing
@@ -89,13 +89,14 @@ between low high z ends h = go (decLe (natAbs z) coordinateLimit)
     go (yes k) = k
     go (no k) = clash h (far-outside low high z (omega (arith, ends)) (omega (arith, ends)))
 
+-- a hyphen or `<`, and as many digits as the largest coordinate has
 abbrev pub valueLimit : ℕ
-valueLimit = 5
+valueLimit = 1 + coordinateDigits
 
 -- `<` stands before a number without a hyphen
 below-short : (z : ℤ) → leZ (pos 1) z ≡ true → natAbs z ≤ coordinateLimit → length (lessThan ∷ print z) ≤ valueLimit
 unfolding print
-below-short (pos n) h k = omega (arith, magnitude-short 4 n (omega arith) (omega arith))
+below-short (pos n) h k = omega (arith, magnitude-short coordinateDigits n (omega arith) (omega arith))
 below-short (negsuc i) h k = clash h refl
 
 module _ (types : Types) (sound : SoundTypes types) (code : ℕ) where
@@ -111,7 +112,7 @@ module _ (types : Types) (sound : SoundTypes types) (code : ℕ) where
 
   pub value-short : (v : Written) → valueInRange (rangeOf types code) v ≡ true → length (printValue v) ≤ valueLimit
   unfolding printValue
-  value-short (number z) h = print-short 4 z (omega arith) (omega (arith, reads-most (number z) h))
+  value-short (number z) h = print-short coordinateDigits z (omega arith) (omega (arith, reads-most (number z) h))
   value-short (below z) h =
       below-short z (both (leZ (pos 1) z) (leZ z (typeOf types code .high)) h .0)
       (between (pos 1) (typeOf types code .high) z (omega arith, range-within types sound code .1) h)

@@ -4,13 +4,11 @@ ghost use mathlib.Core.Path.{_≡_};
 ghost use Rattle.value.specs.Value.{inRange, valueRead};
 ghost use Rattle.value.specs.Contracts.{RangeWithin, plainUnder, belowUnder};
 use channel::Range;
+use limits::COORDINATE_MOST;
 use number::Plain;
 use number::plain_number;
 
 const LESS_THAN: u8 = 60;
-
-// no range has a number as far from 0 as this
-const OUTSIDE_ALL: u64 = 1_000_000;
 
 // What a value field holds.
 pub enum Value {
@@ -40,7 +38,7 @@ fn plain_value(number: Plain, range: Range) -> Value
             negative,
             magnitude,
         } => {
-            if OUTSIDE_ALL <= magnitude {
+            if (COORDINATE_MOST as u64) < magnitude {
                 return Value::OutOfRange;
             }
             let size = magnitude as i32;

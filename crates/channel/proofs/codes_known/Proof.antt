@@ -12,10 +12,10 @@ use Rattle.channel.proofs.codes_known.Statement.{statement}
 use Rattle.channel.proofs.codes_known.Tie as tie
 
 abbrev Inv-loop : tie.InvT-loop
-Inv-loop types n i₀ i = (i ≤ n) × (codesKnown channelTypes (take i types) ≡ true)
+Inv-loop codes n i₀ i = (i ≤ n) × (codesKnown channelTypes (take i codes) ≡ true)
 
 abbrev μ-loop : tie.MeasureT-loop
-μ-loop types n i₀ i = n - i
+μ-loop codes n i₀ i = n - i
 
 loop-holds : tie.Need-loop-holds Inv-loop μ-loop
 unfolding codesKnown

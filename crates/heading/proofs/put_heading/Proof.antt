@@ -23,11 +23,11 @@ use Rattle.heading.proofs.put_heading.Statement.{statement}
 use Rattle.heading.proofs.put_heading.Tie as tie
 
 abbrev Inv-loop : tie.InvT-loop
-Inv-loop out₀ at word types n from₀ i₀ out from i =
-    (i ≤ n) × (from ≤ at + headingRoom word i) × Put (tagsAfter channelTypes (take i types)) out₀ from₀ out from
+Inv-loop out₀ at word codes n from₀ i₀ out from i =
+    (i ≤ n) × (from ≤ at + headingRoom word i) × Put (tagsAfter channelTypes (take i codes)) out₀ from₀ out from
 
 abbrev μ-loop : tie.MeasureT-loop
-μ-loop out₀ at word types n from₀ i₀ out from i = n - i
+μ-loop out₀ at word codes n from₀ i₀ out from i = n - i
 
 -- n is the only number after the word
 alone : (limit n : ℕ) → n < limit → Below limit (n ∷ [])
@@ -41,14 +41,14 @@ counted n h word f =
     (omega (arith, printed .next, numbers-short numberDigits word (pos n ∷ []) (omega arith) (below-signed (10 ^ numberDigits) (n ∷ []) (alone (10 ^ numberDigits) n (omega arith)))), printed)
 
 -- one tag more, after a comma
-tag-more : (types : List ℕ) (i : ℕ) → i < length types → {out₀ out out′ : List ℕ} {from₀ from r : ℕ} → from < length out
-    → Put (tagsAfter channelTypes (take i types)) out₀ from₀ out from
-    → Put (tagOf channelTypes (getD types i 0)) (set out from comma) (from + 1) out′ r
-    → (r ≤ from + tagRoom) × Put (tagsAfter channelTypes (take (i + 1) types)) out₀ from₀ out′ r
-tag-more types i h {out} {from = from} within f p = (
-  omega (arith, p .next, type-short channelTypes house-short (getD types i 0)),
+tag-more : (codes : List ℕ) (i : ℕ) → i < length codes → {out₀ out out′ : List ℕ} {from₀ from r : ℕ} → from < length out
+    → Put (tagsAfter channelTypes (take i codes)) out₀ from₀ out from
+    → Put (tagOf channelTypes (getD codes i 0)) (set out from comma) (from + 1) out′ r
+    → (r ≤ from + tagRoom) × Put (tagsAfter channelTypes (take (i + 1) codes)) out₀ from₀ out′ r
+tag-more codes i h {out} {from = from} within f p = (
+  omega (arith, p .next, type-short channelTypes house-short (getD codes i 0)),
   put-as (put-then f (put-then (put-byte out from comma within) p))
-      (tags-more channelTypes (take i types) (getD types i 0) ∙ ap (tagsAfter channelTypes) (take-next types i 0 h)) refl,
+      (tags-more channelTypes (take i codes) (getD codes i 0) ∙ ap (tagsAfter channelTypes) (take-next codes i 0 h)) refl,
 )
 
 cast-t9 : tie.Need-cast-t9 Inv-loop μ-loop

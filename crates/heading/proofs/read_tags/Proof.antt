@@ -14,11 +14,11 @@ use Rattle.heading.proofs.read_tags.Statement.{statement}
 use Rattle.heading.proofs.read_tags.Tie as tie
 
 abbrev Inv-loop : tie.InvT-loop
-Inv-loop line at n types₀ from₀ i₀ types from i =
-    TagsSoFar channelTypes n (partsFrom comma line at) (partsFrom comma line from) types i
+Inv-loop line at n codes₀ from₀ i₀ codes from i =
+    TagsSoFar channelTypes n (partsFrom comma line at) (partsFrom comma line from) codes i
 
 abbrev μ-loop : tie.MeasureT-loop
-μ-loop line at n types₀ from₀ i₀ types from i = n - i
+μ-loop line at n codes₀ from₀ i₀ codes from i = n - i
 
 loop-holds : tie.Need-loop-holds Inv-loop μ-loop
 unfolding padded

@@ -6,13 +6,13 @@ use native.Mathlib.Omega.{arith}
 use borrow.Author.Tests.{leb-true, not-true, not-false}
 use lib.ListN.{length, getD, drop}
 use Rattle.limits.specs.Limits.{labelLimit}
-use Rattle.label.specs.Key.{keyFrom, labelKey}
+use Rattle.label.specs.Key.{keyBase, keyFrom, labelKey}
 use Rattle.label.specs.LabelLaws.{digit-most, key-long, key-short, key-stop, key-further, key-done, digit-below, digit-fits}
 use Rattle.label.proofs.label_key.Statement.{statement}
 use Rattle.label.proofs.label_key.Tie as tie
 
 abbrev Inv-loop : tie.InvT-loop
-Inv-loop field key₀ i₀ key i = (i ≤ length field) × (length field ≤ labelLimit) × (labelKey field ≡ keyFrom (drop i field) key) × (key < 38 ^ i)
+Inv-loop field key₀ i₀ key i = (i ≤ length field) × (length field ≤ labelLimit) × (labelKey field ≡ keyFrom (drop i field) key) × (key < keyBase ^ i)
 
 abbrev μ-loop : tie.MeasureT-loop
 μ-loop field key₀ i₀ key i = length field - i

@@ -15,10 +15,10 @@ use Rattle.program_panel.proofs.put_steps.Statement.{statement}
 use Rattle.program_panel.proofs.put_steps.Tie as tie
 
 abbrev Inv-loop : tie.InvT-loop
-Inv-loop out₀ types steps n from₀ i₀ out from i = Steps types steps n out₀ out from i
+Inv-loop out₀ codes steps n from₀ i₀ out from i = Steps codes steps n out₀ out from i
 
 abbrev μ-loop : tie.MeasureT-loop
-μ-loop out₀ types steps n from₀ i₀ out from i = n - i
+μ-loop out₀ codes steps n from₀ i₀ out from i = n - i
 
 loop-holds : tie.Need-loop-holds Inv-loop μ-loop
 loop-holds c = steps-start _ _ _ _

@@ -24,11 +24,11 @@ use Rattle.reading_line.proofs.read_pairs.Statement.{statement}
 use Rattle.reading_line.proofs.read_pairs.Tie as tie
 
 abbrev Inv-loop : tie.InvT-loop
-Inv-loop line at types n places₀ from₀ tags-agree₀ out-of-range₀ i₀ places from tags-agree out-of-range i =
-    PairsSoFar channelTypes (take n types) (partsFrom comma line at) (partsFrom comma line from) places₀ places tags-agree out-of-range i
+Inv-loop line at codes n places₀ from₀ tags-agree₀ out-of-range₀ i₀ places from tags-agree out-of-range i =
+    PairsSoFar channelTypes (take n codes) (partsFrom comma line at) (partsFrom comma line from) places₀ places tags-agree out-of-range i
 
 abbrev μ-loop : tie.MeasureT-loop
-μ-loop line at types n places₀ from₀ tags-agree₀ out-of-range₀ i₀ places from tags-agree out-of-range i = n - i
+μ-loop line at codes n places₀ from₀ tags-agree₀ out-of-range₀ i₀ places from tags-agree out-of-range i = n - i
 
 loop-holds : tie.Need-loop-holds Inv-loop μ-loop
 loop-holds c =

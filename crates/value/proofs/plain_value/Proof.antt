@@ -1,16 +1,17 @@
--- `value::plain_value` meets its contract: a magnitude of a million or more is far from every range; a smaller one is read as a whole
+-- `value::plain_value` meets its contract: a magnitude above the limit on coordinates is outside every range; any other is read as a whole
 -- number, which is tested.
 use borrow.Author.Needs.{needs}
 use mathlib.Core.Path.{_≡_, sym, ap, ap₂, subst, _∙_}
 use mathlib.Core.Bool.{Bool, true, false, cond}
 use mathlib.Core.Logic.{⊎-elim}
-use Prim.Native.Nat.{ℕ, _<_}
+use Prim.Native.Nat.{ℕ, _≤_}
 use native.Mathlib.Omega.{arith}
 use lib.IntN.{ℤ, pos, negℤ, _-ℤ_, +ℤ-idl}
 use mir.Syntax.{w32}
 use mir.Val.{SFits, toZ, ofZ}
 use mir.Facts.{toZ-ofZ, toZ-pos}
 use Rattle.integers.specs.Absolute.{abs-neg, fits32}
+use Rattle.limits.specs.Limits.{coordinateLimit}
 use Rattle.value.specs.Value.{inRange}
 use Rattle.value.specs.Contracts.{signed, plainUnder}
 use Rattle.value.specs.ContractLaws.{far-away, signed-abs}
@@ -19,7 +20,7 @@ use Rattle.value.proofs.plain_value.Statement.{statement}
 use Rattle.value.proofs.plain_value.Tie as tie
 
 -- the whole number of a small magnitude, as the code makes it
-module _ (n : ℕ) (small : n < 1000000) where
+module _ (n : ℕ) (small : n ≤ coordinateLimit) where
   opposite : pos 0 -ℤ toZ w32 n ≡ negℤ (pos n)
   opposite = ap (λ z. pos 0 -ℤ z) (toZ-pos w32 {n = n} (omega arith)) ∙ +ℤ-idl (negℤ (pos n))
 
@@ -37,6 +38,9 @@ enum-told c = search needs
 
 enum-known-number : tie.Need-enum-known-number
 enum-known-number c = search needs
+
+cast-if1 : tie.Need-cast-if1
+cast-if1 c = search needs
 
 returns : tie.Need-returns
 returns c =
@@ -88,6 +92,7 @@ plain-value-spec =
     (tie.spec
     enum-told
     enum-known-number
+    cast-if1
     returns
     cast-size
     sub-whole
