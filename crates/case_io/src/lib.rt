@@ -3,7 +3,8 @@
 ghost use mathlib.Core.Path.{_≡_};
 ghost use Prim.Native.Nat.{_<_};
 ghost use lib.IntN.{natAbs};
-ghost use Rattle.case_io.specs.Numbers.{byteAt, TwoBytes, fourBytes, Least, Raised};
+ghost use Rattle.case_io.specs.Numbers.{byteAt, fourBytes};
+ghost use Rattle.case_io.specs.Contracts.{TwoBytes, Least, Raised};
 use libc::STDOUT_FILENO;
 
 // The byte at this index.

@@ -9,7 +9,7 @@
 --     known types code          there is a type with this code
 --     codesKnown types codes    each of these is the code of a type
 --     codeIn, typeIn, knownIn   the same of a list of types
---     listed list               the table with the types of a list
+--     typesOf list              the table with the types of a list
 --     houseTypes, channelTypes  document 01's types, and the table of them
 --     houseCount                how many they are
 use Prim.Native.Nat.{ℕ}
@@ -68,8 +68,8 @@ unfoldable pub knownIn : List ChannelType → ℕ → Bool
 knownIn [] code = false
 knownIn (t ∷ list) code = eqb (t .code) code || knownIn list code
 
-abbrev pub listed : List ChannelType → Types
-listed list = record { code-of-tag = codeIn list; type-of-code = typeIn list; is-known = knownIn list }
+abbrev pub typesOf : List ChannelType → Types
+typesOf list = record { code-of-tag = codeIn list; type-of-code = typeIn list; is-known = knownIn list }
 
 -- the tags are TOC, TC, IC, CND, TMP, PH, FLW, ORP; the step is left out, since no rule uses it
 unfoldable pub houseTypes : List ChannelType
@@ -88,4 +88,4 @@ abbrev pub houseCount : ℕ
 houseCount = 8
 
 abbrev pub channelTypes : Types
-channelTypes = listed houseTypes
+channelTypes = typesOf houseTypes

@@ -1,11 +1,13 @@
 -- Laws of tables of channel types, for any table that is sound; a list of types gives a sound table where it passes a test which is computed.
 --     soundRange t              the type's range has 0 and reaches no farther from it than a coordinate may
 --     soundType t               the type's code is above 0, its tag is a label, its range is sound
---     Found                     the type of a code is a sound type with this code, or there is none
+--     FoundType                 the type of a code is a sound type with this code, or there is none
 --     SoundTypes types          each type is sound, a code has one tag, and a tag one code
---     listed-code-of            the code of a tag in the table of a list is that in the list
---     listed-sound              the table of a list that passes the test is sound
+--     typesOf-code              the code of a tag in the table of a list is that in the list
+--     typesOf-sound             the table of a list that passes the test is sound
 --     house-sound               document 01's table is
+--     house-TOC, house-CND      the tags of codes 1 and 4 in it
+--     house-TMP                 code 5 is known in it
 --     known-code                the code that a tag has is known
 --     known-type                a code is known where its type has a code above 0
 --     known-some                a known code is above 0
@@ -31,7 +33,7 @@ use Rattle.lists.specs.Each.{Each, each-head, each-tail}
 use Rattle.text.specs.PartsLaws.{same-refl, same-eq}
 use Rattle.label.specs.Label.{isLabel, isLabelByte, labelBytes}
 use Rattle.label.specs.LabelLaws.{label-free}
-use Rattle.channel.specs.Channel.{ChannelType, noType, Types, codeOf, typeOf, tagOf, known, codeIn, typeIn, knownIn, listed, houseTypes, channelTypes}
+use Rattle.channel.specs.Channel.{ChannelType, noType, Types, codeOf, typeOf, tagOf, known, codeIn, typeIn, knownIn, typesOf, houseTypes, channelTypes}
 
 -- ---- a sound table
 
@@ -44,11 +46,11 @@ abbrev pub soundType : ChannelType → Bool
 soundType t = (leb 1 (t .code) && isLabel (t .tag)) && soundRange t
 
 -- t is a sound type with this code, or stands for none
-abbrev pub Found : Bool → ℕ → ChannelType → Type 0
-Found is-known code t = ((soundType t ≡ true) × (t .code ≡ code) × (is-known ≡ true)) ⊎ ((t ≡ noType) × (is-known ≡ false))
+abbrev pub FoundType : Bool → ℕ → ChannelType → Type 0
+FoundType is-known code t = ((soundType t ≡ true) × (t .code ≡ code) × (is-known ≡ true)) ⊎ ((t ≡ noType) × (is-known ≡ false))
 
 pub record SoundTypes (types : Types) : Type 0 where
-  pub found : (code : ℕ) → Found (known types code) code (typeOf types code)
+  pub found : (code : ℕ) → FoundType (known types code) code (typeOf types code)
   pub one-tag : (code : ℕ) → known types code ≡ true → codeOf types (typeOf types code .tag) ≡ code
   pub one-code : (tag : List ℕ) (k : ℕ) → codeOf types tag ≡ suc k → typeOf types (suc k) .tag ≡ tag
 
@@ -91,35 +93,35 @@ cond-same : (b : Bool) → _≡_ {A = ℕ} (cond b 0 0) 0
 cond-same true = refl
 cond-same false = refl
 
-listed-code : (types : List ChannelType) (tag : List ℕ) (k : ℕ) → codeIn types tag ≡ suc k → knownIn types (suc k) ≡ true
+list-code : (types : List ChannelType) (tag : List ℕ) (k : ℕ) → codeIn types tag ≡ suc k → knownIn types (suc k) ≡ true
 unfolding codeIn knownIn
-listed-code [] tag k e = absurd (omega arith)
-listed-code (t ∷ types) tag k e = go (same (t .tag) tag) e (listed-code types tag k)
+list-code [] tag k e = absurd (omega arith)
+list-code (t ∷ types) tag k e = go (same (t .tag) tag) e (list-code types tag k)
   where
     go : (b : Bool) → cond b (t .code) (codeIn types tag) ≡ suc k → (codeIn types tag ≡ suc k → knownIn types (suc k) ≡ true)
         → (eqb (t .code) (suc k) || knownIn types (suc k)) ≡ true
     go true e r = ap (λ b. b || knownIn types (suc k)) (eq-eqb (t .code) (suc k) e)
     go false e r = ap (λ b. eqb (t .code) (suc k) || b) (r e) ∙ or-true (eqb (t .code) (suc k))
 
-listed-found : (types : List ChannelType) → soundList types ≡ true → (code : ℕ) → Found (knownIn types code) code (typeIn types code)
+list-found : (types : List ChannelType) → soundList types ≡ true → (code : ℕ) → FoundType (knownIn types code) code (typeIn types code)
 unfolding typeIn knownIn
-listed-found [] h code = inr (refl, refl)
-listed-found (t ∷ types) h code = go (eqb (t .code) code) refl (listed-found types (first t types h .rest) code)
+list-found [] h code = inr (refl, refl)
+list-found (t ∷ types) h code = go (eqb (t .code) code) refl (list-found types (first t types h .rest) code)
   where
-    go : (b : Bool) → eqb (t .code) code ≡ b → Found (knownIn types code) code (typeIn types code)
-        → Found (b || knownIn types code) code (cond b t (typeIn types code))
+    go : (b : Bool) → eqb (t .code) code ≡ b → FoundType (knownIn types code) code (typeIn types code)
+        → FoundType (b || knownIn types code) code (cond b t (typeIn types code))
     go true e r = inl (first t types h .sound, eqb-true (t .code) code e, refl)
     go false e r = r
 
-listed-some : (types : List ChannelType) → soundList types ≡ true → (code : ℕ) → knownIn types code ≡ true → 1 ≤ code
-listed-some types h code k =
-    ⊎-elim (λ f. subst (λ n. 1 ≤ n) (f .1) (leb-true 1 (typeIn types code .code) (form (typeIn types code) (f .0) .0))) (λ n. clash k (n .1)) (listed-found types h code)
+list-some : (types : List ChannelType) → soundList types ≡ true → (code : ℕ) → knownIn types code ≡ true → 1 ≤ code
+list-some types h code k =
+    ⊎-elim (λ f. subst (λ n. 1 ≤ n) (f .1) (leb-true 1 (typeIn types code .code) (form (typeIn types code) (f .0) .0))) (λ n. clash k (n .1)) (list-found types h code)
 
-listed-code-tag : (types : List ChannelType) → soundList types ≡ true → (code : ℕ) → knownIn types code ≡ true
+list-code-tag : (types : List ChannelType) → soundList types ≡ true → (code : ℕ) → knownIn types code ≡ true
     → codeIn types (typeIn types code .tag) ≡ code
 unfolding codeIn typeIn knownIn
-listed-code-tag [] h code k = clash k refl
-listed-code-tag (t ∷ types) h code k = go (eqb (t .code) code) refl k (listed-code-tag types (first t types h .rest) code)
+list-code-tag [] h code k = clash k refl
+list-code-tag (t ∷ types) h code k = go (eqb (t .code) code) refl k (list-code-tag types (first t types h .rest) code)
   where
     u : ChannelType
     u = typeIn types code
@@ -129,7 +131,7 @@ listed-code-tag (t ∷ types) h code k = go (eqb (t .code) code) refl k (listed-
     other true e k r =
         let f = first t types h in
         let z : codeIn types (u .tag) ≡ 0 = ap (codeIn types) (sym (same-eq (t .tag) (u .tag) e)) ∙ f .tag-new in
-        absurd (omega (arith, listed-some types (f .rest) code k))
+        absurd (omega (arith, list-some types (f .rest) code k))
     other false e k r = r
 
     go : (b : Bool) → eqb (t .code) code ≡ b → (b || knownIn types code) ≡ true → (knownIn types code ≡ true → codeIn types (u .tag) ≡ code)
@@ -137,11 +139,11 @@ listed-code-tag (t ∷ types) h code k = go (eqb (t .code) code) refl k (listed-
     go true e k r = ap (λ s. cond s (t .code) (codeIn types (t .tag))) (same-refl (t .tag)) ∙ eqb-true (t .code) code e
     go false e k r = other (same (t .tag) (u .tag)) refl k (r k)
 
-listed-tag-code : (types : List ChannelType) → soundList types ≡ true → (tag : List ℕ) (k : ℕ) → codeIn types tag ≡ suc k
+list-tag-code : (types : List ChannelType) → soundList types ≡ true → (tag : List ℕ) (k : ℕ) → codeIn types tag ≡ suc k
     → typeIn types (suc k) .tag ≡ tag
 unfolding codeIn typeIn
-listed-tag-code [] h tag k e = absurd (omega arith)
-listed-tag-code (t ∷ types) h tag k e = go (same (t .tag) tag) refl e (listed-tag-code types (first t types h .rest) tag k)
+list-tag-code [] h tag k e = absurd (omega arith)
+list-tag-code (t ∷ types) h tag k e = go (same (t .tag) tag) refl e (list-tag-code types (first t types h .rest) tag k)
   where
     u : ChannelType
     u = typeIn types (suc k)
@@ -153,29 +155,41 @@ listed-tag-code (t ∷ types) h tag k e = go (same (t .tag) tag) refl e (listed-
     go : (b : Bool) → same (t .tag) tag ≡ b → cond b (t .code) (codeIn types tag) ≡ suc k → (codeIn types tag ≡ suc k → u .tag ≡ tag)
         → cond (eqb (t .code) (suc k)) t u .tag ≡ tag
     go true s e r = ap (λ b. cond b t u .tag) (eq-eqb (t .code) (suc k) e) ∙ same-eq (t .tag) tag s
-    go false s e r = other (eqb (t .code) (suc k)) refl (listed-code types tag k e) (r e)
+    go false s e r = other (eqb (t .code) (suc k)) refl (list-code types tag k e) (r e)
 
 -- a code that is found in a list is known in it
-pub listed-code-of : (list : List ChannelType) (tag : List ℕ) → codeOf (listed list) tag ≡ codeIn list tag
+pub typesOf-code : (list : List ChannelType) (tag : List ℕ) → codeOf (typesOf list) tag ≡ codeIn list tag
 unfolding codeOf
-listed-code-of list tag = go (codeIn list tag) refl
+typesOf-code list tag = go (codeIn list tag) refl
   where
     go : (code : ℕ) → codeIn list tag ≡ code → cond (knownIn list code) code 0 ≡ code
     go zero e = cond-same (knownIn list 0)
-    go (suc k) e = ap (λ (b : Bool). cond b (suc k) 0) (listed-code list tag k e)
+    go (suc k) e = ap (λ (b : Bool). cond b (suc k) 0) (list-code list tag k e)
 
-pub listed-sound : (list : List ChannelType) → soundList list ≡ true → SoundTypes (listed list)
+pub typesOf-sound : (list : List ChannelType) → soundList list ≡ true → SoundTypes (typesOf list)
 unfolding typeOf known
-listed-sound list h =
+typesOf-sound list h =
     record {
-      found = listed-found list h;
-      one-tag = λ code k. listed-code-of list (typeIn list code .tag) ∙ listed-code-tag list h code k;
-      one-code = λ tag k e. listed-tag-code list h tag k (sym (listed-code-of list tag) ∙ e);
+      found = list-found list h;
+      one-tag = λ code k. typesOf-code list (typeIn list code .tag) ∙ list-code-tag list h code k;
+      one-code = λ tag k e. list-tag-code list h tag k (sym (typesOf-code list tag) ∙ e);
     }
 
 pub house-sound : SoundTypes channelTypes
 unfolding soundList houseTypes codeIn knownIn same isLabel labelBytes
-house-sound = listed-sound houseTypes refl
+house-sound = typesOf-sound houseTypes refl
+
+pub house-TOC : tagOf channelTypes 1 ≡ 84 ∷ 79 ∷ 67 ∷ []
+unfolding typeOf typeIn houseTypes
+house-TOC = refl
+
+pub house-CND : tagOf channelTypes 4 ≡ 67 ∷ 78 ∷ 68 ∷ []
+unfolding typeOf typeIn houseTypes
+house-CND = refl
+
+pub house-TMP : known channelTypes 5 ≡ true
+unfolding known knownIn houseTypes
+house-TMP = refl
 
 -- ---- what a sound table gives
 

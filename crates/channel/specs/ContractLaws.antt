@@ -1,22 +1,23 @@
 -- Laws of tags in three places.
---     ShortTags types   every tag of the table has at most three bytes
---     everyTag, every-tag, tag-at   what a test of every tag of a list says of the tag of each code, and at each place
---     house-short       document 01's table has such tags
---     house-tag         so has the type at each place of its list
---     type-short        and the tag of each code of a table with short tags
---     tag-within        what holds a tag in three places counts at most three
---     tag-taken         the first of the three places hold the tag
+--     ShortTags types          every tag of the table has at most three bytes
+--     house-short              document 01's table has such tags
+--     house-tag                so has the type at each place of its list
+--     type-short               and the tag of each code of a table with short tags
+--     TagsApart byte types     no tag of the table starts with this byte
+--     house-apart              none of document 01's starts with `N`
+--     tag-within               what holds a tag in three places counts at most three
+--     tag-taken                the first of the three places hold the tag
 use Prim.Native.Nat.{ℕ, zero, suc, _≤_}
 use mathlib.Core.Path.{_≡_, refl, sym, ap, subst, _∙_}
-use mathlib.Core.Bool.{Bool, true, false, cond, _&&_}
+use mathlib.Core.Bool.{Bool, true, false, not, cond, _&&_}
 use mathlib.Core.List.{List, [], _∷_}
 use native.Mathlib.Omega.{arith}
-use borrow.Author.Tests.{leb-true}
+use borrow.Author.Tests.{leb-true, not-true}
 use lib.Dec.{eqb, leb}
 use lib.ListN.{length, getD, take}
 use Rattle.integers.specs.Tests.{both}
 use Rattle.lists.specs.Padded.{padded-take}
-use Rattle.channel.specs.Channel.{ChannelType, noType, Types, typeOf, tagOf, typeIn, listed, houseTypes, channelTypes}
+use Rattle.channel.specs.Channel.{ChannelType, noType, Types, typeOf, tagOf, typeIn, typesOf, houseTypes, channelTypes}
 use Rattle.channel.specs.Contracts.{tagPlaces}
 use Rattle.limits.specs.Limits.{tagLimit}
 use Rattle.channel.specs.declared.Tag.{Tag}
@@ -26,12 +27,12 @@ pub record ShortTags (types : Types) : Type 0 where
 
 -- ---- what a test of every tag of a list says
 
-unfoldable pub everyTag : (List ℕ → Bool) → List ChannelType → Bool
+everyTag : (List ℕ → Bool) → List ChannelType → Bool
 everyTag test [] = true
 everyTag test (t ∷ list) = test (t .tag) && everyTag test list
 
 module _ (test : List ℕ → Bool) (none : test [] ≡ true) where
-  pub tag-at : (list : List ChannelType) → everyTag test list ≡ true → (at : ℕ) → test (getD list at noType .tag) ≡ true
+  tag-at : (list : List ChannelType) → everyTag test list ≡ true → (at : ℕ) → test (getD list at noType .tag) ≡ true
   unfolding everyTag
   tag-at [] h at = none
   tag-at (t ∷ list) h zero = both (test (t .tag)) (everyTag test list) h .0
@@ -46,7 +47,7 @@ module _ (test : List ℕ → Bool) (none : test [] ≡ true) where
       go true r = both (test (t .tag)) (everyTag test list) h .0
       go false r = r
 
-  pub every-tag : (list : List ChannelType) → everyTag test list ≡ true → (code : ℕ) → test (tagOf (listed list) code) ≡ true
+  every-tag : (list : List ChannelType) → everyTag test list ≡ true → (code : ℕ) → test (tagOf (typesOf list) code) ≡ true
   unfolding typeOf
   every-tag = tag-in
 
@@ -67,6 +68,18 @@ house-tag at = leb-true (length (getD houseTypes at noType .tag)) tagLimit (tag-
 
 pub type-short : (types : Types) → ShortTags types → (code : ℕ) → length (tagOf types code) ≤ tagLimit
 type-short types h = h .short
+
+pub record TagsApart (byte : ℕ) (types : Types) : Type 0 where
+  pub apart : (code : ℕ) → eqb (getD (tagOf types code) 0 0) byte ≡ false
+
+-- the test of one tag
+abbrev isApart : ℕ → List ℕ → Bool
+isApart byte tag = not (eqb (getD tag 0 0) byte)
+
+-- 78 is `N`
+pub house-apart : TagsApart 78 channelTypes
+unfolding everyTag houseTypes
+house-apart = record { apart = λ code. not-true (eqb (getD (tagOf channelTypes code) 0 0) 78) (every-tag (isApart 78) refl houseTypes refl code) }
 
 -- ---- a tag in three places
 

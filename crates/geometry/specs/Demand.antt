@@ -12,7 +12,7 @@ use mathlib.Core.Path.{_≡_, sym, _∙_, ap}
 use mathlib.Core.Bool.{true}
 use mathlib.Core.Logic.{_⊎_, inl, inr}
 use native.Mathlib.Omega.{arith}
-use native.Mathlib.Nat.{le-trans, le-of-eq, mul-le-mul-left, mul-assoc, le-of-mul-le-mul-left, eq-zero-or-pos}
+use native.Mathlib.Nat.{le-refl, le-trans, le-of-eq, mul-le-mul-left, mul-assoc, le-of-mul-le-mul-left, eq-zero-or-pos}
 use borrow.Author.Tests.{leb-true}
 use lib.IntN.{ℤ, pos, natAbs, _-ℤ_, _*ℤ_}
 use Rattle.integers.specs.Sum.{sumℕ}
@@ -90,7 +90,7 @@ module _ (D m n : ℕ) (a : ℕ → ℕ → ℤ) (w : ℕ → ℕ) (positive : 0
     unfolding scaledSquaredRadius
     ball-most =
         largest-below (λ i. scaledSquaredDistance D n (scaledCentre a w m) (a i)) m (n * ((2 * (C * D)) * (2 * (C * D))))
-        (λ i l. distance-most D n C (scaledCentre a w m) (a i) (λ k b. within i k l b) (λ k b. centre-most D m C k a w sum (λ j c. within j k c b)))
+        (λ i l. distance-most D D n C (scaledCentre a w m) (a i) (le-refl D) (λ k b. within i k l b) (λ k b. centre-most D m C k a w sum (λ j c. within j k c b)))
 
     pub floor-most : scaledLowerBound D m n a w ≤ n * ((2 * (C * D)) * (2 * (C * D)))
     floor-most = le-trans floor-below-ball ball-most

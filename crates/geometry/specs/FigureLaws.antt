@@ -27,7 +27,7 @@ use Rattle.geometry.specs.Move.{weightOf}
 use Rattle.geometry.specs.Table.{coordinate}
 use Rattle.limits.specs.Limits.{channelLimit, total, coordinateLimit, centreLimit, distanceLimit}
 use Rattle.geometry.specs.Places.{centreList, centreOf, weightsTotal}
-use Rattle.geometry.specs.Contracts.{CentreWithin, RowAt, Table, WeightsWithin}
+use Rattle.geometry.specs.Contracts.{CentreWithin, Table, WeightsWithin}
 use Rattle.geometry.specs.PlacesLaws.{length-centreList, centreList-at, centreList-most}
 
 -- ---- squared lengths
@@ -68,33 +68,34 @@ centre-most D m C k a w sum h =
     let scaled : sumℕ m (λ i. C * w i) ≡ C * D = sumℕ-mul-left C w m ∙ ap (λ (x : ℕ). C * x) sum in
     omega (arith, abs-sum m (λ i. pos (w i) *ℤ a i k))
 
--- s of a row of coordinates within C, under weights of such rows
-pub distance-most : (D n C : ℕ) (X p : ℕ → ℤ) → ((k : ℕ) → k < n → natAbs (p k) ≤ C) → ((k : ℕ) → k < n → natAbs (X k) ≤ C * D)
-    → scaledSquaredDistance D n X p ≤ n * ((2 * (C * D)) * (2 * (C * D)))
+-- s of a row of coordinates within C, under X of weights of such rows with a sum of at most B, for a total D of at most B
+pub distance-most : (D B n C : ℕ) (X p : ℕ → ℤ) → D ≤ B → ((k : ℕ) → k < n → natAbs (p k) ≤ C) → ((k : ℕ) → k < n → natAbs (X k) ≤ C * B)
+    → scaledSquaredDistance D n X p ≤ n * ((2 * (C * B)) * (2 * (C * B)))
 unfolding scaledSquaredDistance
-distance-most D n C X p hp hX =
-    squaredLength-bound n (2 * (C * D)) (λ k. pos D *ℤ p k -ℤ X k)
-    (λ k l. omega (arith, abs-sub (pos D *ℤ p k) (X k), abs-mul (pos D) (p k), mul-le-mul-left D (hp k l), mul-comm D C, hX k l))
+distance-most D B n C X p most hp hX =
+    squaredLength-bound n (2 * (C * B)) (λ k. pos D *ℤ p k -ℤ X k)
+    (λ k l. omega (arith, abs-sub (pos D *ℤ p k) (X k), abs-mul (pos D) (p k), mul-le-mul most (hp k l), mul-comm B C, hX k l))
 
--- X of weights of a sum of at most `total`, which is the bound of the machine's numbers whatever the sum
-module _ {rows : List ℤ} {m n : ℕ} {ws : List ℕ} (t : Table rows m n) (g : WeightsWithin total m ws) where
-  pub centre-at-most : (k : ℕ) → k < n → natAbs (scaledCentre (coordinate rows n) (weightOf ws) m k) ≤ centreLimit total
+pub distance-within : (D B n : ℕ) (X p : ℕ → ℤ) → D ≤ B → n ≤ channelLimit → ((k : ℕ) → k < n → natAbs (p k) ≤ coordinateLimit)
+    → ((k : ℕ) → k < n → natAbs (X k) ≤ centreLimit B) → scaledSquaredDistance D n X p ≤ distanceLimit B
+distance-within D B n X p most channels hp hX =
+    let side = 2 * centreLimit B in
+    omega (arith, distance-most D B n coordinateLimit X p most hp hX, mul-le-mul-right (side * side) channels)
+
+module _ {rows : List ℤ} {m n : ℕ} {ws : List ℕ} (t : Table rows m n) where
+  -- X of weights of a sum of at most B
+  pub centre-at-most : {B : ℕ} → WeightsWithin B m ws → (k : ℕ) → k < n → natAbs (scaledCentre (coordinate rows n) (weightOf ws) m k) ≤ centreLimit B
   unfolding weightsTotal
-  centre-at-most k l =
+  centre-at-most g k l =
       omega (arith, centre-most (weightsTotal m ws) m coordinateLimit k (coordinate rows n) (weightOf ws) refl (λ i h. t .bound i k h l), g .most)
 
-  pub centre-within : CentreWithin n (centreList n (scaledCentre (coordinate rows n) (weightOf ws) m))
-  centre-within =
+  -- `total` is the bound of the machine's numbers whatever the sum
+  pub centre-within : WeightsWithin total m ws → CentreWithin n (centreList n (scaledCentre (coordinate rows n) (weightOf ws) m))
+  centre-within g =
       record {
         places = omega (arith, length-centreList n (scaledCentre (coordinate rows n) (weightOf ws) m), t .channels);
-        bound = λ k l. centreList-most n (centreLimit total) (scaledCentre (coordinate rows n) (weightOf ws) m) (t .channels) centre-at-most k;
+        bound = λ k l. centreList-most n (centreLimit total) (scaledCentre (coordinate rows n) (weightOf ws) m) (t .channels) (centre-at-most g) k;
       }
-
-pub distance-within : {rows x : List ℤ} {n i : ℕ} → RowAt rows n i → CentreWithin n x
-    → scaledSquaredDistance total n (centreOf x) (coordinate rows n i) ≤ distanceLimit total
-distance-within {rows} {x} {n} {i} r c =
-    let side = 2 * centreLimit total in
-    omega (arith, distance-most total n coordinateLimit (centreOf x) (coordinate rows n i) (r .bound) (c .bound), mul-le-mul-right (side * side) (r .channels))
 
 -- ---- the moment of weighted rows about any point
 

@@ -13,6 +13,7 @@
 --     far-within, near-within       the two rows are among the m
 --     radius-far                    M is s of the far row
 --     difference-exact              g is whole: s far ≡ s near + D g
+--     difference-within             g is within its limit
 --     separation-positive           d² is above 0 where the weights are not Settled
 --     transfer-most                 t is at most the near row's weight
 --     transfer-some                 t is above 0 where the weights are not Settled
@@ -24,7 +25,7 @@ use mathlib.Core.Logic.{_≢_, _⊎_, inl, inr}
 use mathlib.Core.Bool.{false}
 use mathlib.Core.List.{List}
 use native.Mathlib.Omega.{arith}
-use native.Mathlib.Nat.{mul-le-mul, mul-le-mul-right, mul-left-comm, div-eq-of-eq-mul-right, div-mul-le-self, le-div-iff-mul-le, eq-zero-or-pos, mul-sub}
+use native.Mathlib.Nat.{mul-le-mul, mul-le-mul-right, mul-left-comm, le-refl, div-eq-of-eq-mul-right, div-le-of-le-mul, div-mul-le-self, le-div-iff-mul-le, eq-zero-or-pos, mul-sub}
 use borrow.Author.Tests.{leb-false}
 use lib.Dec.{ltb}
 use lib.IntN.{ℤ, pos, negsuc, _+ℤ_, _-ℤ_, _*ℤ_, *ℤ-zero, -ℤ-+ℤ-cancel}
@@ -38,8 +39,12 @@ use Rattle.integers.specs.Order.{pos-le, ⊑-eq, ⊑-trans, ⊑-cancel, nn-pos}
 use Rattle.integers.specs.Absolute.{square-zero}
 use Rattle.geometry.specs.Figures.{squaredLength, squaredDistance, scaledCentre, scaledSquaredDistance, scaledSquaredRadius, weightedSquaredLength, scaledLowerBound}
 use Rattle.geometry.specs.Move.{scaledSquaredDistanceOf, farRow, nearRow, difference, separation, settled, transfer, weightOf, moveWeight, moved}
+use Rattle.limits.specs.Limits.{distanceLimit, differenceLimit}
 use Rattle.geometry.specs.Places.{weightsTotal}
-use Rattle.geometry.specs.FigureLaws.{length-ℤ, squaredLength-cong, lower-bound-ℤ}
+use Rattle.geometry.specs.Table.{coordinate}
+use Rattle.geometry.specs.Contracts.{Table, WeightsOf}
+use Rattle.geometry.specs.TableLaws.{weights-within}
+use Rattle.geometry.specs.FigureLaws.{length-ℤ, squaredLength-cong, centre-at-most, distance-within, lower-bound-ℤ}
 use Rattle.geometry.specs.SelectLaws.{farthest-within, nearest-within, largest-farthest, farthest-mostℕ, nearest-weighted, ltb-strict}
 
 -- ---- inner products
@@ -211,6 +216,19 @@ module _ (D m n : ℕ) (a : ℕ → ℕ → ℤ) (ws : List ℕ) where
     moved-centre k = moved-sum (λ i. a i k)
 
 -- ---- g
+
+-- the limit on s is D times the limit on g
+pub difference-within : {D m n : ℕ} {rows : List ℤ} {ws : List ℕ} → Table rows m n → WeightsOf D m ws
+    → difference D m n (coordinate rows n) (weightOf ws) ≤ differenceLimit D
+unfolding difference scaledSquaredDistanceOf
+difference-within {D} {m} {n} {rows} {ws} t g =
+    let a = coordinate rows n in
+    let far = farRow D m n a (weightOf ws) in
+    let X = scaledCentre a (weightOf ws) m in
+    let most : scaledSquaredDistance D n X (a far) ≤ distanceLimit D =
+    distance-within D D n X (a far) (le-refl D) (t .channels) (λ k l. t .bound far k (far-within D m n a (weightOf ws) (t .some-row)) l)
+    (centre-at-most t (weights-within (le-refl D) g)) in
+    div-le-of-le-mul D (omega (arith, most))
 
 module _ (D m n : ℕ) (a : ℕ → ℕ → ℤ) (w : ℕ → ℕ) (positive : 0 < D) (some : 0 < m) where
   far : ℕ

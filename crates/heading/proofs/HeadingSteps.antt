@@ -22,7 +22,7 @@ use Rattle.number.specs.Contracts.{magnitudeLimit, saturated, plainRead}
 use Rattle.number.specs.declared.Plain.{Plain}
 use Rattle.number.specs.declared.Plain.the-variants as written
 use Rattle.channel.specs.Channel.{Types, codeOf}
-use Rattle.heading.specs.Heading.{countWithin, channelCount, andCode, codesOf, headingFields, headingOf}
+use Rattle.heading.specs.Heading.{countWithin, statedCount, andCode, codesOfTags, headingFields, headingOf}
 use Rattle.integers.specs.Tests.{cond-same}
 use Rattle.lists.specs.Gathered.{gathered-none, gathered-next}
 use Rattle.lists.specs.Padded.{padded, padded-next}
@@ -36,8 +36,8 @@ counted limit written.Malformed = 0
 counted limit (written.Number true m) = 0
 counted limit (written.Number false m) = cond (leb m limit) m 0
 
-pub counted-read : (limit : ℕ) (field : List ℕ) → limit < magnitudeLimit → counted limit (plainRead (plain field)) ≡ channelCount limit field
-unfolding channelCount
+pub counted-read : (limit : ℕ) (field : List ℕ) → limit < magnitudeLimit → counted limit (plainRead (plain field)) ≡ statedCount limit field
+unfolding statedCount
 counted-read limit field h = go (plain field)
   where
     go : (o : Option ℤ) → counted limit (plainRead o) ≡ countWithin limit o
@@ -53,8 +53,8 @@ counted-read limit field h = go (plain field)
             let k : leb (saturated n) limit ≡ false = lt-leb (saturated n) limit (omega (arith, leb-false n limit e)) in
             ap (λ t. cond t (saturated n) 0) k ∙ sym (ap (λ t. cond t n 0) e)
 
-pub count-most : (limit : ℕ) (field : List ℕ) → channelCount limit field ≤ limit
-unfolding channelCount
+pub count-most : (limit : ℕ) (field : List ℕ) → statedCount limit field ≤ limit
+unfolding statedCount
 count-most limit field = go (plain field)
   where
     go : (o : Option ℤ) → countWithin limit o ≤ limit
@@ -79,7 +79,7 @@ pub record TagsSoFar (types : Types) (n : ℕ) (tags rest : List (List ℕ)) (pl
   pub within : i ≤ n
   pub placed : places ≡ padded channelLimit codes
   pub counts : length tags ≡ i + length rest
-  pub continues : codesOf types tags ≡ Option·map (λ (l : List ℕ). codes ++ l) (codesOf types rest)
+  pub continues : codesOfTags types tags ≡ Option·map (λ (l : List ℕ). codes ++ l) (codesOfTags types rest)
 
 module _ (types : Types) (n : ℕ) (tags : List (List ℕ)) where
   pub tags-none : TagsSoFar types n tags tags (padded channelLimit []) 0
@@ -90,13 +90,13 @@ module _ (types : Types) (n : ℕ) (tags : List (List ℕ)) where
         within = omega arith;
         placed = refl;
         counts = omega arith;
-        continues = gathered-none (codesOf types tags);
+        continues = gathered-none (codesOfTags types tags);
       }
 
 module _ {types : Types} {n : ℕ} {tags rest : List (List ℕ)} {places : List ℕ} {i : ℕ} (f : TagsSoFar types n tags rest places i) where
   pub tags-next : {tag : List ℕ} {further : List (List ℕ)} {code : ℕ} → n ≤ channelLimit → i < n → rest ≡ tag ∷ further
       → code ≡ codeOf types tag → (code ≡ 0 → ⊥) → TagsSoFar types n tags further (set places i code) (i + 1)
-  unfolding codesOf
+  unfolding codesOfTags
   tags-next {tag} {further} {code} m h e k z =
       record {
         codes = f .codes ++ (code ∷ []);
@@ -105,9 +105,9 @@ module _ {types : Types} {n : ℕ} {tags rest : List (List ℕ)} {places : List 
         placed = ap₂ (λ l j. set l j code) (f .placed) (sym (f .passed)) ∙ padded-next channelLimit (f .codes) code (omega (arith, f .passed));
         counts = f .counts ∙ ap (λ l. i + length l) e ∙ omega arith;
         continues =
-            f .continues ∙ ap (λ l. Option·map (λ (l : List ℕ). f .codes ++ l) (codesOf types l)) e
-            ∙ ap (λ d. Option·map (λ (l : List ℕ). f .codes ++ l) (andCode d (codesOf types further))) (sym k)
-            ∙ go code z (codesOf types further);
+            f .continues ∙ ap (λ l. Option·map (λ (l : List ℕ). f .codes ++ l) (codesOfTags types l)) e
+            ∙ ap (λ d. Option·map (λ (l : List ℕ). f .codes ++ l) (andCode d (codesOfTags types further))) (sym k)
+            ∙ go code z (codesOfTags types further);
       }
     where
       go : (d : ℕ) → (d ≡ 0 → ⊥) → (o : Option (List ℕ))
@@ -116,16 +116,16 @@ module _ {types : Types} {n : ℕ} {tags rest : List (List ℕ)} {places : List 
       go (suc d) z o = gathered-next (f .codes) (suc d) o
 
   pub tags-unknown : {tag : List ℕ} {further : List (List ℕ)} → rest ≡ tag ∷ further → codeOf types tag ≡ 0 → headingRead none ≡ tagsRead types n tags
-  unfolding codesOf
+  unfolding codesOfTags
   tags-unknown {tag} {further} e k =
-      let o : codesOf types tags ≡ none =
-      f .continues ∙ ap (λ l. Option·map (λ (l : List ℕ). f .codes ++ l) (codesOf types l)) e
-      ∙ ap (λ d. Option·map (λ (l : List ℕ). f .codes ++ l) (andCode d (codesOf types further))) k in
+      let o : codesOfTags types tags ≡ none =
+      f .continues ∙ ap (λ l. Option·map (λ (l : List ℕ). f .codes ++ l) (codesOfTags types l)) e
+      ∙ ap (λ d. Option·map (λ (l : List ℕ). f .codes ++ l) (andCode d (codesOfTags types further))) k in
       sym (ap (λ o. headingRead (cond (eqb n (length tags)) o none)) o ∙ ap headingRead (cond-same (eqb n (length tags)) none))
 
   other-count : (length tags ≡ n → ⊥) → headingRead none ≡ tagsRead types n tags
   other-count h =
-      sym (ap (λ t. headingRead (cond t (codesOf types tags) none)) (ne-eqb n (length tags) (λ e. h (sym e))))
+      sym (ap (λ t. headingRead (cond t (codesOfTags types tags) none)) (ne-eqb n (length tags) (λ e. h (sym e))))
 
   pub tags-few : i < n → rest ≡ [] → headingRead none ≡ tagsRead types n tags
   tags-few h e = other-count (λ c. omega (arith, f .counts, ap (length {A = List ℕ}) e))
@@ -134,12 +134,12 @@ module _ {types : Types} {n : ℕ} {tags rest : List (List ℕ)} {places : List 
   tags-many h e = other-count (λ c. omega (arith, f .counts, ap (length {A = List ℕ}) e))
 
   pub tags-done : n ≤ i → rest ≡ [] → record { n = n; codes = places } ≡ tagsRead types n tags
-  unfolding codesOf
+  unfolding codesOfTags
   tags-done h e =
       let a : length (f .codes) ≡ n = omega (arith, f .passed) in
       let b : length tags ≡ n = omega (arith, f .counts, ap (length {A = List ℕ}) e) in
-      let o : codesOf types tags ≡ some (f .codes) =
-      f .continues ∙ ap (λ l. Option·map (λ (l : List ℕ). f .codes ++ l) (codesOf types l)) e ∙ ap some (append-nil (f .codes)) in
+      let o : codesOfTags types tags ≡ some (f .codes) =
+      f .continues ∙ ap (λ l. Option·map (λ (l : List ℕ). f .codes ++ l) (codesOfTags types l)) e ∙ ap some (append-nil (f .codes)) in
       ap₂ heading (sym a) (f .placed) ∙ sym (ap₂ (λ t o. headingRead (cond t o none)) (eq-eqb n (length tags) (sym b)) o)
 
 -- ---- the line
@@ -159,11 +159,11 @@ module _ (word : List ℕ) (limit : ℕ) (types : Types) (line : List ℕ) where
   heading-short e = ap (headingFields word limit types) e
 
   module _ {first count : List ℕ} {tags : List (List ℕ)} (e : cut comma line ≡ first ∷ count ∷ tags) where
-    pub heading-no-count : channelCount limit count ≡ 0 → headingOf word limit types line ≡ none
+    pub heading-no-count : statedCount limit count ≡ 0 → headingOf word limit types line ≡ none
     unfolding headingOf headingFields
     heading-no-count h = ap (headingFields word limit types) e ∙ rw (h, and-false)
 
-    pub heading-tags : same first word ≡ true → (channelCount limit count ≡ 0 → ⊥)
-        → headingRead (headingOf word limit types line) ≡ tagsRead types (channelCount limit count) tags
+    pub heading-tags : same first word ≡ true → (statedCount limit count ≡ 0 → ⊥)
+        → headingRead (headingOf word limit types line) ≡ tagsRead types (statedCount limit count) tags
     unfolding headingOf headingFields
-    heading-tags s h = ap (λ l. headingRead (headingFields word limit types l)) e ∙ rw (s, le-leb 1 (channelCount limit count) (omega arith))
+    heading-tags s h = ap (λ l. headingRead (headingFields word limit types l)) e ∙ rw (s, le-leb 1 (statedCount limit count) (omega arith))

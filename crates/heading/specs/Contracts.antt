@@ -14,7 +14,7 @@ use Rattle.lists.specs.Padded.{padded}
 use Rattle.limits.specs.Limits.{channelLimit, tagLimit, channelDigits}
 use Rattle.printing.specs.Contracts.{fieldRoom}
 use Rattle.channel.specs.Channel.{Types}
-use Rattle.heading.specs.Heading.{codesOf}
+use Rattle.heading.specs.Heading.{codesOfTags}
 use Rattle.heading.specs.declared.Heading.{Heading}
 
 abbrev pub headingRead : Option (List ℕ) → Heading
@@ -22,7 +22,7 @@ headingRead none = record { n = 0; codes = padded channelLimit [] }
 headingRead (some codes) = record { n = length codes; codes = padded channelLimit codes }
 
 abbrev pub tagsRead : Types → ℕ → List (List ℕ) → Heading
-tagsRead types n tags = headingRead (cond (eqb n (length tags)) (codesOf types tags) none)
+tagsRead types n tags = headingRead (cond (eqb n (length tags)) (codesOfTags types tags) none)
 
 abbrev pub tagRoom : ℕ
 tagRoom = 1 + tagLimit

@@ -1,9 +1,9 @@
 -- Document 01, "Texts": the heading of a reference text or a record, a word, n and n tags, for any word, table of types and limit
 -- on n: read, printed, and what may stand in it.
 --     countWithin limit number         this number, if there is one from 1 to the limit, else 0
---     channelCount limit field         the number of channels that the field states, 0 where it states none from 1 to the limit
+--     statedCount limit field          the number of channels that the field states, 0 where it states none from 1 to the limit
 --     andCode code codes               the code before the others, if it is that of a type
---     codesOf types tags               the codes of the tags, if each is known
+--     codesOfTags types tags           the codes of the tags, if each is known
 --     headingFields word .. fields     the codes of a heading with these fields, if they are those of one
 --     headingOf word limit types line  the codes of a heading, if the line is one
 --     printHeading word types codes    the line of a heading
@@ -25,25 +25,25 @@ countWithin limit none = 0
 countWithin limit (some (pos n)) = cond (leb n limit) n 0
 countWithin limit (some (negsuc k)) = 0
 
-unfoldable pub channelCount : ℕ → List ℕ → ℕ
-channelCount limit field = countWithin limit (plain field)
+unfoldable pub statedCount : ℕ → List ℕ → ℕ
+statedCount limit field = countWithin limit (plain field)
 
 -- no type has the code 0
 abbrev pub andCode : ℕ → Option (List ℕ) → Option (List ℕ)
 andCode zero codes = none
 andCode (suc k) codes = Option·map (λ (l : List ℕ). suc k ∷ l) codes
 
-unfoldable pub codesOf : Types → List (List ℕ) → Option (List ℕ)
-codesOf types [] = some []
-codesOf types (tag ∷ tags) = andCode (codeOf types tag) (codesOf types tags)
+unfoldable pub codesOfTags : Types → List (List ℕ) → Option (List ℕ)
+codesOfTags types [] = some []
+codesOfTags types (tag ∷ tags) = andCode (codeOf types tag) (codesOfTags types tags)
 
 -- the fields of a heading: the word, n, and as many tags, n being 1 or more
 unfoldable pub headingFields : List ℕ → ℕ → Types → List (List ℕ) → Option (List ℕ)
 headingFields word limit types [] = none
 headingFields word limit types (first ∷ []) = none
 headingFields word limit types (first ∷ count ∷ tags) =
-    cond (same first word && (leb 1 (channelCount limit count) && eqb (channelCount limit count) (length tags)))
-    (codesOf types tags) none
+    cond (same first word && (leb 1 (statedCount limit count) && eqb (statedCount limit count) (length tags)))
+    (codesOfTags types tags) none
 
 unfoldable pub headingOf : List ℕ → ℕ → Types → List ℕ → Option (List ℕ)
 headingOf word limit types line = headingFields word limit types (cut comma line)

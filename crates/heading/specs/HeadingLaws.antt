@@ -29,13 +29,13 @@ use Rattle.limits.specs.LimitLaws.{channel-digits}
 use Rattle.channel.specs.ContractLaws.{ShortTags, type-short}
 use Rattle.channel.specs.ChannelLaws.{SoundTypes, Known, code-tag, tag-code, known-code, known-some, tags-free}
 use Rattle.heading.specs.Contracts.{headingMost}
-use Rattle.heading.specs.Heading.{countWithin, channelCount, andCode, codesOf, headingFields, headingOf, printHeading, CodesWithin}
+use Rattle.heading.specs.Heading.{countWithin, statedCount, andCode, codesOfTags, headingFields, headingOf, printHeading, CodesWithin}
 
 module _ (limit : ℕ) where
   -- a count from 1 to the limit is the printing of its number
-  count-printed : (field : List ℕ) → 1 ≤ channelCount limit field
-      → (print (pos (channelCount limit field)) ≡ field) × (channelCount limit field ≤ limit)
-  unfolding channelCount
+  count-printed : (field : List ℕ) → 1 ≤ statedCount limit field
+      → (print (pos (statedCount limit field)) ≡ field) × (statedCount limit field ≤ limit)
+  unfolding statedCount
   count-printed field = go (plain field) refl
     where
       within : (n : ℕ) (b : Bool) → leb n limit ≡ b → plain field ≡ some (pos n) → 1 ≤ cond b n 0
@@ -49,8 +49,8 @@ module _ (limit : ℕ) where
       go (some (pos n)) e h = within n (leb n limit) refl e h
       go (some (negsuc k)) e h = absurd (omega arith)
 
-  printed-count : (n : ℕ) → n ≤ limit → channelCount limit (print (pos n)) ≡ n
-  unfolding channelCount
+  printed-count : (n : ℕ) → n ≤ limit → statedCount limit (print (pos n)) ≡ n
+  unfolding statedCount
   printed-count n h = rw (plain-print, le-leb n limit h)
 
 andCode-some : (c : ℕ) (o : Option (List ℕ)) (codes : List ℕ) → andCode c o ≡ some codes
@@ -60,21 +60,21 @@ andCode-some (suc k) none codes e = unlike e
 andCode-some (suc k) (some rest) codes e = (k, rest, refl, refl, cc)
 
 module _ (types : Types) where
-  codes-known : (tags : List (List ℕ)) (codes : List ℕ) → codesOf types tags ≡ some codes → (length codes ≡ length tags) × Each (Known types) 0 codes
-  unfolding codesOf
+  codes-known : (tags : List (List ℕ)) (codes : List ℕ) → codesOfTags types tags ≡ some codes → (length codes ≡ length tags) × Each (Known types) 0 codes
+  unfolding codesOfTags
   codes-known [] codes e = let empty : [] ≡ codes = cc in rw (← empty) (refl, λ k h. absurd (omega arith))
   codes-known (tag ∷ tags) codes e =
-      let first = andCode-some (codeOf types tag) (codesOf types tags) codes e in
+      let first = andCode-some (codeOf types tag) (codesOfTags types tags) codes e in
       let others = codes-known tags (first .1) (first .3) in
       rw (first .4)
       (ap suc (others .0), each-cons (Known types) 0 (suc (first .0)) (first .1) (known-code types tag (first .0) (first .2)) (others .1))
 
   fields-sound : (word : List ℕ) (limit : ℕ) (first count : List ℕ) (tags : List (List ℕ)) (codes : List ℕ)
       → headingFields word limit types (first ∷ count ∷ tags) ≡ some codes
-      → (first ≡ word) × (print (pos (length codes)) ≡ count) × (codesOf types tags ≡ some codes) × CodesWithin limit types codes
+      → (first ≡ word) × (print (pos (length codes)) ≡ count) × (codesOfTags types tags ≡ some codes) × CodesWithin limit types codes
   unfolding headingFields
   fields-sound word limit first count tags codes e =
-      let n = channelCount limit count in
+      let n = statedCount limit count in
       let read = cond-some (same first word && (leb 1 n && eqb n (length tags))) e in
       let parts = both (same first word) (leb 1 n && eqb n (length tags)) (read .0) in
       let numbers = both (leb 1 n) (eqb n (length tags)) (parts .1) in
@@ -99,16 +99,16 @@ module _ (types : Types) where
   heading-within word limit line codes e = fields-within word limit (cut comma line) codes e
 
 module _ (types : Types) (types-sound : SoundTypes types) where
-  codes-printed : (tags : List (List ℕ)) (codes : List ℕ) → codesOf types tags ≡ some codes → map (tagOf types) codes ≡ tags
-  unfolding codesOf
+  codes-printed : (tags : List (List ℕ)) (codes : List ℕ) → codesOfTags types tags ≡ some codes → map (tagOf types) codes ≡ tags
+  unfolding codesOfTags
   codes-printed [] codes e = let empty : [] ≡ codes = cc in rw (← empty)
   codes-printed (tag ∷ tags) codes e =
-      let first = andCode-some (codeOf types tag) (codesOf types tags) codes e in
+      let first = andCode-some (codeOf types tag) (codesOfTags types tags) codes e in
       rw (first .4) (ap₂ _∷_ (tag-code types types-sound tag (first .0) (first .2)) (codes-printed tags (first .1) (first .3)))
 
   printed-codes : (codes : List ℕ) → Each (Known types) 0 codes
-      → codesOf types (map (tagOf types) codes) ≡ some codes
-  unfolding codesOf
+      → codesOfTags types (map (tagOf types) codes) ≡ some codes
+  unfolding codesOfTags
   printed-codes [] known-each = refl
   printed-codes (code ∷ codes) known-each =
       let here = each-head (Known types) 0 code codes known-each in

@@ -7,7 +7,7 @@ ghost use Rattle.limits.specs.Limits.{channelLimit, tagLimit};
 ghost use Rattle.text.specs.Parts.{comma, partsFrom};
 ghost use Rattle.printing.specs.Contracts.{Put};
 ghost use Rattle.channel.specs.Channel.{channelTypes, tagOf};
-ghost use Rattle.heading.specs.Heading.{headingOf, channelCount, printHeading};
+ghost use Rattle.heading.specs.Heading.{headingOf, statedCount, printHeading};
 ghost use Rattle.heading.specs.Contracts.{headingRead, tagsRead, headingRoom};
 use channel::Code;
 use limits::CHANNELS;
@@ -36,7 +36,7 @@ fn no_heading() -> Heading
 
 // The number of channels that a field states, 0 where it states none from 1 to 8.
 fn channel_count(field: &[u8]) -> usize
-    ensures { λ r. ⌜ r ≡ channelCount channelLimit (now (field .entry)) ⌝ }
+    ensures { λ r. ⌜ r ≡ statedCount channelLimit (now (field .entry)) ⌝ }
 {
     let number = plain_number(field);
     match number {

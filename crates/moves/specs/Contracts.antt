@@ -1,7 +1,7 @@
 -- What the functions of one move give, each by an equation with its definition.
 --     score D rows n x i                    s of row i under the centre x
 --     shiftCentre rows n from to t x        X with t times (row `to` - row `from`) added
---     Found D rows m n x row r              the row that a pass found and its s
+--     FoundRow D rows m n x row r           the row that a pass found and its s
 --     Paired D rows m n ws r                the far and the near row with s of the far row, g and d²
 --     Movable t from to ws                  both rows are in the list, and a u32 holds what each weight becomes
 -- The equations take the total D; the bounds are those of the largest, `total`, which the machine's numbers hold.
@@ -28,7 +28,7 @@ shiftCentre rows n from to t x =
     centreList n (λ k. centreOf x k +ℤ pos t *ℤ (coordinate rows n to k -ℤ coordinate rows n from k))
 
 -- the row that a pass found among the first m, and its s
-pub record Found (D : ℕ) (rows : List ℤ) (m n : ℕ) (x : List ℤ) (row : ℕ) (r : Selected) : Type 0 where
+pub record FoundRow (D : ℕ) (rows : List ℤ) (m n : ℕ) (x : List ℤ) (row : ℕ) (r : Selected) : Type 0 where
   pub is : r .row ≡ row
   pub within : r .row < m
   pub distance-is : r .«scaled_squared_distance» ≡ score D rows n x (r .row)

@@ -4,14 +4,14 @@ ghost use Rattle.geometry.specs.Select.{farthest, nearest};
 ghost use Rattle.geometry.specs.Move.{weightOf};
 ghost use Rattle.geometry.specs.Contracts.{CentreWithin, Table, WeightsOf};
 ghost use Rattle.limits.specs.Limits.{total};
-ghost use Rattle.moves.specs.Contracts.{Found, score};
+ghost use Rattle.moves.specs.Contracts.{FoundRow, score};
 use crate::Selected;
 use figures::distance;
 
 // The row with the largest s of all rows.
 pub fn farthest_row(rows: &[i32], m: usize, n: usize, scaled_centre: &[i64]) -> Selected
     requires { ⌜ Table (now rows) m n × CentreWithin n (now «scaled_centre») ⌝ }
-    ensures { λ r. ⌜ Found total (now (rows .entry)) m n (now («scaled_centre» .entry)) (farthest ltb (score total (now (rows .entry)) n (now («scaled_centre» .entry))) m) r ⌝ }
+    ensures { λ r. ⌜ FoundRow total (now (rows .entry)) m n (now («scaled_centre» .entry)) (farthest ltb (score total (now (rows .entry)) n (now («scaled_centre» .entry))) m) r ⌝ }
 {
     let mut row = 0;
     let mut scaled_squared_distance = distance::scaled_squared_distance(rows, n, 0, scaled_centre);
@@ -39,7 +39,7 @@ pub fn nearest_row(
     scaled_centre: &[i64],
 ) -> Selected
     requires { ⌜ Table (now rows) m n × (CentreWithin n (now «scaled_centre») × WeightsOf total m (now weights)) ⌝ }
-    ensures { λ r. ⌜ Found total (now (rows .entry)) m n (now («scaled_centre» .entry)) (nearest ltb (weightOf (now (weights .entry))) (score total (now (rows .entry)) n (now («scaled_centre» .entry))) m) r ⌝ }
+    ensures { λ r. ⌜ FoundRow total (now (rows .entry)) m n (now («scaled_centre» .entry)) (nearest ltb (weightOf (now (weights .entry))) (score total (now (rows .entry)) n (now («scaled_centre» .entry))) m) r ⌝ }
 {
     let mut row = 0;
     let mut scaled_squared_distance = u64::MAX;

@@ -10,10 +10,10 @@
 --     refusal-injective           a printed refusal states one number and one line
 --     refusesTexts output         the test: the first line is a `NO`, and none that a single reading meets
 --     isFaulty, isRefused         a reference text is refused; a reference text or a record is
---     TagsApart, house-apart      no tag starts with `N`, which holds of document 01's types
+--     refusal-apart               no tag of document 01's types starts as a refusal does
 -- For a sound table of types and a total above 0, the output passes the test exactly where
 --     draw-told                   draw refuses the reference text
---     verify-told, panel-told     verify refuses one of its texts, or panel, whose types keep TagsApart
+--     verify-told, panel-told     verify refuses one of its texts, or panel, where no tag starts as a refusal does
 --     judge-told                  judge refuses the reference text, the record or the readings together
 use Prim.Native.Nat.{ℕ, _≤_, _<_}
 use mathlib.Core.Path.{_≡_, refl, sym, ap, ap₂, subst, _∙_}
@@ -21,7 +21,7 @@ use mathlib.Core.Bool.{Bool, true, false, not, cond, _&&_, _||_, and-false, or-f
 use mathlib.Core.List.{List, [], _∷_, _++_, append-nil, append-assoc}
 use mathlib.Core.Option.{some}
 use native.Mathlib.Omega.{arith}
-use borrow.Author.Tests.{eqb-true, eq-eqb, ne-eqb, not-true}
+use borrow.Author.Tests.{eqb-true, eq-eqb, ne-eqb}
 use lib.Dec.{eqb}
 use lib.IntN.{ℤ, pos}
 use lib.ListN.{length, getD, take, length-append}
@@ -39,9 +39,9 @@ use Rattle.number.specs.NumberLaws.{plain-print, print-free}
 use Rattle.text.specs.Parts.{comma, lineEnd, textWithin, same, extend, cut, join, free, allFree}
 use Rattle.text.specs.PartsLaws.{text-within, same-refl, same-eq, join-cut, cut-join, join-length, join-free}
 use Rattle.printing.specs.Contracts.{numbersAfter}
-use Rattle.channel.specs.Channel.{Types, channelTypes, houseTypes, tagOf}
+use Rattle.channel.specs.Channel.{Types, channelTypes, tagOf}
 use Rattle.channel.specs.ChannelLaws.{SoundTypes}
-use Rattle.channel.specs.ContractLaws.{everyTag, every-tag}
+use Rattle.channel.specs.ContractLaws.{TagsApart, house-apart}
 use Rattle.heading.specs.Heading.{printHeading}
 use Rattle.reference_rows.specs.ReferenceText.{codesOf, channelCount, rowCount, tableOf}
 use Rattle.reference_rows.specs.Rows.{Content, faulty, sound}
@@ -314,31 +314,20 @@ figures-told read output t texts further = go (read .outcome) refl
     go (Refused r) is =
         only-told (r .number) (r .line) ∙ ap not (ap (λ (o : Outcome). ofReading (numberOf o) (lineOf o)) (sym is) ∙ texts)
 
--- no tag starts as `NO` does
-abbrev isApart : List ℕ → Bool
-isApart tag = not (eqb (getD tag 0 0) refusalByte)
-
-pub record TagsApart (types : Types) : Type 0 where
-  pub apart : (code : ℕ) → isApart (tagOf types code) ≡ true
-
-pub house-apart : TagsApart channelTypes
-unfolding everyTag houseTypes
-house-apart = record { apart = every-tag isApart refl houseTypes refl }
-
-tag-apart : (types : Types) → TagsApart types → (code : ℕ) → eqb (getD (tagOf types code) 0 0) refusalByte ≡ false
-tag-apart types h code = not-true (eqb (getD (tagOf types code) 0 0) refusalByte) (h .apart code)
+pub refusal-apart : TagsApart refusalByte channelTypes
+refusal-apart = house-apart
 
 -- the first line of a panel starts with a tag
 tag-told : (tag number end more : List ℕ) → eqb (getD tag 0 0) refusalByte ≡ false → refusesTexts (((tag ++ (comma ∷ number)) ++ end) ++ more) ≡ false
 tag-told [] number end more h = other-told comma _ refl
 tag-told (b ∷ tag) number end more h = other-told b _ h
 
-steps-told : (types : Types) → TagsApart types → (codes : List ℕ) (steps : List ℤ) → refusesTexts (printSteps types codes steps) ≡ false
+steps-told : (types : Types) → TagsApart refusalByte types → (codes : List ℕ) (steps : List ℤ) → refusesTexts (printSteps types codes steps) ≡ false
 unfolding printSteps numbersAfter join
 steps-told types apart [] steps = nothing-told
 steps-told types apart (code ∷ codes) [] = nothing-told
 steps-told types apart (code ∷ codes) (step ∷ steps) =
-    tag-told (tagOf types code) (print step) (lineEnd ∷ []) (printSteps types codes steps) (tag-apart types apart code)
+    tag-told (tagOf types code) (print step) (lineEnd ∷ []) (printSteps types codes steps) (apart .apart code)
 
 accepted-told : refusesTexts printAccepted ≡ false
 unfolding numbersAfter join
@@ -379,7 +368,7 @@ module _ (D limit : ℕ) (types : Types) (reference text : List ℕ) where
       figures-told read (λ f. printAccepted) false (texts-told D limit types reference text) (λ is. accepted-told) ∙ or-false (isRefused (read .outcome))
 
   module _ (types-sound : SoundTypes types) (positive : 0 < D) where
-    pub panel-told : TagsApart types → refusesTexts (panelOutput D limit types reference text) ≡ isRefused (read .outcome)
+    pub panel-told : TagsApart refusalByte types → refusesTexts (panelOutput D limit types reference text) ≡ isRefused (read .outcome)
     unfolding panelOutput
     panel-told apart =
         let f = read .envelope .figures in

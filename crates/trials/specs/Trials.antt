@@ -23,7 +23,8 @@ use Rattle.text.specs.Parts.{join}
 use Rattle.text.specs.Lines.{printLines}
 use Rattle.number.specs.Number.{decimal, printMagnitude, print}
 use Rattle.printing.specs.Contracts.{numbersAfter}
-use Rattle.channel.specs.Channel.{channelTypes, houseTypes, typeIn, knownIn, typeOf, known, codesKnown}
+use Rattle.channel.specs.Channel.{channelTypes, codesKnown}
+use Rattle.channel.specs.ChannelLaws.{house-TOC, house-CND, house-TMP}
 use Rattle.heading.specs.Heading.{printHeading}
 use Rattle.envelope.specs.Figures.{figuresWithin, codesWithin, figuresKnown, figuresOf}
 use Rattle.envelope.specs.Agreement.{withCentre, drawnEnvelope}
@@ -132,5 +133,5 @@ trials =
     ∷ []
 
 pub trials-agree : map (λ (t : Trial). t .computed) trials ≡ map (λ (t : Trial). t .stated) trials
-unfolding trials numbers flag draw outline whole differenceUnder transferUnder right-triangle shown exampleRecord join printLines decimal printMagnitude print numbersAfter houseTypes typeIn knownIn typeOf printHeading printCentre printResult printWeight printRecord listed recordText sumℤ sumℕ square squaredLength squaredDistance scaledCentre scaledSquaredDistance largest scaledSquaredRadius weightedSquaredLength scaledLowerBound farthest replaces nearest scaledSquaredDistanceOf farRow nearRow difference separation settled transfer moveWeight moved coordinate placesWithin rowsWithin tabulate centreList ballOf run start runFrom drawing known codesKnown figuresWithin codesWithin figuresKnown panelShown
-trials-agree = refl
+unfolding trials numbers flag draw outline whole differenceUnder transferUnder right-triangle shown exampleRecord join printLines decimal printMagnitude print numbersAfter printHeading printCentre printResult printWeight printRecord listed recordText sumℤ sumℕ square squaredLength squaredDistance scaledCentre scaledSquaredDistance largest scaledSquaredRadius weightedSquaredLength scaledLowerBound farthest replaces nearest scaledSquaredDistanceOf farRow nearRow difference separation settled transfer moveWeight moved coordinate placesWithin rowsWithin tabulate centreList ballOf run start runFrom drawing codesKnown figuresWithin codesWithin figuresKnown panelShown
+trials-agree = rw (house-TOC, house-CND, house-TMP) refl

@@ -9,7 +9,7 @@ use native.Mathlib.Omega.{arith}
 use lib.ListN.{getD, drop, List·getD-map}
 use Rattle.text.specs.Parts.{same}
 use Rattle.channel.specs.Channel.{ChannelType, houseTypes, houseCount, codeIn, noType}
-use Rattle.channel.specs.ChannelLaws.{listed-code-of}
+use Rattle.channel.specs.ChannelLaws.{typesOf-code}
 use Rattle.channel.specs.ContractLaws.{house-tag, tag-within, tag-taken}
 use Rattle.channel.proofs.Laws.{code-step}
 use Rattle.channel.proofs.find_tag.Statement.{statement}
@@ -59,7 +59,7 @@ unfolding houseTypes
 returns c =
     List·getD-map (λ (t : ChannelType). t .code) houseTypes (c .before .before .before .before .loop .at) noType
     ∙ sym (decided (c .before) true (c .if1 .taken))
-    ∙ sym (listed-code-of houseTypes _)
+    ∙ sym (typesOf-code houseTypes _)
 
 add-at : tie.Need-add-at Inv-loop μ-loop
 add-at c = search needs
@@ -74,7 +74,7 @@ returns-2 : tie.Need-returns-2 Inv-loop μ-loop
 unfolding houseTypes codeIn
 returns-2 c =
     let e : c .before .loop .at ≡ houseCount = omega arith in
-    sym (listed-code-of houseTypes (c .before .before .before .args .field .now) ∙ c .before .loop .inv .1
+    sym (typesOf-code houseTypes (c .before .before .before .args .field .now) ∙ c .before .loop .inv .1
     ∙ ap (λ k. codeIn (drop k houseTypes) (c .before .before .before .args .field .now)) e)
 
 pub find-tag-spec : {M : Type 1} → statement M

@@ -7,7 +7,7 @@ use native.Mathlib.Nat.{mul-le-mul}
 use borrow.Author.Needs.{needs}
 use lib.ListN.{length}
 use denote.Ref.{now}
-use Rattle.limits.specs.Limits.{rowLimit, channelLimit}
+use Rattle.limits.specs.Limits.{rowLimit, placeLimit}
 use Rattle.channel.specs.Channel.{channelTypes}
 use Rattle.reference.specs.Reference.{content}
 use Rattle.reference_rows.specs.Rows.{Content}
@@ -23,11 +23,11 @@ abbrev text-of : tie.After-read → Content
 text-of c = content rowLimit channelTypes (now (c .before .before .before .before .args .text))
 
 abbrev read-is : (c : tie.After-read) → c .read .result ≡ answerOf (text-of c)
-read-is c = c .read .ensures .0 ∙ read-room rowLimit channelTypes (now (c .before .before .before .before .args .text)) (rowLimit * channelLimit) (omega arith)
+read-is c = c .read .ensures .0 ∙ read-room rowLimit channelTypes (now (c .before .before .before .before .args .text)) placeLimit (omega arith)
 
-places : (c : tie.After-read) → c .read .result .m * c .read .result .n ≤ rowLimit * channelLimit
+places : (c : tie.After-read) → c .read .result .m * c .read .result .n ≤ placeLimit
 places c =
-    subst (λ (r : Reference). r .m * r .n ≤ rowLimit * channelLimit) (sym (read-is c))
+    subst (λ (r : Reference). r .m * r .n ≤ placeLimit) (sym (read-is c))
     (mul-le-mul (answer-rows rowLimit channelTypes (now (c .before .before .before .before .args .text))) (answer-channels rowLimit channelTypes (now (c .before .before .before .before .args .text))))
 
 channels : (c : tie.After-read) → c .read .result .n ≤ length (c .read .result .codes)
@@ -64,7 +64,7 @@ slice-aggregate-fill-table c = search needs
 fill-table-requires : tie.Need-fill-table-requires
 fill-table-requires c κs =
     let at-read = c .before .before .before .before .before in
-    (c .before .before .before .if1 .left, omega (arith, places at-read, slice-aggregate-fill-table c))
+    (omega (arith, c .before .before .before .if1 .left), omega (arith, places at-read, slice-aggregate-fill-table c))
 
 fill-codes-requires : tie.Need-fill-codes-requires
 fill-codes-requires c κs =

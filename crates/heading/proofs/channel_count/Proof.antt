@@ -8,7 +8,7 @@ use lib.Dec.{lit<}
 use denote.Ref.{now}
 use Rattle.limits.specs.Limits.{channelLimit}
 use Rattle.number.specs.declared.Plain.the-variants as written
-use Rattle.heading.specs.Heading.{channelCount}
+use Rattle.heading.specs.Heading.{statedCount}
 use Rattle.heading.proofs.HeadingSteps.{counted, counted-read}
 use Rattle.heading.proofs.channel_count.Statement.{statement}
 use Rattle.heading.proofs.channel_count.Tie as tie
@@ -22,12 +22,12 @@ enum-told c = search needs
 enum-known-number : tie.Need-enum-known-number
 enum-known-number c = search needs
 
-told : (c : tie.After-plain-number) → counted channelLimit (c .plain-number .result) ≡ channelCount channelLimit (now (c .before .before .args .field))
+told : (c : tie.After-plain-number) → counted channelLimit (c .plain-number .result) ≡ statedCount channelLimit (now (c .before .before .args .field))
 told c = ap (counted channelLimit) (c .plain-number .ensures) ∙ counted-read channelLimit (now (c .before .before .args .field)) (lit< tt)
 
 -- the number of a field that is one, by its sign
 signed : (c : tie.After-number) (negative : Bool) → c .number .given .0 .0 ≡ negative
-    → counted channelLimit (written.Number negative (c .number .given .0 .1 .0)) ≡ channelCount channelLimit (now (c .before .before .before .before .args .field))
+    → counted channelLimit (written.Number negative (c .number .given .0 .1 .0)) ≡ statedCount channelLimit (now (c .before .before .before .before .args .field))
 signed c negative h =
     ap (λ t. counted channelLimit (written.Number t (c .number .given .0 .1 .0))) (sym h)
     ∙ ap (counted channelLimit) (sym (c .number .given .1)) ∙ told (c .before .before)

@@ -48,7 +48,7 @@ loop-again c =
 returns : tie.Need-returns Inv-loop μ-loop
 returns c =
     let p = c .before .before .before .pre in
-    found (p .0) (p .1) (far-done (c .before .loop .inv) (c .loop-test .left) (p .0 .some-row))
+    found (le-refl total) (p .0) (p .1) (far-done (c .before .loop .inv) (c .loop-test .left) (p .0 .some-row))
 
 pub farthest-row-spec : {M : Type 1} → statement M
 farthest-row-spec =

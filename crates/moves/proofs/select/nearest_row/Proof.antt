@@ -3,6 +3,7 @@
 -- the end some row had weight, since the weights sum to the total. The measure is the number of rows left.
 use Prim.Native.Nat.{ℕ, _-_}
 use mathlib.Core.Logic.{⊎-elim}
+use native.Mathlib.Nat.{le-refl}
 use native.Mathlib.Omega.{arith}
 use borrow.Author.Tests.{lt-ltb, le-ltb}
 use lib.Dec.{ltb}
@@ -61,7 +62,7 @@ returns : tie.Need-returns Inv-loop μ-loop
 unfolding weightsTotal
 returns c =
     let p = c .before .before .before .pre in
-    found (p .0) (p .1 .0) (near-done (c .before .loop .inv) (c .loop-test .left) (omega (arith, p .1 .1 .sum)))
+    found (le-refl total) (p .0) (p .1 .0) (near-done (c .before .loop .inv) (c .loop-test .left) (omega (arith, p .1 .1 .sum)))
 
 pub nearest-row-spec : {M : Type 1} → statement M
 nearest-row-spec =

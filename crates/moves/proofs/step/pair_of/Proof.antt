@@ -1,5 +1,6 @@
 -- `moves::step::pair_of` meets its contract: x is X of the weights, so that s of a row by x is the definition's s, and the rows that
--- the two passes find are the definition's. s of the near row is at most s of the far row.
+-- the two passes find are the definition's. s of the near row is at most s of the far row. All this holds for any total D that the
+-- machine's numbers hold.
 use Prim.Native.Nat.{ℕ, _-_, _/_, _≤_}
 use mathlib.Core.Path.{_≡_, refl, sym, _∙_, ap, ap₂, subst}
 use mathlib.Core.List.{List}
@@ -17,77 +18,79 @@ use Rattle.geometry.specs.Places.{centreList, centreOf}
 use Rattle.integers.specs.Reading.{Bounded}
 use Rattle.geometry.specs.Contracts.{CentreWithin, Table, WeightsOf}
 use Rattle.geometry.specs.FigureLaws.{centre-within, distance-centreList}
+use Rattle.geometry.specs.MoveLaws.{difference-within}
 use Rattle.geometry.specs.SelectLaws.{farthest-cong, farthest-mostℕ, nearest-cong}
 use Rattle.geometry.specs.TableLaws.{table-row, weights-within}
-use Rattle.moves.specs.Contracts.{Found, Paired, score}
+use Rattle.moves.specs.Contracts.{FoundRow, Paired, score}
 use Rattle.moves.specs.declared.Selected.{Selected}
 use Rattle.moves.proofs.step.pair_of.Statement.{statement}
 use Rattle.moves.proofs.step.pair_of.Tie as tie
 
-module _ {rows x : List ℤ} {m n : ℕ} {ws : List ℕ} (t : Table rows m n) (g : WeightsOf total m ws)
+module _ {D : ℕ} (most : D ≤ total) {rows x : List ℤ} {m n : ℕ} {ws : List ℕ} (t : Table rows m n) (g : WeightsOf D m ws)
     (e : x ≡ centreList n (scaledCentre (coordinate rows n) (weightOf ws) m)) where
   centre : CentreWithin n x
-  centre = subst (CentreWithin n) (sym e) (centre-within t (weights-within (le-refl total) g))
+  centre = subst (CentreWithin n) (sym e) (centre-within t (weights-within most g))
 
-  score-is : (i : ℕ) → score total rows n x i ≡ scaledSquaredDistanceOf total m n (coordinate rows n) (weightOf ws) i
+  score-is : (i : ℕ) → score D rows n x i ≡ scaledSquaredDistanceOf D m n (coordinate rows n) (weightOf ws) i
   unfolding scaledSquaredDistanceOf
   score-is i =
-      ap (λ y. scaledSquaredDistance total n (centreOf y) (coordinate rows n i)) e ∙
-      distance-centreList total n (scaledCentre (coordinate rows n) (weightOf ws) m) (coordinate rows n i) (t .channels)
+      ap (λ y. scaledSquaredDistance D n (centreOf y) (coordinate rows n i)) e ∙
+      distance-centreList D n (scaledCentre (coordinate rows n) (weightOf ws) m) (coordinate rows n i) (t .channels)
 
-  module _ {far near : Selected} (f : Found total rows m n x (farthest ltb (score total rows n x) m) far)
-      (k : Found total rows m n x (nearest ltb (weightOf ws) (score total rows n x) m) near) where
+  module _ {far near : Selected} (f : FoundRow D rows m n x (farthest ltb (score D rows n x) m) far)
+      (k : FoundRow D rows m n x (nearest ltb (weightOf ws) (score D rows n x) m) near) where
     near-most : near .«scaled_squared_distance» ≤ far .«scaled_squared_distance»
     near-most =
-        omega (arith, f .distance-is ∙ ap (score total rows n x) (f .is), k .distance-is, farthest-mostℕ (score total rows n x) m (near .row) (k .within))
+        omega (arith, f .distance-is ∙ ap (score D rows n x) (f .is), k .distance-is, farthest-mostℕ (score D rows n x) m (near .row) (k .within))
 
-    found-far : far .row ≡ farRow total m n (coordinate rows n) (weightOf ws)
+    found-far : far .row ≡ farRow D m n (coordinate rows n) (weightOf ws)
     unfolding farRow
-    found-far = f .is ∙ farthest-cong ltb (score total rows n x) (scaledSquaredDistanceOf total m n (coordinate rows n) (weightOf ws)) m (λ i l. score-is i)
+    found-far = f .is ∙ farthest-cong ltb (score D rows n x) (scaledSquaredDistanceOf D m n (coordinate rows n) (weightOf ws)) m (λ i l. score-is i)
 
-    found-near : near .row ≡ nearRow total m n (coordinate rows n) (weightOf ws)
+    found-near : near .row ≡ nearRow D m n (coordinate rows n) (weightOf ws)
     unfolding nearRow
     found-near =
         k .is ∙
-        nearest-cong ltb (weightOf ws) (weightOf ws) (score total rows n x) (scaledSquaredDistanceOf total m n (coordinate rows n) (weightOf ws)) m (λ i l. refl) (λ i l. score-is i)
+        nearest-cong ltb (weightOf ws) (weightOf ws) (score D rows n x) (scaledSquaredDistanceOf D m n (coordinate rows n) (weightOf ws)) m (λ i l. refl) (λ i l. score-is i)
 
     paired : {s : ℕ} → Bounded separationLimit s (squaredDistance n (coordinate rows n (far .row)) (coordinate rows n (near .row)))
-        → Paired total rows m n ws
-        (record { far = far .row; near = near .row; «scaled_squared_distance» = far .«scaled_squared_distance»; difference = (far .«scaled_squared_distance» - near .«scaled_squared_distance») / total; separation = s })
+        → Paired D rows m n ws
+        (record { far = far .row; near = near .row; «scaled_squared_distance» = far .«scaled_squared_distance»; difference = (far .«scaled_squared_distance» - near .«scaled_squared_distance») / D; separation = s })
     unfolding difference separation
     paired b =
-        let s = scaledSquaredDistanceOf total m n (coordinate rows n) (weightOf ws) in
-        let far-distance : far .«scaled_squared_distance» ≡ s (farRow total m n (coordinate rows n) (weightOf ws)) =
+        let s = scaledSquaredDistanceOf D m n (coordinate rows n) (weightOf ws) in
+        let far-distance : far .«scaled_squared_distance» ≡ s (farRow D m n (coordinate rows n) (weightOf ws)) =
         f .distance-is ∙ score-is (far .row) ∙ ap s found-far in
-        let near-distance : near .«scaled_squared_distance» ≡ s (nearRow total m n (coordinate rows n) (weightOf ws)) =
+        let near-distance : near .«scaled_squared_distance» ≡ s (nearRow D m n (coordinate rows n) (weightOf ws)) =
         k .distance-is ∙ score-is (near .row) ∙ ap s found-near in
+        let difference-is = ap₂ (λ d e. (d - e) / D) far-distance near-distance in
         record {
           far-is = found-far;
           near-is = found-near;
           distance-is = far-distance;
-          difference-is = ap₂ (λ d e. (d - e) / total) far-distance near-distance;
+          difference-is = difference-is;
           separation-is = b .is ∙ ap₂ (λ i j. squaredDistance n (coordinate rows n i) (coordinate rows n j)) found-far found-near;
           far-within = f .within;
           near-within = k .within;
           distance-most = f .distance-most;
-          difference-most = omega (arith, f .distance-most);
+          difference-most = omega (arith, difference-is, difference-within t g, most);
           separation-most = b .most;
         }
 
 farthest-row-requires : tie.Need-farthest-row-requires
 farthest-row-requires c κs =
     let p = c .before .pre in
-    (p .0, centre (p .0) (p .1 .0) (p .1 .1))
+    (p .0, centre (le-refl total) (p .0) (p .1 .0) (p .1 .1))
 
 nearest-row-requires : tie.Need-nearest-row-requires
 nearest-row-requires c κs =
     let p = c .before .before .pre in
-    (p .0, (centre (p .0) (p .1 .0) (p .1 .1), p .1 .0))
+    (p .0, (centre (le-refl total) (p .0) (p .1 .0) (p .1 .1), p .1 .0))
 
 sub-gap : tie.Need-sub-gap
 sub-gap c =
     let p = c .before .before .before .before .before .pre in
-    near-most (p .0) (p .1 .0) (p .1 .1) (c .before .before .before .farthest-row .ensures) (c .before .before .nearest-row .ensures)
+    near-most (le-refl total) (p .0) (p .1 .0) (p .1 .1) (c .before .before .before .farthest-row .ensures) (c .before .before .nearest-row .ensures)
 
 cast-difference : tie.Need-cast-difference
 cast-difference c = search needs
@@ -105,7 +108,7 @@ squared-distance-requires c κs =
 returns : tie.Need-returns
 returns c =
     let p = c .before .before .before .before .before .before .pre in
-    paired (p .0) (p .1 .0) (p .1 .1) (c .before .before .before .before .farthest-row .ensures)
+    paired (le-refl total) (p .0) (p .1 .0) (p .1 .1) (c .before .before .before .before .farthest-row .ensures)
     (c .before .before .before .nearest-row .ensures) (c .squared-distance .ensures)
 
 pub pair-of-spec : {M : Type 1} → statement M
