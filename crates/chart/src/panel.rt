@@ -8,9 +8,13 @@ ghost use Rattle.limits.specs.Limits.{total, channelLimit, coordinateLimit, cen
 ghost use Rattle.geometry.specs.Places.{centreOf, centreList};
 ghost use Rattle.geometry.specs.Contracts.{CentreWithin};
 ghost use Rattle.channel.specs.Channel.{channelTypes};
+ghost use Rattle.envelope.specs.Figures.{lentFigures};
 ghost use Rattle.chart.specs.Panel.{nearestMagnitude, nearestStep, refusedPanel, panelShown};
+use channel::Code;
 use envelope::Figures;
-use envelope::figures_known;
+use envelope::Scalars;
+use envelope::figures_known_lent;
+use envelope::scalars_of;
 use limits::CHANNELS;
 use limits::TOTAL;
 use refusal::Outcome;
@@ -66,18 +70,27 @@ fn steps_of(scaled_centre: &[i64], n: usize) -> [i32; CHANNELS]
     steps
 }
 
-// What the panel shows of an envelope. Refused: 8.
-pub fn panel(figures: Figures) -> PanelShown
-    ensures { λ r. ⌜ r ≡ panelShown total channelTypes figures ⌝ }
+// What the panel shows of an envelope whose codes and X are lent. Refused: 8.
+pub fn panel_lent(scalars: Scalars, codes: &[Code], scaled_centre: &[i64]) -> PanelShown
+    ensures { λ r.
+        ⌜ r ≡ panelShown total channelTypes (lentFigures scalars (now (codes .entry)) (now («scaled_centre» .entry))) ⌝ }
 {
-    if !figures_known(figures) {
+    if !figures_known_lent(scalars, codes, scaled_centre) {
         return refused_panel();
     }
-    let ball = figures.ball;
-    let scaled_centre = ball.scaled_centre;
-    let steps = steps_of(&scaled_centre, figures.n);
+    let steps = steps_of(scaled_centre, scalars.n);
     PanelShown {
         outcome: Outcome::Accepted,
         steps,
     }
+}
+
+// The same of figures as one value.
+pub fn panel(figures: Figures) -> PanelShown
+    ensures { λ r. ⌜ r ≡ panelShown total channelTypes figures ⌝ }
+{
+    let codes = figures.codes;
+    let ball = figures.ball;
+    let scaled_centre = ball.scaled_centre;
+    panel_lent(scalars_of(figures), &codes, &scaled_centre)
 }

@@ -16,7 +16,7 @@ use Rattle.envelope.specs.Figures.{figuresKnown}
 use Rattle.envelope.specs.FigureLaws.{known-within}
 use Rattle.chart.specs.Panel.{refusedPanel, panelOf, panelShown}
 use Rattle.chart.specs.declared.panel.PanelShown.{PanelShown}
-use Rattle.export_figures.specs.Contracts.{givenWhole, figuresGiven}
+use Rattle.export_figures.specs.Contracts.{endingKnown, figuresGiven}
 use Rattle.export_chart.specs.Contracts.{panelGiven}
 use Rattle.export_figures.specs.declared.FiguresGiven.{FiguresGiven}
 
@@ -34,5 +34,5 @@ module _ (D : ℕ) (types : Types) (given : FiguresGiven) (codes : List ℕ) (sc
   unfolding panelGiven panelShown
   panel-accepted =
       let figures = figuresGiven given codes scaledCentre in
-      shown-where (givenWhole given codes scaledCentre) _
+      shown-where (endingKnown given) _
       (λ _. shown-where (figuresKnown D types figures) (panelOf D figures) (λ within _. (refl, known-within D types figures within .channels)))

@@ -6,8 +6,8 @@ use mir.Facts.{toZ-ofZ}
 use lib.ListN.{replicate}
 use Rattle.limits.specs.Limits.{channelLimit}
 use Rattle.lent.specs.Filled.{Filling, filling-none, filling-next, filling-done}
-use Rattle.export_figures.proofs.centre_given.Statement.{statement}
-use Rattle.export_figures.proofs.centre_given.Tie as tie
+use Rattle.export_record.proofs.centre_kept.Statement.{statement}
+use Rattle.export_record.proofs.centre_kept.Tie as tie
 
 abbrev Inv-loop : tie.InvT-loop
 Inv-loop scaled-centre n kept₀ channel₀ kept channel = Filling (replicate channelLimit (pos 0)) scaled-centre n kept channel
@@ -58,8 +58,8 @@ returns-2 c =
     filling-done (replicate channelLimit (pos 0)) (args .scaled-centre .now) (args .n) (at-loop .loop .kept) (at-loop .loop .channel)
     (omega (arith, at-loop .before .pre)) (at-loop .loop .inv)
 
-pub centre-given-spec : {M : Type 1} → statement M
-centre-given-spec =
+pub centre-kept-spec : {M : Type 1} → statement M
+centre-kept-spec =
     tie.close
     (tie.spec
     Inv-loop
