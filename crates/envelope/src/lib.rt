@@ -11,9 +11,6 @@ ghost use Rattle.limits.specs.Limits.{total, rowLimit, centreLimit};
 ghost use Rattle.geometry.specs.Table.{placesWithin};
 ghost use Rattle.channel.specs.Channel.{channelTypes};
 ghost use Rattle.envelope.specs.Figures.{figuresWithin, placesLent, figuresKnown, figuresOf, emptyFigures, scalarsOf, lentFigures, envelopeOf, emptyEnvelope};
-
-pub mod agreement;
-
 use ball::Ball;
 use ball::empty_ball;
 use channel::Code;

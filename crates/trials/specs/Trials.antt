@@ -26,7 +26,8 @@ use Rattle.printing.specs.Contracts.{numbersAfter}
 use Rattle.channel.specs.Channel.{channelTypes, houseTypes, typeIn, knownIn, typeOf, known, codesKnown}
 use Rattle.heading.specs.Heading.{printHeading}
 use Rattle.envelope.specs.Figures.{figuresWithin, codesWithin, figuresKnown, figuresOf}
-use Rattle.envelope.specs.Agreement.{withCentre, drawnEnvelope}
+use Rattle.envelope.specs.FigureLaws.{drawnEnvelope}
+use Rattle.agreement.specs.Agreement.{withCentre}
 use Rattle.record_lines.specs.Lines.{printCentre, printResult, printWeight}
 use Rattle.record_form.specs.Record.{printRecord}
 use Rattle.record_form.specs.Weights.{listed}

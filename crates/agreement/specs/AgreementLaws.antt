@@ -50,9 +50,9 @@ use Rattle.ball.specs.declared.Ball.{Ball}
 use Rattle.ball.specs.declared.Checked.{Checked}
 use Rattle.ball.specs.declared.Drawing.{Drawing}
 use Rattle.channel.specs.Channel.{Types, codesKnown}
 use Rattle.envelope.specs.Figures.{figuresKnown, figuresOf, envelopeOf}
-use Rattle.envelope.specs.FigureLaws.{known-within, figures-known, checked-within}
-use Rattle.envelope.specs.Agreement.{allZero, samePlaces, ballAgrees, agrees, clearedBall, cleared, drawnEnvelope, withCentre}
+use Rattle.envelope.specs.FigureLaws.{known-within, figures-known, checked-within, drawnEnvelope}
+use Rattle.agreement.specs.Agreement.{allZero, samePlaces, ballAgrees, agrees, clearedBall, cleared, withCentre}
 
 -- ---- weights that are 0, and the same places
 

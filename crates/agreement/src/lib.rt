@@ -7,7 +7,7 @@ ghost use lib.ListN.{length, drop};
 ghost use Rattle.integers.specs.Tests.{sameInteger};
 ghost use Rattle.geometry.specs.Table.{rowsWithin};
 ghost use Rattle.limits.specs.Limits.{total, rowLimit, channelLimit};
-ghost use Rattle.envelope.specs.Agreement.{allZero, samePlaces, ballAgrees, agrees as Agreement·agrees};
+ghost use Rattle.agreement.specs.Agreement.{allZero, samePlaces, ballAgrees, agrees as Agreement·agrees};
 use ball::Ball;
 use ball::Checked;
 use ball::check::check_weights;

@@ -1,4 +1,4 @@
--- `envelope::agreement::agrees` meets its contract: a weight for each row and none past them are what agreement asks first, and the rest is
+-- `agreement::agrees` meets its contract: a weight for each row and none past them are what agreement asks first, and the rest is
 -- the ball against the check.
 use borrow.Author.Needs.{needs}
 use borrow.Author.Tests.{not-true, not-false}
@@ -7,10 +7,10 @@ use native.Mathlib.Omega.{arith}
 use lib.Seq.{length-take-le}
 use Rattle.integers.specs.Tests.{clash}
 use Rattle.geometry.specs.TableLaws.{within-table}
-use Rattle.envelope.specs.Agreement.{ballAgrees}
-use Rattle.envelope.specs.AgreementLaws.{allZero-by, agrees-ball, agrees-refused, agreed-length}
-use Rattle.envelope.proofs.agreement.agrees.Statement.{statement}
-use Rattle.envelope.proofs.agreement.agrees.Tie as tie
+use Rattle.agreement.specs.Agreement.{ballAgrees}
+use Rattle.agreement.specs.AgreementLaws.{allZero-by, agrees-ball, agrees-refused, agreed-length}
+use Rattle.agreement.proofs.agrees.Statement.{statement}
+use Rattle.agreement.proofs.agrees.Tie as tie
 
 returns : tie.Need-returns
 returns c = agrees-refused _ _ _ _ _ _ _ (λ a. omega (arith, agreed-length _ _ _ _ _ _ _ a))

@@ -1,4 +1,4 @@
--- `envelope::agreement::none_past` meets its contract. The loop's invariant: the weights passed, from place m on, are 0. A weight that is
+-- `agreement::none_past` meets its contract. The loop's invariant: the weights passed, from place m on, are 0. A weight that is
 -- not decides the answer. The measure is what is left of the weights.
 use borrow.Author.Count.{below-more}
 use Prim.Native.Nat.{ℕ, _-_, _≤_, _<_}
@@ -8,9 +8,9 @@ use native.Mathlib.Decide.{decLt}
 use native.Mathlib.Omega.{arith}
 use lib.ListN.{length, getD, List·getD-eq-default}
 use Rattle.integers.specs.Tests.{refuted}
-use Rattle.envelope.specs.AgreementLaws.{allZero-at, allZero-by}
-use Rattle.envelope.proofs.agreement.none_past.Statement.{statement}
-use Rattle.envelope.proofs.agreement.none_past.Tie as tie
+use Rattle.agreement.specs.AgreementLaws.{allZero-at, allZero-by}
+use Rattle.agreement.proofs.none_past.Statement.{statement}
+use Rattle.agreement.proofs.none_past.Tie as tie
 
 abbrev Inv-loop : tie.InvT-loop
 Inv-loop weights m i₀ i = (m ≤ i) × ((j : ℕ) → j < i → m ≤ j → getD weights j 0 ≡ 0)

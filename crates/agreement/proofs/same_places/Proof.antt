@@ -1,4 +1,4 @@
--- `envelope::agreement::same_places` meets its contract. The loop's invariant: the places passed are the same. A place that is not
+-- `agreement::same_places` meets its contract. The loop's invariant: the places passed are the same. A place that is not
 -- decides the answer. The measure is what is left of the places.
 use borrow.Author.Count.{below-more}
 use borrow.Author.Needs.{sfits-of}
@@ -14,9 +14,9 @@ use mir.Facts.{toZ-ofZ}
 use Rattle.integers.specs.Reading.{back}
 use Rattle.integers.specs.Tests.{clash, refuted, sameInteger, integer-eq, integer-refl}
 use Rattle.geometry.specs.Places.{centreOf}
-use Rattle.envelope.specs.AgreementLaws.{samePlaces-at, samePlaces-by}
-use Rattle.envelope.proofs.agreement.same_places.Statement.{statement}
-use Rattle.envelope.proofs.agreement.same_places.Tie as tie
+use Rattle.agreement.specs.AgreementLaws.{samePlaces-at, samePlaces-by}
+use Rattle.agreement.proofs.same_places.Statement.{statement}
+use Rattle.agreement.proofs.same_places.Tie as tie
 
 abbrev Inv-loop : tie.InvT-loop
 Inv-loop a b n k₀ k = (k ≤ n) × ((j : ℕ) → j < k → centreOf a j ≡ centreOf b j)

@@ -1,4 +1,4 @@
--- `envelope::agreement::same_integer` meets its contract: two integers that fit are the same where their bits are.
+-- `agreement::same_integer` meets its contract: two integers that fit are the same where their bits are.
 use borrow.Author.Tests.{eqb-true, eq-eqb}
 use mathlib.Core.Path.{_≡_, sym, ap, _∙_}
 use mathlib.Core.Bool.{true}
@@ -8,8 +8,8 @@ use mir.Syntax.{w64}
 use mir.Val.{SFits, ofZ, toZ}
 use mir.Facts.{toZ-ofZ}
 use Rattle.integers.specs.Tests.{test-same, sameInteger, integer-eq, integer-refl}
-use Rattle.envelope.proofs.agreement.same_integer.Statement.{statement}
-use Rattle.envelope.proofs.agreement.same_integer.Tie as tie
+use Rattle.agreement.proofs.same_integer.Statement.{statement}
+use Rattle.agreement.proofs.same_integer.Tie as tie
 
 same-bits : (a b : ℤ) → SFits w64 a → SFits w64 b → eqb (ofZ w64 a) (ofZ w64 b) ≡ sameInteger a b
 same-bits a b f g =

@@ -6,7 +6,6 @@
 --     agrees D limit rows m n ball weights    no weight stands past the m rows, and the check of the others gives this ball
 --     withCentre ball x                       the ball with another X
 --     clearedBall n ball, cleared e           the ball, and the envelope, with places past n set to 0
---     drawnEnvelope n codes drawing           the envelope of a drawing for n channels of these codes
 use Prim.Native.Nat.{ℕ, zero, suc}
 use mathlib.Core.Bool.{Bool, true, _&&_}
 use mathlib.Core.List.{List, [], _∷_}
@@ -21,10 +20,8 @@ use Rattle.geometry.specs.Places.{centreList, centreOf}
 use Rattle.ball.specs.Check.{checking}
 use Rattle.ball.specs.declared.Ball.{Ball}
 use Rattle.ball.specs.declared.Checked.{Checked}
-use Rattle.ball.specs.declared.Drawing.{Drawing}
 use Rattle.envelope.specs.Figures.{channelCodes, figuresOf, envelopeOf}
-use Rattle.envelope.specs.FigureLaws.{drawnFigures}
 use Rattle.envelope.specs.declared.Envelope.{Envelope}
 
 unfoldable pub allZero : List ℕ → Bool
 allZero [] = true
@@ -63,6 +60,3 @@ abbrev pub cleared : Envelope → Envelope
 cleared e =
     let f = e .figures in
     envelopeOf (figuresOf (f .n) (padded channelLimit (channelCodes f)) (clearedBall (f .n) (f .ball)) (f .moves)) (e .weights)
-
-abbrev pub drawnEnvelope : ℕ → List ℕ → Drawing → Envelope
-drawnEnvelope n codes r = envelopeOf (drawnFigures n codes r) (r .weights)

@@ -1,4 +1,4 @@
--- `envelope::agreement::ball_agrees` meets its contract: each test is that of one figure, one that does not hold decides the answer, and
+-- `agreement::ball_agrees` meets its contract: each test is that of one figure, one that does not hold decides the answer, and
 -- past the others the ending does.
 use borrow.Author.Needs.{needs}
 use borrow.Author.Tests.{not-true, not-false}
@@ -10,9 +10,9 @@ use Rattle.integers.specs.Tests.{clash, sameFlag}
 use Rattle.limits.specs.Limits.{channelLimit}
 use Rattle.ball.specs.declared.Ball.{Ball}
 use Rattle.ball.specs.declared.Checked.{Checked}
-use Rattle.envelope.specs.AgreementLaws.{samePlaces-at, samePlaces-by, ball-refused, ball-ending}
-use Rattle.envelope.proofs.agreement.ball_agrees.Statement.{statement}
-use Rattle.envelope.proofs.agreement.ball_agrees.Tie as tie
+use Rattle.agreement.specs.AgreementLaws.{samePlaces-at, samePlaces-by, ball-refused, ball-ending}
+use Rattle.agreement.proofs.ball_agrees.Statement.{statement}
+use Rattle.agreement.proofs.ball_agrees.Tie as tie
 
 beq-flag : (a b : Bool) → Bool·beq a b ≡ sameFlag a b
 beq-flag true true = refl
