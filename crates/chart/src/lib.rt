@@ -13,7 +13,6 @@ ghost use Rattle.envelope.specs.Figures.{lentFigures};
 ghost use Rattle.chart.specs.Fraction.{fractionOf};
 ghost use Rattle.chart.specs.Mark.{refusedMark, channelWithin, markOf, chartMark};
 
-pub mod panel;
 mod root;
 
 use crate::root::ceiling_root;

@@ -4,7 +4,6 @@ use Prim.Native.Nat.{ℕ, _≤_}
 use mathlib.Core.Path.{_≡_, refl}
 use mathlib.Core.Bool.{Bool, true, false}
 use mathlib.Core.List.{List}
-use lib.Dec.{leb}
 use lib.IntN.{ℤ}
 use Rattle.integers.specs.Tests.{nonzero}
 use Rattle.refusal.specs.Number.{outside-limits}
@@ -14,8 +13,8 @@ use Rattle.limits.specs.Limits.{channelLimit}
 use Rattle.channel.specs.Channel.{Types}
 use Rattle.envelope.specs.Figures.{figuresKnown}
 use Rattle.envelope.specs.FigureLaws.{known-within}
-use Rattle.chart.specs.Panel.{refusedPanel, panelOf, panelShown}
-use Rattle.chart.specs.declared.panel.PanelShown.{PanelShown}
+use Rattle.panel_steps.specs.Panel.{refusedPanel, panelOf, panelShown}
+use Rattle.panel_steps.specs.declared.PanelShown.{PanelShown}
 use Rattle.export_figures.specs.Contracts.{endingKnown, figuresGiven}
 use Rattle.export_chart.specs.Contracts.{panelGiven}
 use Rattle.export_figures.specs.declared.FiguresGiven.{FiguresGiven}

@@ -7,14 +7,14 @@ ghost use Rattle.channel.specs.Channel.{channelTypes};
 ghost use Rattle.export_chart.specs.Contracts.{markInNumbers, chartAnswer, panelGiven, panelAnswer};
 use channel::Code;
 use chart::Mark;
-use chart::panel::PanelShown;
-use chart::panel::refused_panel;
 use chart::refused_mark;
 use export_figures::FiguresGiven;
 use export_figures::ending_known;
 use export_figures::scalars_given;
 use lent::fill_table;
 use lent::with_room;
+use panel_steps::PanelShown;
+use panel_steps::refused_panel;
 
 // the marks as numbers; 0 is none of them
 const DOT: u32 = 1;
@@ -98,7 +98,7 @@ fn panel_given(figures: FiguresGiven, codes: &[Code], scaled_centre: &[i64]) -> 
     if !ending_known(figures) {
         return refused_panel();
     }
-    chart::panel::panel_lent(scalars_given(figures), codes, scaled_centre)
+    panel_steps::panel_lent(scalars_given(figures), codes, scaled_centre)
 }
 
 // The centre of an envelope to the nearest whole step, halves away from zero. It fills the first n places of `steps` where accepted, and

@@ -32,7 +32,7 @@ use Rattle.record_lines.specs.Lines.{printCentre, printResult, printWeight}
 use Rattle.record_form.specs.Record.{printRecord}
 use Rattle.record_form.specs.Weights.{listed}
 use Rattle.record_print.specs.Printed.{recordText}
-use Rattle.chart.specs.Panel.{panelShown}
+use Rattle.panel_steps.specs.Panel.{panelShown}
 
 pub record Trial : Type 0 where
   pub computed : List ℤ

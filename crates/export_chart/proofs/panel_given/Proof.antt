@@ -1,12 +1,12 @@
 -- The ending that is given is one of the two or refused by 8, as the definition chooses; the panel is that of the figures that are given.
-use mathlib.Core.Path.{sym, ap, _∙_}
+use mathlib.Core.Path.{sym, _∙_}
 use borrow.Author.Needs.{needs}
 use borrow.Author.Tests.{not-true, not-false}
 use denote.Ref.{now}
 use Rattle.refusal.specs.Number.{outside-limits}
 use Rattle.limits.specs.Limits.{total}
 use Rattle.channel.specs.Channel.{channelTypes}
-use Rattle.chart.specs.Panel.{refusedPanel, panelShown}
+use Rattle.panel_steps.specs.Panel.{refusedPanel, panelShown}
 use Rattle.export_figures.specs.ContractLaws.{answer-taken, answer-refused}
 use Rattle.export_chart.specs.Contracts.{panelGiven}
 use Rattle.export_chart.proofs.panel_given.Statement.{statement}

@@ -1,4 +1,4 @@
--- `chart::panel::panel_lent` meets its contract: the test is the definition's own, and past it X has n places within their limit.
+-- `panel_steps::panel_lent` meets its contract: the test is the definition's own, and past it X has n places within their limit.
 use mathlib.Core.Path.{_≡_, sym, ap, _∙_}
 use mathlib.Core.Bool.{true}
 use borrow.Author.Needs.{needs}
@@ -10,9 +10,9 @@ use Rattle.channel.specs.Channel.{channelTypes}
 use Rattle.envelope.specs.Figures.{figuresKnown, lentFigures}
 use Rattle.envelope.specs.FigureLaws.{known-within, within-centre}
 use Rattle.envelope.specs.declared.Figures.{Figures}
-use Rattle.chart.specs.PanelLaws.{panel-refuses, panel-shows}
-use Rattle.chart.proofs.panel.panel_lent.Statement.{statement}
-use Rattle.chart.proofs.panel.panel_lent.Tie as tie
+use Rattle.panel_steps.specs.PanelLaws.{panel-refuses, panel-shows}
+use Rattle.panel_steps.proofs.panel_lent.Statement.{statement}
+use Rattle.panel_steps.proofs.panel_lent.Tie as tie
 
 -- the figures that are lent
 abbrev figures : tie.Start → Figures

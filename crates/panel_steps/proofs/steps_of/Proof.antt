@@ -1,4 +1,4 @@
--- `chart::panel::steps_of` meets its contract. The loop's invariant: the places passed hold their channels' steps, the others 0. The measure
+-- `panel_steps::steps_of` meets its contract. The loop's invariant: the places passed hold their channels' steps, the others 0. The measure
 -- is what is left of the channels.
 use borrow.Author.Needs.{needs}
 use Prim.Native.Nat.{ℕ, _-_, _≤_}
@@ -12,10 +12,10 @@ use Rattle.limits.specs.Limits.{total}
 use Rattle.geometry.specs.Places.{tabulate, centreOf, centreList}
 use Rattle.geometry.specs.PlacesLaws.{centreList-stored}
 use Rattle.geometry.specs.TableLaws.{centre-held}
-use Rattle.chart.specs.Panel.{nearestStep}
-use Rattle.chart.specs.PanelLaws.{nearest-most}
-use Rattle.chart.proofs.panel.steps_of.Statement.{statement}
-use Rattle.chart.proofs.panel.steps_of.Tie as tie
+use Rattle.panel_steps.specs.Panel.{nearestStep}
+use Rattle.panel_steps.specs.PanelLaws.{nearest-most}
+use Rattle.panel_steps.proofs.steps_of.Statement.{statement}
+use Rattle.panel_steps.proofs.steps_of.Tie as tie
 
 abbrev stepsIn : List ℤ → ℕ → ℤ
 stepsIn x k = nearestStep total (centreOf x k)

@@ -28,8 +28,8 @@ use Rattle.channel.specs.Channel.{Types}
 use Rattle.envelope.specs.Figures.{figuresKnown}
 use Rattle.envelope.specs.FigureLaws.{known-within}
 use Rattle.envelope.specs.declared.Figures.{Figures}
-use Rattle.chart.specs.Panel.{nearestMagnitude, nearestStep, refusedPanel, panelOf, panelShown}
-use Rattle.chart.specs.declared.panel.PanelShown.{PanelShown}
+use Rattle.panel_steps.specs.Panel.{nearestMagnitude, nearestStep, refusedPanel, panelOf, panelShown}
+use Rattle.panel_steps.specs.declared.PanelShown.{PanelShown}
 
 -- ---- the nearest whole number
 

@@ -1,4 +1,4 @@
--- `chart::panel::nearest_step` meets its contract: the magnitude is rounded, and a place of X below 0 has the opposite of that.
+-- `panel_steps::nearest_step` meets its contract: the magnitude is rounded, and a place of X below 0 has the opposite of that.
 use borrow.Author.Needs.{needs}
 use Prim.Native.Nat.{ℕ, _^_, _<_}
 use mathlib.Core.Path.{_≡_, refl, sym, ap, _∙_}
@@ -14,9 +14,9 @@ use Rattle.integers.specs.Tests.{clash}
 use Rattle.integers.specs.Absolute.{abs-neg, abs-nonneg, fits32, back32, back64}
 use Rattle.integers.specs.Reading.{Bounded, back, number-cast, sign-read, opposite-fits, opposite-read, natural-read}
 use Rattle.limits.specs.Limits.{total, coordinateLimit}
-use Rattle.chart.specs.Panel.{nearestMagnitude, nearestStep}
-use Rattle.chart.proofs.panel.nearest_step.Statement.{statement}
-use Rattle.chart.proofs.panel.nearest_step.Tie as tie
+use Rattle.panel_steps.specs.Panel.{nearestMagnitude, nearestStep}
+use Rattle.panel_steps.proofs.nearest_step.Statement.{statement}
+use Rattle.panel_steps.proofs.nearest_step.Tie as tie
 
 step-below : (D : ℕ) (z : ℤ) → ltZ z (pos 0) ≡ true → nearestStep D z ≡ negℤ (pos (nearestMagnitude D (natAbs z)))
 step-below D (pos k) e = clash e (le-ltb k 0 (omega arith))

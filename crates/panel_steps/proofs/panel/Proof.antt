@@ -1,11 +1,11 @@
--- `chart::panel::panel` meets its contract: the figures' own codes and X are lent.
+-- `panel_steps::panel` meets its contract: the figures' own codes and X are lent.
 use borrow.Author.Needs.{needs}
 use Rattle.limits.specs.Limits.{total}
 use Rattle.channel.specs.Channel.{channelTypes}
 use Rattle.envelope.specs.FigureLaws.{own-lent}
-use Rattle.chart.specs.Panel.{panelShown}
-use Rattle.chart.proofs.panel.panel.Statement.{statement}
-use Rattle.chart.proofs.panel.panel.Tie as tie
+use Rattle.panel_steps.specs.Panel.{panelShown}
+use Rattle.panel_steps.proofs.panel.Statement.{statement}
+use Rattle.panel_steps.proofs.panel.Tie as tie
 
 returns : tie.Need-returns
 returns c =

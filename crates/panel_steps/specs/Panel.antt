@@ -15,7 +15,7 @@ use Rattle.geometry.specs.Places.{centreOf, centreList}
 use Rattle.channel.specs.Channel.{Types}
 use Rattle.envelope.specs.Figures.{figuresKnown}
 use Rattle.envelope.specs.declared.Figures.{Figures}
-use Rattle.chart.specs.declared.panel.PanelShown.{PanelShown}
+use Rattle.panel_steps.specs.declared.PanelShown.{PanelShown}
 
 -- the whole part of k/D + 1/2
 abbrev pub nearestMagnitude : ℕ → ℕ → ℕ

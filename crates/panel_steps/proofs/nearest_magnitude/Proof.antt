@@ -1,9 +1,9 @@
--- `chart::panel::nearest_magnitude` meets its contract: the quotient is the definition's own, and nothing on the way to it is too large.
+-- `panel_steps::nearest_magnitude` meets its contract: the quotient is the definition's own, and nothing on the way to it is too large.
 use borrow.Author.Needs.{needs}
 use mathlib.Core.Path.{refl}
 use native.Mathlib.Omega.{arith}
-use Rattle.chart.proofs.panel.nearest_magnitude.Statement.{statement}
-use Rattle.chart.proofs.panel.nearest_magnitude.Tie as tie
+use Rattle.panel_steps.proofs.nearest_magnitude.Statement.{statement}
+use Rattle.panel_steps.proofs.nearest_magnitude.Tie as tie
 
 mul-result : tie.Need-mul-result
 mul-result c = search needs

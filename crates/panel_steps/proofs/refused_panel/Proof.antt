@@ -1,11 +1,11 @@
--- `chart::panel::refused_panel` meets its contract: the outcome is the refusal 8, and every place is 0.
+-- `panel_steps::refused_panel` meets its contract: the outcome is the refusal 8, and every place is 0.
 use mathlib.Core.Path.{ap}
 use lib.IntN.{pos}
 use lib.ListN.{replicate}
 use borrow.Author.Needs.{needs}
 use Rattle.limits.specs.Limits.{channelLimit}
-use Rattle.chart.proofs.panel.refused_panel.Statement.{statement}
-use Rattle.chart.proofs.panel.refused_panel.Tie as tie
+use Rattle.panel_steps.proofs.refused_panel.Statement.{statement}
+use Rattle.panel_steps.proofs.refused_panel.Tie as tie
 
 refused-at-requires : tie.Need-refused-at-requires
 refused-at-requires c κs = search needs
