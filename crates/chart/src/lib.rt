@@ -9,15 +9,18 @@ ghost use Rattle.limits.specs.Limits.{total, distanceLimit};
 ghost use Rattle.geometry.specs.Places.{centreOf};
 ghost use Rattle.geometry.specs.Contracts.{CentreWithin};
 ghost use Rattle.channel.specs.Channel.{channelTypes};
+ghost use Rattle.envelope.specs.Figures.{lentFigures};
 ghost use Rattle.chart.specs.Fraction.{fractionOf};
 ghost use Rattle.chart.specs.Mark.{refusedMark, channelWithin, markOf, chartMark};
 
-pub mod panel;
 mod root;
 
 use crate::root::ceiling_root;
+use channel::Code;
 use envelope::Figures;
-use envelope::figures_known;
+use envelope::Scalars;
+use envelope::figures_known_lent;
+use envelope::scalars_of;
 use limits::TOTAL;
 use refusal::Refusal;
 
@@ -83,25 +86,46 @@ fn centre_fraction(n: usize, scaled_centre: &[i64], channel: usize) -> f64
     fraction(scaled_centre[channel - 1])
 }
 
-// The mark of an envelope on the chart of two channels counted from 1. Refused: 8.
-pub fn chart(figures: Figures, horizontal: usize, vertical: usize) -> Mark
-    ensures { λ r. ⌜ r ≡ chartMark total channelTypes figures horizontal vertical ⌝ }
+// The mark of an envelope whose codes and X are lent, on the chart of two channels counted from 1. Refused: 8.
+pub fn chart_lent(
+    scalars: Scalars,
+    codes: &[Code],
+    scaled_centre: &[i64],
+    horizontal: usize,
+    vertical: usize,
+) -> Mark
+    ensures { λ r.
+        ⌜ r ≡ chartMark total channelTypes (lentFigures scalars (now (codes .entry)) (now («scaled_centre» .entry))) horizontal vertical ⌝ }
 {
-    if !figures_known(figures) {
+    if !figures_known_lent(scalars, codes, scaled_centre) {
         return refused_mark();
     }
-    let n = figures.n;
+    let n = scalars.n;
     if !channel_within(n, horizontal) {
         return refused_mark();
     }
     if !channel_within(n, vertical) {
         return refused_mark();
     }
+    let point = Point {
+        horizontal: centre_fraction(n, scaled_centre, horizontal),
+        vertical: centre_fraction(n, scaled_centre, vertical),
+    };
+    mark_of(point, scalars.scaled_squared_radius)
+}
+
+// The same of figures as one value.
+pub fn chart(figures: Figures, horizontal: usize, vertical: usize) -> Mark
+    ensures { λ r. ⌜ r ≡ chartMark total channelTypes figures horizontal vertical ⌝ }
+{
+    let codes = figures.codes;
     let ball = figures.ball;
     let scaled_centre = ball.scaled_centre;
-    let point = Point {
-        horizontal: centre_fraction(n, &scaled_centre, horizontal),
-        vertical: centre_fraction(n, &scaled_centre, vertical),
-    };
-    mark_of(point, ball.scaled_squared_radius)
+    chart_lent(
+        scalars_of(figures),
+        &codes,
+        &scaled_centre,
+        horizontal,
+        vertical,
+    )
 }

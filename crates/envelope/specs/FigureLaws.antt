@@ -5,14 +5,17 @@
 --     Coded types f                       a known code for each channel, as facts
 --     known-within, known-coded           both tests, as the records
 --     figures-known, known-refused        the records, as both tests; a limit that is not kept
+--     lent-places, lent-known             the places that known figures of lent codes and X have; the test of the codes, past the other tests
+--     own-lent                            what is answered to figures whose own codes and X are lent is answered to the figures
 --     within-centre                       X of figures within their limits, as the numeric functions ask for it at the total that the
 --                                         contracts fix
 --     tight-within                        2.14: the figures of a ball of which demand 3 holds are within their limits
 --     drawnFigures n codes drawing        the figures of a drawing for n channels of these codes
+--     drawnEnvelope n codes drawing       its envelope
 --     drawn-within, checked-within        those of an accepted drawing and of an accepted check are within their limits, with known codes
 use Prim.Native.Nat.{ℕ, _≤_, _<_}
-use mathlib.Core.Path.{_≡_, ap, ap₂, _∙_}
-use mathlib.Core.Bool.{true, false, _&&_}
+use mathlib.Core.Path.{_≡_, sym, ap, ap₂, _∙_}
+use mathlib.Core.Bool.{Bool, true, false, _&&_}
 use mathlib.Core.List.{List}
 use native.Mathlib.Nat.{le-trans}
 use native.Mathlib.Omega.{arith}
@@ -39,8 +42,10 @@ use Rattle.ball.specs.declared.Ball.{Ball}
 use Rattle.checking.specs.declared.Checked.{Checked}
 use Rattle.drawing.specs.declared.Drawing.{Drawing}
 use Rattle.channel.specs.Channel.{Types, codesKnown}
-use Rattle.envelope.specs.Figures.{channelCodes, figuresWithin, codesWithin, figuresKnown, figuresOf}
+use Rattle.envelope.specs.Figures.{channelCodes, figuresWithin, codesWithin, figuresKnown, figuresOf, scalarsOf, lentFigures, placesLent, envelopeOf}
 use Rattle.envelope.specs.declared.Figures.{Figures}
+use Rattle.envelope.specs.declared.Scalars.{Scalars}
+use Rattle.envelope.specs.declared.Envelope.{Envelope}
 
 -- ---- the limits, as a record
 
@@ -128,6 +133,24 @@ module _ (D : ℕ) (types : Types) (f : Figures) where
   figures-known w c =
       ap₂ _&&_ (figures-within D f w) (ap₂ _&&_ (le-leb (f .n) (length (f .codes)) (c .typed)) (c .each-known))
 
+-- ---- figures of which codes and X are lent
+
+module _ (D : ℕ) (types : Types) (s : Scalars) (codes : List ℕ) (X : List ℤ) where
+  pub lent-places : figuresKnown D types (lentFigures s codes X) ≡ true → placesLent (s .n) codes X ≡ true
+  lent-places h =
+      let f = lentFigures s codes X in
+      ap₂ _&&_ (le-leb (s .n) (length codes) (known-coded D types f h .typed)) (le-leb (s .n) (length X) (known-within D types f h .places))
+
+  pub lent-known : figuresWithin D (lentFigures s codes X) ≡ true → s .n ≤ length codes
+      → codesKnown types (take (s .n) codes) ≡ figuresKnown D types (lentFigures s codes X)
+  unfolding figuresKnown codesWithin
+  lent-known within typed =
+      sym (ap₂ (λ (limits coded : Bool). limits && (coded && codesKnown types (take (s .n) codes))) within (le-leb (s .n) (length codes) typed))
+
+pub own-lent : {A : Type 0} (answer : Figures → A) (f : Figures) {s : Scalars} {r : A} → s ≡ scalarsOf f
+    → r ≡ answer (lentFigures s (f .codes) (f .ball .«scaled_centre»)) → r ≡ answer f
+own-lent answer f own is = is ∙ ap (λ (s : Scalars). answer (lentFigures s (f .codes) (f .ball .«scaled_centre»))) own
+
 -- what the numeric functions ask of X
 pub within-centre : {f : Figures} → Within total f → CentreWithin (f .n) (f .ball .«scaled_centre»)
 within-centre w = record { places = w .places; bound = w .centre-limit }
@@ -136,6 +159,9 @@ within-centre w = record { places = w .places; bound = w .centre-limit }
 
 abbrev pub drawnFigures : ℕ → List ℕ → Drawing → Figures
 drawnFigures n codes r = figuresOf n codes (r .ball) (r .moves)
+
+abbrev pub drawnEnvelope : ℕ → List ℕ → Drawing → Envelope
+drawnEnvelope n codes r = envelopeOf (drawnFigures n codes r) (r .weights)
 
 module _ (D : ℕ) (types : Types) (n : ℕ) (codes : List ℕ) (typed : n ≤ length codes) (k : codesKnown types (take n codes) ≡ true) where
   pub tight-within : (m : ℕ) (a : ℕ → ℕ → ℤ) (ball : Ball) (moves : ℕ) → Tight D m n a ball → n ≤ length (ball .«scaled_centre»)

@@ -1,5 +1,3 @@
--- Envelopes, in reading order: the figures with their limits, their laws; then agreement with rows, and its laws.
+-- Envelopes, in reading order: the figures with their limits, then their laws.
 pub mod Figures
 pub mod FigureLaws
-pub mod Agreement
-pub mod AgreementLaws

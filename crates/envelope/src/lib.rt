@@ -1,18 +1,16 @@
 // An envelope as it is handed from call to call: its figures, and the weights that they come from. The limits on the figures
-// (document 01, "Turned-back input", 8) are tested by one function, `figures_within`, and their codes by another, `codes_within`,
-// whoever made the envelope.
+// (document 01, "Turned-back input", 8) and their codes are tested by one function, `figures_known_lent`, whoever made the envelope;
+// the codes and X are lent to it beside the figures that are single numbers.
 ghost use mathlib.Core.Path.{_≡_};
-ghost use Prim.Native.Nat.{_≤_};
+ghost use mathlib.Core.List.{List};
+ghost use Prim.Native.Nat.{ℕ, _≤_};
 ghost use lib.Dec.{leb};
 ghost use lib.IntN.{natAbs};
 ghost use lib.ListN.{length};
 ghost use Rattle.limits.specs.Limits.{total, rowLimit, centreLimit};
 ghost use Rattle.geometry.specs.Table.{placesWithin};
 ghost use Rattle.channel.specs.Channel.{channelTypes};
-ghost use Rattle.envelope.specs.Figures.{figuresWithin, codesWithin, figuresKnown, figuresOf, emptyFigures, envelopeOf, emptyEnvelope};
-
-pub mod agreement;
-
+ghost use Rattle.envelope.specs.Figures.{figuresWithin, placesLent, figuresKnown, figuresOf, emptyFigures, scalarsOf, lentFigures, envelopeOf, emptyEnvelope};
 use ball::Ball;
 use ball::empty_ball;
 use channel::Code;
@@ -28,6 +26,15 @@ pub struct Figures {
     pub n: usize,
     pub codes: [Code; CHANNELS],
     pub ball: Ball,
+    pub moves: u32,
+}
+
+// The figures that are single numbers: n, M, L, the ending and the moves. The codes and X are lent beside them.
+pub struct Scalars {
+    pub n: usize,
+    pub scaled_squared_radius: u64,
+    pub scaled_lower_bound: u64,
+    pub settled: bool,
     pub moves: u32,
 }
 
@@ -54,6 +61,20 @@ pub fn empty_figures() -> Figures
     ensures { λ r. ⌜ r ≡ emptyFigures ⌝ }
 {
     filled_figures(0, [0; CHANNELS], empty_ball(), 0)
+}
+
+// The single numbers of figures.
+pub fn scalars_of(figures: Figures) -> Scalars
+    ensures { λ r. ⌜ r ≡ scalarsOf figures ⌝ }
+{
+    let ball = figures.ball;
+    Scalars {
+        n: figures.n,
+        scaled_squared_radius: ball.scaled_squared_radius,
+        scaled_lower_bound: ball.scaled_lower_bound,
+        settled: ball.settled,
+        moves: figures.moves,
+    }
 }
 
 // The envelope with these figures and weights.
@@ -95,49 +116,61 @@ fn centre_within(scaled_centre: &[i64], n: usize) -> bool
     true
 }
 
-// Whether n, X, M, L and the moves are within their limits.
-pub fn figures_within(figures: Figures) -> bool
-    ensures { λ r. ⌜ r ≡ figuresWithin total figures ⌝ }
+// Whether n, X, M, L and the moves are within their limits. The codes are not looked at.
+fn figures_within(scalars: Scalars, scaled_centre: &[i64]) -> bool
+    requires { ⌜ scalars .n ≤ length (now «scaled_centre») ⌝ }
+    ensures { λ r. ⌜ ((codes : List ℕ) → r ≡ figuresWithin total (lentFigures scalars codes (now («scaled_centre» .entry)))) ⌝ }
 {
-    let n = figures.n;
+    let n = scalars.n;
     if n < 1 {
         return false;
     }
     if CHANNELS < n {
         return false;
     }
-    let ball = figures.ball;
-    let scaled_centre = ball.scaled_centre;
-    if !centre_within(&scaled_centre, n) {
+    if !centre_within(scaled_centre, n) {
         return false;
     }
-    if DISTANCE_MOST < ball.scaled_squared_radius {
+    if DISTANCE_MOST < scalars.scaled_squared_radius {
         return false;
     }
-    if DISTANCE_MOST < ball.scaled_lower_bound {
+    if DISTANCE_MOST < scalars.scaled_lower_bound {
         return false;
     }
-    figures.moves <= BUDGET_MOST
+    scalars.moves <= BUDGET_MOST
 }
 
-// Whether there is a code for each of the n channels, that of a type.
-pub fn codes_within(figures: Figures) -> bool
-    ensures { λ r. ⌜ r ≡ codesWithin channelTypes figures ⌝ }
+// Whether a code and a place of X are lent for each of the n channels.
+pub fn places_lent(n: usize, codes: &[Code], scaled_centre: &[i64]) -> bool
+    ensures { λ r. ⌜ r ≡ placesLent n (now (codes .entry)) (now («scaled_centre» .entry)) ⌝ }
 {
-    let n = figures.n;
-    if CHANNELS < n {
+    if codes.len() < n {
         return false;
     }
-    let codes = figures.codes;
-    channel::codes_known(&codes, n)
+    n <= scaled_centre.len()
 }
 
-// Both: what readings, records, charts and panels ask of the figures that they are given.
+// Whether every figure is within its limits, and each of the n codes is that of a type: what readings, records, charts and panels
+// ask of the figures that they are given.
+pub fn figures_known_lent(scalars: Scalars, codes: &[Code], scaled_centre: &[i64]) -> bool
+    ensures { λ r.
+        ⌜ r ≡ figuresKnown total channelTypes (lentFigures scalars (now (codes .entry)) (now («scaled_centre» .entry))) ⌝ }
+{
+    if !places_lent(scalars.n, codes, scaled_centre) {
+        return false;
+    }
+    if !figures_within(scalars, scaled_centre) {
+        return false;
+    }
+    channel::codes_known(codes, scalars.n)
+}
+
+// The same of figures as one value.
 pub fn figures_known(figures: Figures) -> bool
     ensures { λ r. ⌜ r ≡ figuresKnown total channelTypes figures ⌝ }
 {
-    if !figures_within(figures) {
-        return false;
-    }
-    codes_within(figures)
+    let codes = figures.codes;
+    let ball = figures.ball;
+    let scaled_centre = ball.scaled_centre;
+    figures_known_lent(scalars_of(figures), &codes, &scaled_centre)
 }

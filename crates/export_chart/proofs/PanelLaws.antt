@@ -4,7 +4,6 @@ use Prim.Native.Nat.{ℕ, _≤_}
 use mathlib.Core.Path.{_≡_, refl}
 use mathlib.Core.Bool.{Bool, true, false}
 use mathlib.Core.List.{List}
-use lib.Dec.{leb}
 use lib.IntN.{ℤ}
 use Rattle.integers.specs.Tests.{nonzero}
 use Rattle.refusal.specs.Number.{outside-limits}
@@ -14,9 +13,9 @@ use Rattle.limits.specs.Limits.{channelLimit}
 use Rattle.channel.specs.Channel.{Types}
 use Rattle.envelope.specs.Figures.{figuresKnown}
 use Rattle.envelope.specs.FigureLaws.{known-within}
-use Rattle.chart.specs.Panel.{refusedPanel, panelOf, panelShown}
-use Rattle.chart.specs.declared.panel.PanelShown.{PanelShown}
-use Rattle.export_figures.specs.Contracts.{givenWhole, figuresGiven}
+use Rattle.panel_steps.specs.Panel.{refusedPanel, panelOf, panelShown}
+use Rattle.panel_steps.specs.declared.PanelShown.{PanelShown}
+use Rattle.export_figures.specs.Contracts.{endingKnown, figuresGiven}
 use Rattle.export_chart.specs.Contracts.{panelGiven}
 use Rattle.export_figures.specs.declared.FiguresGiven.{FiguresGiven}
 
@@ -34,5 +33,5 @@ module _ (D : ℕ) (types : Types) (given : FiguresGiven) (codes : List ℕ) (sc
   unfolding panelGiven panelShown
   panel-accepted =
       let figures = figuresGiven given codes scaledCentre in
-      shown-where (givenWhole given codes scaledCentre) _
+      shown-where (endingKnown given) _
       (λ _. shown-where (figuresKnown D types figures) (panelOf D figures) (λ within _. (refl, known-within D types figures within .channels)))

@@ -12,10 +12,10 @@ use Rattle.refusal.specs.Number.{outside-limits}
 use Rattle.refusal.specs.Outcome.{numberOf, lineOf}
 use Rattle.channel.specs.Channel.{Types}
 use Rattle.chart.specs.Mark.{refusedMark, markNumber, markLine, markPoint, markRadius, chartMark}
-use Rattle.chart.specs.Panel.{refusedPanel, panelShown}
+use Rattle.panel_steps.specs.Panel.{refusedPanel, panelShown}
 use Rattle.chart.specs.declared.Mark.{Mark}
 use Rattle.chart.specs.declared.Mark.the-variants.{Dot, Disc, Refused}
-use Rattle.chart.specs.declared.panel.PanelShown.{PanelShown}
+use Rattle.panel_steps.specs.declared.PanelShown.{PanelShown}
 use Rattle.lent.specs.Contracts.{withRoom}
 use Rattle.export_figures.specs.Contracts.{answerGiven}
 use Rattle.export_figures.specs.declared.FiguresGiven.{FiguresGiven}

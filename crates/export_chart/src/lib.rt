@@ -7,14 +7,14 @@ ghost use Rattle.channel.specs.Channel.{channelTypes};
 ghost use Rattle.export_chart.specs.Contracts.{markInNumbers, chartAnswer, panelGiven, panelAnswer};
 use channel::Code;
 use chart::Mark;
-use chart::panel::PanelShown;
-use chart::panel::refused_panel;
 use chart::refused_mark;
 use export_figures::FiguresGiven;
-use export_figures::figures_given;
-use export_figures::given_whole;
+use export_figures::ending_known;
+use export_figures::scalars_given;
 use lent::fill_table;
 use lent::with_room;
+use panel_steps::PanelShown;
+use panel_steps::refused_panel;
 
 // the marks as numbers; 0 is none of them
 const DOT: u32 = 1;
@@ -83,11 +83,11 @@ pub fn chart(
     ensures { λ r.
         ⌜ r ≡ chartAnswer total channelTypes figures (now (codes .entry)) (now («scaled_centre» .entry)) horizontal vertical ⌝ }
 {
-    if !given_whole(figures, codes, scaled_centre) {
+    if !ending_known(figures) {
         return mark_in_numbers(refused_mark());
     }
-    let taken = figures_given(figures, codes, scaled_centre);
-    let mark = chart::chart(taken, horizontal, vertical);
+    let scalars = scalars_given(figures);
+    let mark = chart::chart_lent(scalars, codes, scaled_centre, horizontal, vertical);
     mark_in_numbers(mark)
 }
 
@@ -95,11 +95,10 @@ pub fn chart(
 fn panel_given(figures: FiguresGiven, codes: &[Code], scaled_centre: &[i64]) -> PanelShown
     ensures { λ r. ⌜ r ≡ panelGiven total channelTypes figures (now (codes .entry)) (now («scaled_centre» .entry)) ⌝ }
 {
-    if !given_whole(figures, codes, scaled_centre) {
+    if !ending_known(figures) {
         return refused_panel();
     }
-    let taken = figures_given(figures, codes, scaled_centre);
-    chart::panel::panel(taken)
+    panel_steps::panel_lent(scalars_given(figures), codes, scaled_centre)
 }
 
 // The centre of an envelope to the nearest whole step, halves away from zero. It fills the first n places of `steps` where accepted, and

@@ -5,8 +5,8 @@ ghost use Rattle.channel.specs.Channel.{channelTypes};
 ghost use Rattle.export_reading.specs.Contracts.{verdictInNumbers, judgeAnswer};
 use channel::Code;
 use export_figures::FiguresGiven;
-use export_figures::figures_given;
-use export_figures::given_whole;
+use export_figures::ending_known;
+use export_figures::scalars_given;
 use reading::Verdict;
 use refusal::Refusal;
 
@@ -61,13 +61,12 @@ pub fn judge(
     ensures { λ r.
         ⌜ r ≡ judgeAnswer total channelTypes figures (now (codes .entry)) (now («scaled_centre» .entry)) (now (text .entry)) ⌝ }
 {
-    if !given_whole(figures, codes, scaled_centre) {
+    if !ending_known(figures) {
         return verdict_in_numbers(Verdict::Refused(Refusal {
             number: refusal::OUTSIDE_LIMITS,
             line: 0,
         }));
     }
-    let taken = figures_given(figures, codes, scaled_centre);
-    let verdict = reading::judge(taken, text);
+    let verdict = reading::judge_lent(scalars_given(figures), codes, scaled_centre, text);
     verdict_in_numbers(verdict)
 }

@@ -23,7 +23,7 @@ use Rattle.reference_rows.specs.ReferenceText.{codesOf, channelCount, rowCount,
 use Rattle.reference.specs.ReferenceLaws.{accepted-within}
 use Rattle.reference.specs.declared.read.Reference.{Reference}
 use Rattle.channel.specs.CodesLaws.{each-codes}
-use Rattle.envelope.specs.Agreement.{drawnEnvelope}
+use Rattle.envelope.specs.FigureLaws.{drawnEnvelope}
 use Rattle.envelope.specs.declared.Envelope.{Envelope}
 use Rattle.record_print.specs.Printed.{recordText}
 use Rattle.record_write.specs.Contracts.{recordWritten}
@@ -83,23 +83,22 @@ module _ {text : List ℕ} {r : Reference} {table : List ℤ} (read : RowsRead t
           room,
         )
 
-    own-written : {w : TextWritten} → w ≡ recordWritten total rowLimit channelTypes (take (r .m * r .n) table) (r .m) (drawnEnvelope (r .n) (r .codes) d) (length out)
-        → w ≡ written (length (recordText channelTypes own))
-    own-written e =
-        e
-        ∙ ap₂ (λ (l : List ℤ) (x : Envelope). recordWritten total rowLimit channelTypes l (r .m) x (length out)) (read .first) own-is
-        ∙ ap (λ (x : Reference). recordWritten total rowLimit channelTypes rows (x .m) own (length out)) (read .answer)
-        ∙ house-drawn-written rows m n codes refl known drawBudget
-        (draw-accepted total rowLimit channelTypes text (read .found) (read .is) house-sound) (length out) room
+    module _ {e : Envelope} (made : e ≡ drawnEnvelope (r .n) (r .codes) d) {w : TextWritten}
+        (answered : w ≡ recordWritten total rowLimit channelTypes (take (r .m * r .n) table) (r .m) e (length out)) where
+      own-written : w ≡ written (length (recordText channelTypes own))
+      own-written =
+          answered
+          ∙ ap₂ (λ (l : List ℤ) (x : Envelope). recordWritten total rowLimit channelTypes l (r .m) x (length out)) (read .first) (made ∙ own-is)
+          ∙ ap (λ (x : Reference). recordWritten total rowLimit channelTypes rows (x .m) own (length out)) (read .answer)
+          ∙ house-drawn-written rows m n codes refl known drawBudget
+          (draw-accepted total rowLimit channelTypes text (read .found) (read .is) house-sound) (length out) room
 
-    pub drawn-put : {out′ : List ℕ} {w : TextWritten} → w ≡ recordWritten total rowLimit channelTypes (take (r .m * r .n) table) (r .m) (drawnEnvelope (r .n) (r .codes) d) (length out)
-        → out′ ≡ filled (numberOf (w .outcome)) (w .length) (recordText channelTypes (drawnEnvelope (r .n) (r .codes) d)) out
-        → Put (drawOutput total rowLimit channelTypes text) out 0 out′ (w .length)
-    drawn-put {out′ = out′} e f =
-        let answer = own-written e in
-        let record-is = recordText channelTypes own in
-        let after : out′ ≡ filled 0 (length record-is) record-is out =
-        f ∙ ap₂ (λ (x : TextWritten) (y : Envelope). filled (numberOf (x .outcome)) (x .length) (recordText channelTypes y) out) answer own-is in
-        let put : Put record-is out 0 out′ (length record-is) = rw after (filled-put record-is out own-room) in
-        put-as put (sym (draw-record total rowLimit channelTypes text (read .found) (read .is) house-sound))
-        (ap (λ (x : TextWritten). x .length) (sym answer))
+      pub drawn-put : {out′ : List ℕ} → out′ ≡ filled (numberOf (w .outcome)) (w .length) (recordText channelTypes e) out
+          → Put (drawOutput total rowLimit channelTypes text) out 0 out′ (w .length)
+      drawn-put {out′ = out′} f =
+          let record-is = recordText channelTypes own in
+          let after : out′ ≡ filled 0 (length record-is) record-is out =
+          f ∙ ap₂ (λ (x : TextWritten) (y : Envelope). filled (numberOf (x .outcome)) (x .length) (recordText channelTypes y) out) own-written (made ∙ own-is) in
+          let put : Put record-is out 0 out′ (length record-is) = rw after (filled-put record-is out own-room) in
+          put-as put (sym (draw-record total rowLimit channelTypes text (read .found) (read .is) house-sound))
+          (ap (λ (x : TextWritten). x .length) (sym own-written))

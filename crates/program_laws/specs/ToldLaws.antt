@@ -58,7 +58,7 @@ use Rattle.record_form.specs.Record.{printRecord}
 use Rattle.record_print.specs.Printed.{recordText}
 use Rattle.record_read.specs.ReadLaws.{each-read}
 use Rattle.record_read.specs.declared.EnvelopeRead.{EnvelopeRead}
-use Rattle.chart.specs.Panel.{panelShown}
+use Rattle.panel_steps.specs.Panel.{panelShown}
 use Rattle.text.specs.EndedLines.{withEnds, linesWithEnds}
 use Rattle.program_lines.specs.Lines.{refusalWord, printRefusal, printAccepted, printVerdict, printVerdicts, printSteps}
 use Rattle.program_verdicts.specs.SizeLaws.{each-verdict}

@@ -25,9 +25,9 @@ use Rattle.envelope.specs.Figures.{figuresKnown}
 use Rattle.envelope.specs.FigureLaws.{known-within, known-coded}
 use Rattle.envelope.specs.declared.Figures.{Figures}
 use Rattle.record_read.specs.declared.EnvelopeRead.{EnvelopeRead}
-use Rattle.chart.specs.Panel.{panelShown}
-use Rattle.chart.specs.OwnLaws.{figures-shown}
-use Rattle.chart.specs.declared.panel.PanelShown.{PanelShown}
+use Rattle.panel_steps.specs.Panel.{panelShown}
+use Rattle.panel_steps.specs.OwnLaws.{figures-shown}
+use Rattle.panel_steps.specs.declared.PanelShown.{PanelShown}
 use Rattle.program_lines.specs.Lines.{printSteps}
 use Rattle.program_panel.specs.Output.{shownOutput}
 use Rattle.program_record.specs.Against.{unlessRefused, recordAgainst}

@@ -6,7 +6,7 @@ use mathlib.Core.List.{List}
 use Rattle.channel.specs.Channel.{Types}
 use Rattle.envelope.specs.Figures.{channelCodes}
 use Rattle.envelope.specs.declared.Figures.{Figures}
-use Rattle.chart.specs.Panel.{panelShown}
+use Rattle.panel_steps.specs.Panel.{panelShown}
 use Rattle.program_lines.specs.Lines.{printSteps}
 use Rattle.program_record.specs.Against.{unlessRefused, recordAgainst, ofFigures}
 

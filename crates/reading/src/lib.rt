@@ -4,12 +4,15 @@ ghost use mathlib.Core.Path.{_≡_};
 ghost use mathlib.Core.Bool.{true};
 ghost use Rattle.limits.specs.Limits.{total};
 ghost use Rattle.channel.specs.Channel.{channelTypes};
-ghost use Rattle.envelope.specs.Figures.{figuresKnown};
+ghost use Rattle.envelope.specs.Figures.{figuresKnown, lentFigures};
 ghost use Rattle.reading_line.specs.Reading.{readingLine};
 ghost use Rattle.reading_line.specs.Contracts.{lineAlone};
 ghost use Rattle.reading.specs.Verdict.{refusedVerdict, verdictOf, judgedReading, judged};
+use channel::Code;
 use envelope::Figures;
-use envelope::figures_known;
+use envelope::Scalars;
+use envelope::figures_known_lent;
+use envelope::scalars_of;
 use figures::distance::scaled_squared_distance;
 use limits::CHANNELS;
 use reading_line::Line;
@@ -45,36 +48,35 @@ fn verdict_of(scaled_squared_distance: u64, scaled_squared_radius: u64) -> Verdi
 }
 
 // The verdict on what stands before a text's last byte 10.
-fn judge_line(figures: Figures, line: &[u8]) -> Verdict
-    requires { ⌜ figuresKnown total channelTypes figures ≡ true ⌝ }
+fn judge_line(scalars: Scalars, codes: &[Code], scaled_centre: &[i64], line: &[u8]) -> Verdict
+    requires { ⌜ figuresKnown total channelTypes (lentFigures scalars (now codes) (now «scaled_centre»)) ≡ true ⌝ }
     ensures { λ r.
-        ⌜ r ≡ judgedReading total channelTypes figures (readingLine (figures .n) (lineAlone (now (line .entry)))) ⌝ }
+        ⌜ r ≡ judgedReading total channelTypes (lentFigures scalars (now (codes .entry)) (now («scaled_centre» .entry)))
+        (readingLine (scalars .n) (lineAlone (now (line .entry)))) ⌝ }
 {
-    let n = figures.n;
-    let codes = figures.codes;
-    let ball = figures.ball;
-    let scaled_centre = ball.scaled_centre;
-    let scaled_squared_radius = ball.scaled_squared_radius;
+    let n = scalars.n;
     let mut values = [0i32; CHANNELS];
-    let read = read_line(line, &codes, n, &mut values);
+    let read = read_line(line, codes, n, &mut values);
     match read {
         Line::Malformed => refused(refusal::LINE_FORM, 1),
         Line::TagDiffers => refused(refusal::TAG_DIFFERS, 1),
         Line::OutOfRange => refused(refusal::VALUE_RANGE, 1),
         Line::Within => {
             verdict_of(
-                scaled_squared_distance(&values, n, 0, &scaled_centre),
-                scaled_squared_radius,
+                scaled_squared_distance(&values, n, 0, scaled_centre),
+                scalars.scaled_squared_radius,
             )
         }
     }
 }
 
-// The verdict on a text against the figures of an envelope. Refused: 8, 1, 3, the leftmost 10, the leftmost 4.
-pub fn judge(figures: Figures, text: &[u8]) -> Verdict
-    ensures { λ r. ⌜ r ≡ judged total channelTypes figures (now (text .entry)) ⌝ }
+// The verdict on a text against the figures of an envelope whose codes and X are lent. Refused: 8, 1, 3, the leftmost 10, the
+// leftmost 4.
+pub fn judge_lent(scalars: Scalars, codes: &[Code], scaled_centre: &[i64], text: &[u8]) -> Verdict
+    ensures { λ r.
+        ⌜ r ≡ judged total channelTypes (lentFigures scalars (now (codes .entry)) (now («scaled_centre» .entry))) (now (text .entry)) ⌝ }
 {
-    if !figures_known(figures) {
+    if !figures_known_lent(scalars, codes, scaled_centre) {
         return refused(refusal::OUTSIDE_LIMITS, 0);
     }
     if !text_within(text) {
@@ -84,5 +86,15 @@ pub fn judge(figures: Figures, text: &[u8]) -> Verdict
     if text[end] != LINE_END {
         return refused(refusal::LINE_FORM, 1);
     }
-    judge_line(figures, &text[..end])
+    judge_line(scalars, codes, scaled_centre, &text[..end])
+}
+
+// The same against figures as one value.
+pub fn judge(figures: Figures, text: &[u8]) -> Verdict
+    ensures { λ r. ⌜ r ≡ judged total channelTypes figures (now (text .entry)) ⌝ }
+{
+    let codes = figures.codes;
+    let ball = figures.ball;
+    let scaled_centre = ball.scaled_centre;
+    judge_lent(scalars_of(figures), &codes, &scaled_centre, text)
 }

@@ -30,9 +30,9 @@ use Rattle.channel.specs.Channel.{channelTypes, codesKnown}
 use Rattle.channel.specs.ChannelLaws.{house-sound}
 use Rattle.channel.specs.ContractLaws.{house-short}
 use Rattle.envelope.specs.Figures.{figuresKnown}
-use Rattle.envelope.specs.FigureLaws.{known-within, known-coded}
-use Rattle.envelope.specs.Agreement.{cleared, drawnEnvelope}
-use Rattle.envelope.specs.AgreementLaws.{agrees-agreed, agreed-weight}
+use Rattle.envelope.specs.FigureLaws.{known-within, known-coded, drawnEnvelope}
+use Rattle.agreement.specs.Agreement.{cleared}
+use Rattle.agreement.specs.AgreementLaws.{agrees-agreed, agreed-weight}
 use Rattle.envelope.specs.declared.Envelope.{Envelope}
 use Rattle.record_print.specs.Printed.{recordOf, recordText, recordMost}
 use Rattle.record_print.specs.Contracts.{recordRoom}

@@ -42,8 +42,8 @@ use Rattle.heading.specs.Heading.{CodesWithin}
 use Rattle.envelope.specs.Figures.{channelCodes, figuresKnown, figuresOf}
 use Rattle.envelope.specs.FigureLaws.{Within as FiguresWithin, Coded, known-within, known-coded, figures-known, known-refused}
 use Rattle.channel.specs.CodesLaws.{codes-each, each-codes}
-use Rattle.envelope.specs.Agreement.{agrees, withCentre, clearedBall, cleared}
-use Rattle.envelope.specs.AgreementLaws.{agrees-agreed, agrees-cleared, agreed-within, agreed-tight, agreed-some}
+use Rattle.agreement.specs.Agreement.{agrees, withCentre, clearedBall, cleared}
+use Rattle.agreement.specs.AgreementLaws.{agrees-agreed, agrees-cleared, agreed-within, agreed-tight, agreed-some}
 use Rattle.envelope.specs.declared.Envelope.{Envelope}
 use Rattle.record_lines.specs.Lines.{Weight}
 use Rattle.record_form.specs.Record.{Record, Form, sound, printRecord, weightsWithin, Within}

@@ -32,7 +32,7 @@ use Rattle.text.specs.Parts.{same}
 use Rattle.channel.specs.Channel.{Types}
 use Rattle.channel.specs.ChannelLaws.{SoundTypes}
 use Rattle.envelope.specs.Figures.{figuresOf, envelopeOf}
-use Rattle.envelope.specs.Agreement.{agrees}
+use Rattle.agreement.specs.Agreement.{agrees}
 use Rattle.envelope.specs.declared.Figures.{Figures}
 use Rattle.envelope.specs.declared.Envelope.{Envelope}
 use Rattle.record_form.specs.Record.{Record, Form, faulty, sound, form}

@@ -30,7 +30,7 @@ use Rattle.ball.specs.declared.Ball.{Ball}
 use Rattle.text.specs.Parts.{textWithin, same}
 use Rattle.channel.specs.Channel.{Types, codesKnown}
 use Rattle.envelope.specs.Figures.{figuresOf, envelopeOf, emptyEnvelope}
-use Rattle.envelope.specs.Agreement.{agrees}
+use Rattle.agreement.specs.Agreement.{agrees}
 use Rattle.envelope.specs.declared.Envelope.{Envelope}
 use Rattle.record_form.specs.Record.{Record, Form, faulty, sound, form}
 use Rattle.record_form.specs.Weights.{weightsOf}

@@ -23,8 +23,8 @@ use Rattle.ball.specs.declared.Ball.{Ball}
 use Rattle.text.specs.Parts.{same}
 use Rattle.text.specs.PartsLaws.{same-eq}
 use Rattle.envelope.specs.Figures.{figuresOf, envelopeOf}
-use Rattle.envelope.specs.Agreement.{agrees}
-use Rattle.envelope.specs.AgreementLaws.{agrees-agreed, agreed-tight, agreed-weight}
+use Rattle.agreement.specs.Agreement.{agrees}
+use Rattle.agreement.specs.AgreementLaws.{agrees-agreed, agreed-tight, agreed-weight}
 use Rattle.record_lines.specs.Lines.{Weight}
 use Rattle.record_form.specs.Record.{Record, sound}
 use Rattle.record_form.specs.Weights.{placedIn, weightsOf}

@@ -30,7 +30,7 @@ use Rattle.text.specs.PartsLaws.{same-eq, same-refl}
 use Rattle.number.specs.Contracts.{magnitudeLimit}
 use Rattle.channel.specs.Channel.{Types, codesKnown}
 use Rattle.channel.specs.ChannelLaws.{SoundTypes}
-use Rattle.envelope.specs.Agreement.{agrees}
+use Rattle.agreement.specs.Agreement.{agrees}
 use Rattle.envelope.specs.declared.Envelope.{Envelope}
 use Rattle.record_form.specs.Record.{Record, Form, faulty, sound, form, printRecord, Within}
 use Rattle.record_form.specs.RecordLaws.{form-printed, printed-form}

@@ -9,7 +9,7 @@ use Rattle.refusal.specs.Outcome.{refused, choose}
 use Rattle.geometry.specs.Table.{rowsWithin}
 use Rattle.channel.specs.Channel.{Types}
 use Rattle.envelope.specs.Figures.{figuresKnown}
-use Rattle.envelope.specs.Agreement.{agrees}
+use Rattle.agreement.specs.Agreement.{agrees}
 use Rattle.envelope.specs.declared.Envelope.{Envelope}
 use Rattle.record_print.specs.Printed.{recordText}
 use Rattle.lent.specs.Contracts.{notWritten, textWritten}

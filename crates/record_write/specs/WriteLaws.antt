@@ -26,7 +26,7 @@ use Rattle.limits.specs.Limits.{total, rowLimit}
 use Rattle.channel.specs.Channel.{Types}
 use Rattle.envelope.specs.Figures.{figuresKnown}
 use Rattle.envelope.specs.FigureLaws.{known-within, known-coded}
-use Rattle.envelope.specs.Agreement.{agrees}
+use Rattle.agreement.specs.Agreement.{agrees}
 use Rattle.envelope.specs.declared.Figures.{Figures}
 use Rattle.envelope.specs.declared.Envelope.{Envelope}
 use Rattle.record_print.specs.Printed.{recordText}

@@ -27,12 +27,13 @@ use Rattle.channel.specs.Channel.{channelTypes, codesKnown}
 use Rattle.channel.specs.ChannelLaws.{house-TOC, house-CND, house-TMP}
 use Rattle.heading.specs.Heading.{printHeading}
 use Rattle.envelope.specs.Figures.{figuresWithin, codesWithin, figuresKnown, figuresOf}
-use Rattle.envelope.specs.Agreement.{withCentre, drawnEnvelope}
+use Rattle.envelope.specs.FigureLaws.{drawnEnvelope}
+use Rattle.agreement.specs.Agreement.{withCentre}
 use Rattle.record_lines.specs.Lines.{printCentre, printResult, printWeight}
 use Rattle.record_form.specs.Record.{printRecord}
 use Rattle.record_form.specs.Weights.{listed}
 use Rattle.record_print.specs.Printed.{recordText}
-use Rattle.chart.specs.Panel.{panelShown}
+use Rattle.panel_steps.specs.Panel.{panelShown}
 
 pub record Trial : Type 0 where
   pub computed : List ℤ

@@ -1,133 +1,20 @@
--- `chart::chart` meets its contract. The tests are the definition's own, one after the other; past them the places of X that the
--- channels name are there and within their limit, and the mark is that of the point and M.
-use Prim.Native.Nat.{_≤_}
-use mathlib.Core.Path.{_≡_, sym, ap₂, _∙_}
-use mathlib.Core.Bool.{true}
-use native.Mathlib.Omega.{arith}
+-- `chart::chart` meets its contract: the figures' own codes and X are lent.
 use borrow.Author.Needs.{needs}
-use borrow.Author.Tests.{not-true, not-false}
 use Rattle.limits.specs.Limits.{total}
 use Rattle.channel.specs.Channel.{channelTypes}
-use Rattle.envelope.specs.Figures.{figuresKnown}
-use Rattle.envelope.specs.FigureLaws.{Within, known-within, within-centre}
-use Rattle.chart.specs.Mark.{channelWithin, markOf}
-use Rattle.chart.specs.MarkLaws.{channel-known, chart-marks, refuses-figures, refuses-horizontal, refuses-vertical}
+use Rattle.envelope.specs.FigureLaws.{own-lent}
+use Rattle.envelope.specs.declared.Figures.{Figures}
+use Rattle.chart.specs.Mark.{chartMark}
 use Rattle.chart.proofs.chart.Statement.{statement}
 use Rattle.chart.proofs.chart.Tie as tie
 
-figures-known-requires : tie.Need-figures-known-requires
-figures-known-requires c κs = search needs
-
-refused-mark-requires : tie.Need-refused-mark-requires
-refused-mark-requires c κs = search needs
-
 returns : tie.Need-returns
 returns c =
-    let test = c .before .before in
-    let start = test .before in
-    c .refused-mark .ensures
-    ∙ sym (refuses-figures total channelTypes (start .args .figures) (start .args .horizontal) (start .args .vertical)
-    (sym (test .figures-known .ensures) ∙ not-true _ (c .before .if1 .taken)))
-
-channel-within-requires : tie.Need-channel-within-requires
-channel-within-requires c κs = search needs
-
-refused-mark-requires-2 : tie.Need-refused-mark-requires-2
-refused-mark-requires-2 c κs = search needs
-
-returns-2 : tie.Need-returns-2
-returns-2 c =
-    let test = c .before .before in
-    let start = test .before .before .before in
-    c .refused-mark2 .ensures
-    ∙ sym (refuses-horizontal total channelTypes (start .args .figures) (start .args .horizontal) (start .args .vertical)
-    (sym (test .channel-within .ensures) ∙ not-true _ (c .before .if2 .taken)))
-
-channel-within-requires-2 : tie.Need-channel-within-requires-2
-channel-within-requires-2 c κs = search needs
-
-refused-mark-requires-3 : tie.Need-refused-mark-requires-3
-refused-mark-requires-3 c κs = search needs
-
-returns-3 : tie.Need-returns-3
-returns-3 c =
-    let test = c .before .before in
-    let start = test .before .before .before .before .before in
-    c .refused-mark3 .ensures
-    ∙ sym (refuses-vertical total channelTypes (start .args .figures) (start .args .horizontal) (start .args .vertical)
-    (sym (test .channel-within2 .ensures) ∙ not-true _ (c .before .if3 .taken)))
-
--- past the tests
-module _ (c : tie.Else3) where
-  abbrev start : tie.Start
-  start = c .before .before .before .before .before .before
-
-  figures-pass : figuresKnown total channelTypes (start .args .figures) ≡ true
-  figures-pass = sym (c .before .before .before .before .before .figures-known .ensures) ∙ not-false _ (c .before .before .before .before .if1 .left)
-
-  horizontal-passes : channelWithin (start .args .figures .n) (start .args .horizontal) ≡ true
-  horizontal-passes = sym (c .before .before .before .channel-within .ensures) ∙ not-false _ (c .before .before .if2 .left)
-
-  vertical-passes : channelWithin (start .args .figures .n) (start .args .vertical) ≡ true
-  vertical-passes = sym (c .before .channel-within2 .ensures) ∙ not-false _ (c .if3 .left)
-
-  known : ((1 ≤ start .args .horizontal) × (start .args .horizontal ≤ start .args .figures .n)) × ((1 ≤ start .args .vertical) × (start .args .vertical ≤ start .args .figures .n))
-  known =
-      (channel-known (start .args .figures .n) (start .args .horizontal) horizontal-passes, channel-known (start .args .figures .n) (start .args .vertical) vertical-passes)
-
-  within : Within total (start .args .figures)
-  within = known-within total channelTypes (start .args .figures) figures-pass
-
-slice-aggregate-centre-fraction : tie.Need-slice-aggregate-centre-fraction
-slice-aggregate-centre-fraction c = search needs
-
-centre-fraction-requires : tie.Need-centre-fraction-requires
-centre-fraction-requires c κs =
-    let past = c .before .before .before in
-    let (h, v) = known past in
-    (within-centre (within past), (omega (arith, h, v), omega (arith, h, v)))
-
-slice-aggregate-centre-fraction-2 : tie.Need-slice-aggregate-centre-fraction-2
-slice-aggregate-centre-fraction-2 c = search needs
-
-centre-fraction-requires-2 : tie.Need-centre-fraction-requires-2
-centre-fraction-requires-2 c κs =
-    let past = c .before .before .before .before .before in
-    let (h, v) = known past in
-    (within-centre (within past), (omega (arith, h, v), omega (arith, h, v)))
-
-mark-of-requires : tie.Need-mark-of-requires
-mark-of-requires c κs =
-    let limits = within (c .before .before .before .before .before .before) in
-    omega (arith, limits .radius-limit, limits .floor-limit)
-
-returns-4 : tie.Need-returns-4
-returns-4 c =
-    let at-first = c .before .before .before in
-    let past = at-first .before .before .before .before in
-    let args = start past .args in
-    c .mark-of .ensures
-    ∙ ap₂ (λ x y. markOf total (record { horizontal = x; vertical = y }) (args .figures .ball .«scaled_squared_radius»))
-    (at-first .centre-fraction .ensures) (c .before .centre-fraction2 .ensures)
-    ∙ sym (chart-marks total channelTypes (args .figures) (args .horizontal) (args .vertical)
-    (figures-pass past) (horizontal-passes past) (vertical-passes past))
+    let at-scalars = c .before .before .before in
+    let args = at-scalars .before .before .before .before .args in
+    own-lent (λ (f : Figures). chartMark total channelTypes f (args .horizontal) (args .vertical)) (args .figures) (at-scalars .scalars-of .ensures)
+    (c .chart-lent .ensures)
 
 pub chart-spec : {M : Type 1} → statement M
 chart-spec =
-    tie.close
-    (tie.spec
-    figures-known-requires
-    refused-mark-requires
-    returns
-    channel-within-requires
-    refused-mark-requires-2
-    returns-2
-    channel-within-requires-2
-    refused-mark-requires-3
-    returns-3
-    slice-aggregate-centre-fraction
-    centre-fraction-requires
-    slice-aggregate-centre-fraction-2
-    centre-fraction-requires-2
-    mark-of-requires
-    returns-4)
+    tie.close (tie.spec (λ c κs. search needs) (λ c. search needs) (λ c. search needs) (λ c κs. search needs) returns)

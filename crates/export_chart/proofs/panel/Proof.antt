@@ -14,7 +14,7 @@ use Rattle.refusal.specs.declared.Outcome.{Outcome}
 use Rattle.refusal.specs.declared.Outcome.the-variants.{Accepted}
 use Rattle.limits.specs.Limits.{total, channelLimit}
 use Rattle.channel.specs.Channel.{channelTypes}
-use Rattle.chart.specs.declared.panel.PanelShown.{PanelShown}
+use Rattle.panel_steps.specs.declared.PanelShown.{PanelShown}
 use Rattle.export_chart.specs.Contracts.{panelGiven, panelAnswer}
 use Rattle.export_chart.specs.declared.PanelAnswer.{PanelAnswer}
 use Rattle.lent.specs.ContractLaws.{room-accepted, unwritten, rewritten}

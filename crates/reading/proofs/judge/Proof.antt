@@ -1,112 +1,20 @@
--- The tests of the figures and of the text's length are the definition's own. A text whose last byte is not 10 is no line with its
--- byte 10; what stands before a last byte 10 is the text's one line where there is no byte 10 in it, and the verdict is that on it.
-use Prim.Native.Nat.{_-_, _≤_}
-use mathlib.Core.Path.{_≡_, refl, sym, _∙_}
-use mathlib.Core.Bool.{true}
-use native.Mathlib.Omega.{arith}
+-- The verdict is that against the same figures with their own codes and X lent.
 use borrow.Author.Needs.{needs}
-use borrow.Author.Tests.{not-true, not-false}
-use lib.ListN.{length}
-use lib.Seq.{length-take-le}
 use denote.Ref.{now}
 use Rattle.limits.specs.Limits.{total}
-use Rattle.text.specs.Parts.{textWithin}
-use Rattle.text.specs.PartsLaws.{text-within}
 use Rattle.channel.specs.Channel.{channelTypes}
-use Rattle.envelope.specs.Figures.{figuresKnown}
-use Rattle.reading.proofs.VerdictSteps.{line-last, line-none, judged-text}
+use Rattle.envelope.specs.FigureLaws.{own-lent}
+use Rattle.envelope.specs.declared.Figures.{Figures}
+use Rattle.reading.specs.Verdict.{judged}
 use Rattle.reading.proofs.judge.Statement.{statement}
 use Rattle.reading.proofs.judge.Tie as tie
 
-figures-known-requires : tie.Need-figures-known-requires
-figures-known-requires c κs = search needs
-
-refused-requires : tie.Need-refused-requires
-refused-requires c κs = search needs
-
 returns : tie.Need-returns
 returns c =
-    let test = c .before .before in
-    let start = test .before .before in
-    c .refused .ensures
-    ∙ judged-text total channelTypes (start .args .figures) (now (start .args .text))
-    (sym (test .figures-known .ensures) ∙ not-true _ (c .before .if1 .taken)) refl refl
-
--- past the test of the figures
-within : (c : tie.Else1) → figuresKnown total channelTypes (c .before .before .before .args .figures) ≡ true
-within c = sym (c .before .figures-known .ensures) ∙ not-false _ (c .if1 .left)
-
-text-within-requires : tie.Need-text-within-requires
-text-within-requires c κs = search needs
-
-refused-requires-2 : tie.Need-refused-requires-2
-refused-requires-2 c κs = search needs
-
-returns-2 : tie.Need-returns-2
-returns-2 c =
-    let test = c .before .before in
-    let start = test .before .before .before .before in
-    c .refused2 .ensures
-    ∙ judged-text total channelTypes (start .args .figures) (now (start .args .text)) (within (test .before))
-    (sym (test .text-within .ensures) ∙ not-true _ (c .before .if2 .taken)) refl
-
--- past the test of the text
-fitting : (c : tie.Else2) → textWithin (now (c .before .before .before .before .before .args .text)) ≡ true
-fitting c = sym (c .before .text-within .ensures) ∙ not-false _ (c .if2 .left)
-
--- the text has a last byte
-some-byte : (c : tie.Else2) → 1 ≤ length (now (c .before .before .before .before .before .args .text))
-some-byte c = text-within (now (c .before .before .before .before .before .args .text)) (fitting c) .0
-
-sub-end : tie.Need-sub-end
-sub-end c = some-byte c
-
-shared-slice-read-if3 : tie.Need-shared-slice-read-if3
-shared-slice-read-if3 c = omega (arith, some-byte (c .before))
-
-refused-requires-3 : tie.Need-refused-requires-3
-refused-requires-3 c κs = search needs
-
-returns-3 : tie.Need-returns-3
-returns-3 c =
-    let text-test = c .before .before .before in
-    let figures-test = text-test .before .before in
-    let start = figures-test .before .before .before in
-    let text = now (start .args .text) in
-    c .refused3 .ensures
-    ∙ judged-text total channelTypes (start .args .figures) text (within figures-test) (fitting text-test)
-    (line-none text (length text - 1) (omega (arith, some-byte text-test)) (c .before .if3 .taken))
-
-slice-aggregate-judge-line : tie.Need-slice-aggregate-judge-line
-slice-aggregate-judge-line c = sym (length-take-le _ _ (omega arith))
-
-judge-line-requires : tie.Need-judge-line-requires
-judge-line-requires c κs = within (c .before .before .before .before .before)
-
-returns-4 : tie.Need-returns-4
-returns-4 c =
-    let text-test = c .before .before .before .before in
-    let figures-test = text-test .before .before in
-    let start = figures-test .before .before .before in
-    let text = now (start .args .text) in
-    c .judge-line .ensures
-    ∙ judged-text total channelTypes (start .args .figures) text (within figures-test) (fitting text-test)
-    (line-last text (length text - 1) (omega (arith, some-byte text-test)) (c .before .before .if3 .left))
+    let at-scalars = c .before .before .before in
+    let args = at-scalars .before .before .before .before .before .args in
+    own-lent (λ (f : Figures). judged total channelTypes f (now (args .text))) (args .figures) (at-scalars .scalars-of .ensures) (c .judge-lent .ensures)
 
 pub judge-spec : {M : Type 1} → statement M
 judge-spec =
-    tie.close
-    (tie.spec
-    figures-known-requires
-    refused-requires
-    returns
-    text-within-requires
-    refused-requires-2
-    returns-2
-    sub-end
-    shared-slice-read-if3
-    refused-requires-3
-    returns-3
-    slice-aggregate-judge-line
-    judge-line-requires
-    returns-4)
+    tie.close (tie.spec (λ c κs. search needs) (λ c. search needs) (λ c. search needs) (λ c κs. search needs) returns)

@@ -11,7 +11,7 @@ use Rattle.limits.specs.Limits.{total}
 use Rattle.geometry.specs.Places.{centreOf}
 use Rattle.channel.specs.Channel.{channelTypes}
 use Rattle.channel.specs.ChannelLaws.{house-sound}
-use Rattle.envelope.specs.Figures.{channelCodes}
+use Rattle.envelope.specs.Figures.{channelCodes, lentFigures}
 use Rattle.envelope.specs.FigureLaws.{Within as FiguresWithin, Coded, known-within, known-coded, within-centre}
 use Rattle.envelope.specs.declared.Figures.{Figures}
 use Rattle.reading_line.specs.Reading.{Reading, readingLine}
@@ -25,26 +25,26 @@ use Rattle.reading.proofs.judge_line.Tie as tie
 
 -- where the line is read, and the figures that it is judged by
 abbrev start-of : tie.After-read-line → tie.Start
-start-of c = c .before .before .before .before .before .before .before
+start-of c = c .before .before .before .before
+
+abbrev lent : tie.Start → Figures
+lent c = lentFigures (c .args .scalars) (now (c .args .codes)) (now (c .args .scaled-centre))
 
 abbrev figures : tie.After-read-line → Figures
-figures c = start-of c .args .figures
+figures c = lent (start-of c)
 
-limits : (c : tie.Start) → FiguresWithin total (c .args .figures)
-limits c = known-within total channelTypes (c .args .figures) (c .pre)
+limits : (c : tie.Start) → FiguresWithin total (lent c)
+limits c = known-within total channelTypes (lent c) (c .pre)
 
-coded : (c : tie.Start) → Coded channelTypes (c .args .figures)
-coded c = known-coded total channelTypes (c .args .figures) (c .pre)
+coded : (c : tie.Start) → Coded channelTypes (lent c)
+coded c = known-coded total channelTypes (lent c) (c .pre)
 
 slice-aggregate-read-line : tie.Need-slice-aggregate-read-line
 slice-aggregate-read-line c = search needs
 
-slice-aggregate-read-line-2 : tie.Need-slice-aggregate-read-line-2
-slice-aggregate-read-line-2 c = search needs
-
 read-line-requires : tie.Need-read-line-requires
 read-line-requires c κs =
-    let start = c .before .before .before .before .before .before in
+    let start = c .before .before .before in
     (coded start .each-known, (coded start .typed, omega (arith, limits start .channels)))
 
 -- as many codes as channels
@@ -91,12 +91,9 @@ enum-told-4 c = search needs
 slice-aggregate-scaled-squared-distance : tie.Need-slice-aggregate-scaled-squared-distance
 slice-aggregate-scaled-squared-distance c = search needs
 
-slice-aggregate-scaled-squared-distance-2 : tie.Need-slice-aggregate-scaled-squared-distance-2
-slice-aggregate-scaled-squared-distance-2 c = search needs
-
 scaled-squared-distance-requires : tie.Need-scaled-squared-distance-requires
 scaled-squared-distance-requires c κs =
-    let told = c .before .before in
+    let told = c .before in
     let at-read = told .before .before .before in
     (point at-read (told .enum-told4 .given .1) .row, within-centre (limits (start-of at-read)))
 
@@ -121,7 +118,7 @@ returns-3 c =
 returns-4 : tie.Need-returns-4
 returns-4 c =
     let at-distance = c .before in
-    let told = at-distance .before .before .before in
+    let told = at-distance .before .before in
     let at-read = told .before .before .before in
     let ball = figures at-read .ball in
     let within = point at-read (told .enum-told4 .given .1) in
@@ -136,7 +133,6 @@ judge-line-spec =
     tie.close
     (tie.spec
     slice-aggregate-read-line
-    slice-aggregate-read-line-2
     read-line-requires
     enum-told
     refused-requires
@@ -146,7 +142,6 @@ judge-line-spec =
     refused-requires-3
     enum-told-4
     slice-aggregate-scaled-squared-distance
-    slice-aggregate-scaled-squared-distance-2
     scaled-squared-distance-requires
     verdict-of-requires
     returns

@@ -16,7 +16,7 @@ use Rattle.geometry.specs.Table.{rowsWithin}
 use Rattle.limits.specs.Limits.{total, rowLimit}
 use Rattle.channel.specs.Channel.{channelTypes}
 use Rattle.envelope.specs.Figures.{figuresKnown}
-use Rattle.envelope.specs.Agreement.{agrees}
+use Rattle.agreement.specs.Agreement.{agrees}
 use Rattle.record_print.specs.Printed.{recordText}
 use Rattle.lent.specs.Contracts.{textWritten}
 use Rattle.record_write.specs.WriteLaws.{within-printing, outside-figures, outside-rows, refused-writing, writing-agreed}

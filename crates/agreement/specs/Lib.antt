@@ -1,0 +1,3 @@
+-- Agreement with rows, then its laws.
+pub mod Agreement
+pub mod AgreementLaws

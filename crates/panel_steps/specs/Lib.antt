@@ -1,0 +1,4 @@
+-- The panel, then its laws.
+pub mod Panel
+pub mod PanelLaws
+pub mod OwnLaws

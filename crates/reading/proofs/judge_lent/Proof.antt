@@ -1,0 +1,117 @@
+-- The tests of the figures and of the text's length are the definition's own. A text whose last byte is not 10 is no line with its
+-- byte 10; what stands before a last byte 10 is the text's one line where there is no byte 10 in it, and the verdict is that on it.
+use Prim.Native.Nat.{_-_, _≤_}
+use mathlib.Core.Path.{_≡_, refl, sym, _∙_}
+use mathlib.Core.Bool.{true}
+use native.Mathlib.Omega.{arith}
+use borrow.Author.Needs.{needs}
+use borrow.Author.Tests.{not-true, not-false}
+use lib.ListN.{length}
+use lib.Seq.{length-take-le}
+use denote.Ref.{now}
+use Rattle.limits.specs.Limits.{total}
+use Rattle.text.specs.Parts.{textWithin}
+use Rattle.text.specs.PartsLaws.{text-within}
+use Rattle.channel.specs.Channel.{channelTypes}
+use Rattle.envelope.specs.Figures.{figuresKnown, lentFigures}
+use Rattle.envelope.specs.declared.Figures.{Figures}
+use Rattle.reading.proofs.VerdictSteps.{line-last, line-none, judged-text}
+use Rattle.reading.proofs.judge_lent.Statement.{statement}
+use Rattle.reading.proofs.judge_lent.Tie as tie
+
+-- the figures that are lent
+abbrev figures : tie.Start → Figures
+figures c = lentFigures (c .args .scalars) (now (c .args .codes)) (now (c .args .scaled-centre))
+
+figures-known-lent-requires : tie.Need-figures-known-lent-requires
+figures-known-lent-requires c κs = search needs
+
+refused-requires : tie.Need-refused-requires
+refused-requires c κs = search needs
+
+returns : tie.Need-returns
+returns c =
+    let test = c .before .before in
+    let start = test .before .before .before in
+    c .refused .ensures
+    ∙ judged-text total channelTypes (figures start) (now (start .args .text))
+    (sym (test .figures-known-lent .ensures) ∙ not-true _ (c .before .if1 .taken)) refl refl
+
+-- past the test of the figures
+within : (c : tie.Else1) → figuresKnown total channelTypes (figures (c .before .before .before .before)) ≡ true
+within c = sym (c .before .figures-known-lent .ensures) ∙ not-false _ (c .if1 .left)
+
+text-within-requires : tie.Need-text-within-requires
+text-within-requires c κs = search needs
+
+refused-requires-2 : tie.Need-refused-requires-2
+refused-requires-2 c κs = search needs
+
+returns-2 : tie.Need-returns-2
+returns-2 c =
+    let test = c .before .before in
+    let start = test .before .before .before .before .before in
+    c .refused2 .ensures
+    ∙ judged-text total channelTypes (figures start) (now (start .args .text)) (within (test .before))
+    (sym (test .text-within .ensures) ∙ not-true _ (c .before .if2 .taken)) refl
+
+-- past the test of the text
+fitting : (c : tie.Else2) → textWithin (now (c .before .before .before .before .before .before .args .text)) ≡ true
+fitting c = sym (c .before .text-within .ensures) ∙ not-false _ (c .if2 .left)
+
+-- the text has a last byte
+some-byte : (c : tie.Else2) → 1 ≤ length (now (c .before .before .before .before .before .before .args .text))
+some-byte c = text-within (now (c .before .before .before .before .before .before .args .text)) (fitting c) .0
+
+sub-end : tie.Need-sub-end
+sub-end c = some-byte c
+
+shared-slice-read-if3 : tie.Need-shared-slice-read-if3
+shared-slice-read-if3 c = omega (arith, some-byte (c .before))
+
+refused-requires-3 : tie.Need-refused-requires-3
+refused-requires-3 c κs = search needs
+
+returns-3 : tie.Need-returns-3
+returns-3 c =
+    let text-test = c .before .before .before in
+    let figures-test = text-test .before .before in
+    let start = figures-test .before .before .before .before in
+    let text = now (start .args .text) in
+    c .refused3 .ensures
+    ∙ judged-text total channelTypes (figures start) text (within figures-test) (fitting text-test)
+    (line-none text (length text - 1) (omega (arith, some-byte text-test)) (c .before .if3 .taken))
+
+slice-aggregate-judge-line : tie.Need-slice-aggregate-judge-line
+slice-aggregate-judge-line c = sym (length-take-le _ _ (omega arith))
+
+judge-line-requires : tie.Need-judge-line-requires
+judge-line-requires c κs = within (c .before .before .before .before .before)
+
+returns-4 : tie.Need-returns-4
+returns-4 c =
+    let text-test = c .before .before .before .before in
+    let figures-test = text-test .before .before in
+    let start = figures-test .before .before .before .before in
+    let text = now (start .args .text) in
+    c .judge-line .ensures
+    ∙ judged-text total channelTypes (figures start) text (within figures-test) (fitting text-test)
+    (line-last text (length text - 1) (omega (arith, some-byte text-test)) (c .before .before .if3 .left))
+
+pub judge-lent-spec : {M : Type 1} → statement M
+judge-lent-spec =
+    tie.close
+    (tie.spec
+    figures-known-lent-requires
+    refused-requires
+    returns
+    text-within-requires
+    refused-requires-2
+    returns-2
+    sub-end
+    shared-slice-read-if3
+    refused-requires-3
+    returns-3
+    slice-aggregate-judge-line
+    judge-line-requires
+    returns-4)
