@@ -29,13 +29,14 @@ pub struct Figures {
     pub moves: u32,
 }
 
-// The figures that are single numbers: n, M, L, the ending and the moves. The codes and X are lent beside them.
+// The figures that are single numbers: n, M, L, the ending and the moves. The codes and X are lent beside them. No two numbers of 64 bits
+// stand side by side, since a compiler copies such two by one wide load, which waits for the two stores before it.
 pub struct Scalars {
     pub n: usize,
-    pub scaled_squared_radius: u64,
-    pub scaled_lower_bound: u64,
-    pub settled: bool,
     pub moves: u32,
+    pub scaled_squared_radius: u64,
+    pub settled: bool,
+    pub scaled_lower_bound: u64,
 }
 
 // The figures and the weights of the rows; places past the rows are 0.
