@@ -5,7 +5,7 @@
 --     Coded types f                       a known code for each channel, as facts
 --     known-within, known-coded           both tests, as the records
 --     figures-known, known-refused        the records, as both tests; a limit that is not kept
---     lent-places, lent-known             the places that known figures of lent codes and X have; the test of the codes, past the other tests
+--     lent-places, lent-known             the places that known figures of lent codes and X have; the test of the limits, past the other tests
 --     own-lent                            what is answered to figures whose own codes and X are lent is answered to the figures
 --     within-centre                       X of figures within their limits, as the numeric functions ask for it at the total that the
 --                                         contracts fix
@@ -14,7 +14,7 @@
 --     drawnEnvelope n codes drawing       its envelope
 --     drawn-within, checked-within        those of an accepted drawing and of an accepted check are within their limits, with known codes
 use Prim.Native.Nat.{ℕ, _≤_, _<_}
-use mathlib.Core.Path.{_≡_, sym, ap, ap₂, _∙_}
+use mathlib.Core.Path.{_≡_, refl, sym, ap, ap₂, _∙_}
 use mathlib.Core.Bool.{Bool, true, false, _&&_}
 use mathlib.Core.List.{List}
 use native.Mathlib.Nat.{le-trans}
@@ -141,11 +141,16 @@ module _ (D : ℕ) (types : Types) (s : Scalars) (codes : List ℕ) (X : List �
       let f = lentFigures s codes X in
       ap₂ _&&_ (le-leb (s .n) (length codes) (known-coded D types f h .typed)) (le-leb (s .n) (length X) (known-within D types f h .places))
 
-  pub lent-known : figuresWithin D (lentFigures s codes X) ≡ true → s .n ≤ length codes
-      → codesKnown types (take (s .n) codes) ≡ figuresKnown D types (lentFigures s codes X)
+  pub lent-known : codesKnown types (take (s .n) codes) ≡ true → s .n ≤ length codes
+      → figuresWithin D (lentFigures s codes X) ≡ figuresKnown D types (lentFigures s codes X)
   unfolding figuresKnown codesWithin
-  lent-known within typed =
-      sym (ap₂ (λ (limits coded : Bool). limits && (coded && codesKnown types (take (s .n) codes))) within (le-leb (s .n) (length codes) typed))
+  lent-known known typed =
+      let within = figuresWithin D (lentFigures s codes X) in
+      sym (ap₂ (λ (coded each : Bool). within && (coded && each)) (le-leb (s .n) (length codes) typed) known ∙ holds within)
+    where
+      holds : (b : Bool) → (b && true) ≡ b
+      holds true = refl
+      holds false = refl
 
 pub own-lent : {A : Type 0} (answer : Figures → A) (f : Figures) {s : Scalars} {r : A} → s ≡ scalarsOf f
     → r ≡ answer (lentFigures s (f .codes) (f .ball .«scaled_centre»)) → r ≡ answer f

@@ -160,10 +160,10 @@ pub fn figures_known_lent(scalars: Scalars, codes: &[Code], scaled_centre: &[i64
     if !places_lent(scalars.n, codes, scaled_centre) {
         return false;
     }
-    if !figures_within(scalars, scaled_centre) {
+    if !channel::codes_known(codes, scalars.n) {
         return false;
     }
-    channel::codes_known(codes, scalars.n)
+    figures_within(scalars, scaled_centre)
 }
 
 // The same of figures as one value.

@@ -6,7 +6,6 @@ ghost use Rattle.export_reading.specs.Contracts.{verdictInNumbers, judge
 use channel::Code;
 use export_figures::FiguresGiven;
 use export_figures::ending_known;
-use export_figures::scalars_given;
 use reading::Verdict;
 use refusal::Refusal;
 
@@ -67,6 +66,15 @@ pub fn judge(
             line: 0,
         }));
     }
-    let verdict = reading::judge_lent(scalars_given(figures), codes, scaled_centre, text);
+    let verdict = reading::judge_lent(
+        figures.n,
+        figures.scaled_squared_radius,
+        figures.scaled_lower_bound,
+        figures.settled == 1,
+        figures.moves,
+        codes,
+        scaled_centre,
+        text,
+    );
     verdict_in_numbers(verdict)
 }

@@ -4,7 +4,8 @@ ghost use mathlib.Core.Path.{_≡_};
 ghost use mathlib.Core.Bool.{true};
 ghost use Rattle.limits.specs.Limits.{total};
 ghost use Rattle.channel.specs.Channel.{channelTypes};
-ghost use Rattle.envelope.specs.Figures.{figuresKnown, lentFigures};
+ghost use Rattle.ball.specs.Ball.{filledBall};
+ghost use Rattle.envelope.specs.Figures.{figuresKnown, figuresOf, lentFigures};
 ghost use Rattle.reading_line.specs.Reading.{readingLine};
 ghost use Rattle.reading_line.specs.Contracts.{lineAlone};
 ghost use Rattle.reading.specs.Verdict.{refusedVerdict, verdictOf, judgedReading, judged};
@@ -12,7 +13,6 @@ use channel::Code;
 use envelope::Figures;
 use envelope::Scalars;
 use envelope::figures_known_lent;
-use envelope::scalars_of;
 use figures::distance::scaled_squared_distance;
 use limits::CHANNELS;
 use reading_line::Line;
@@ -70,12 +70,29 @@ fn judge_line(scalars: Scalars, codes: &[Code], scaled_centre: &[i64], line: &[u
     }
 }
 
-// The verdict on a text against the figures of an envelope whose codes and X are lent. Refused: 8, 1, 3, the leftmost 10, the
-// leftmost 4.
-pub fn judge_lent(scalars: Scalars, codes: &[Code], scaled_centre: &[i64], text: &[u8]) -> Verdict
+// The verdict on a text against the figures of an envelope whose codes and X are lent. The single numbers come one by one, since a
+// struct goes through memory, for which a reading of one channel waits. Refused: 8, 1, 3, the leftmost 10, the leftmost 4.
+pub fn judge_lent(
+    n: usize,
+    scaled_squared_radius: u64,
+    scaled_lower_bound: u64,
+    settled: bool,
+    moves: u32,
+    codes: &[Code],
+    scaled_centre: &[i64],
+    text: &[u8],
+) -> Verdict
     ensures { λ r.
-        ⌜ r ≡ judged total channelTypes (lentFigures scalars (now (codes .entry)) (now («scaled_centre» .entry))) (now (text .entry)) ⌝ }
+        ⌜ r ≡ judged total channelTypes (figuresOf n (now (codes .entry))
+        (filledBall (now («scaled_centre» .entry)) «scaled_squared_radius» «scaled_lower_bound» settled) moves) (now (text .entry)) ⌝ }
 {
+    let scalars = Scalars {
+        n,
+        moves,
+        scaled_squared_radius,
+        settled,
+        scaled_lower_bound,
+    };
     if !figures_known_lent(scalars, codes, scaled_centre) {
         return refused(refusal::OUTSIDE_LIMITS, 0);
     }
@@ -96,5 +113,14 @@ pub fn judge(figures: Figures, text: &[u8]) -> Verdict
     let codes = figures.codes;
     let ball = figures.ball;
     let scaled_centre = ball.scaled_centre;
-    judge_lent(scalars_of(figures), &codes, &scaled_centre, text)
+    judge_lent(
+        figures.n,
+        ball.scaled_squared_radius,
+        ball.scaled_lower_bound,
+        ball.settled,
+        figures.moves,
+        &codes,
+        &scaled_centre,
+        text,
+    )
 }

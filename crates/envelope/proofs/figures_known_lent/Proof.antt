@@ -1,10 +1,9 @@
--- `envelope::figures_known_lent` meets its contract: a place that is not lent and a limit that is not kept decide the answer, and past
--- them the codes do.
+-- `envelope::figures_known_lent` meets its contract: a place that is not lent and a code that is not known decide the answer, and past
+-- them the limits do.
 use borrow.Author.Needs.{needs}
 use borrow.Author.Tests.{not-true, not-false, leb-true}
 use Prim.Native.Nat.{_≤_}
-use mathlib.Core.Path.{_≡_, sym, _∙_}
-use mathlib.Core.Bool.{true}
+use mathlib.Core.Path.{sym, _∙_}
 use native.Mathlib.Omega.{arith}
 use lib.Dec.{leb}
 use lib.ListN.{length}
@@ -12,8 +11,8 @@ use denote.Ref.{now}
 use Rattle.integers.specs.Tests.{both, clash, refuted}
 use Rattle.limits.specs.Limits.{total}
 use Rattle.channel.specs.Channel.{channelTypes}
-use Rattle.envelope.specs.Figures.{figuresWithin, lentFigures}
-use Rattle.envelope.specs.FigureLaws.{known-within, figures-within, within-figures, lent-places, lent-known}
+use Rattle.envelope.specs.Figures.{lentFigures}
+use Rattle.envelope.specs.FigureLaws.{known-coded, lent-places, lent-known}
 use Rattle.envelope.specs.declared.Figures.{Figures}
 use Rattle.envelope.proofs.figures_known_lent.Statement.{statement}
 use Rattle.envelope.proofs.figures_known_lent.Tie as tie
@@ -38,29 +37,24 @@ places c =
     let lent = both coded placed (sym (c .before .places-lent .ensures) ∙ not-false _ (c .if1 .left)) in
     (leb-true (args .scalars .n) (length (now (args .codes))) (lent .0), leb-true (args .scalars .n) (length (now (args .scaled-centre))) (lent .1))
 
-figures-within-requires : tie.Need-figures-within-requires
-figures-within-requires c κs = places c .1
+codes-known-requires : tie.Need-codes-known-requires
+codes-known-requires c κs = omega (arith, places c .0)
 
 returns-2 : tie.Need-returns-2
 returns-2 c =
     let f = figures (c .before .before .before .before .before) in
-    refuted _ (λ h.
-    clash (figures-within total f (known-within total channelTypes f h)) (sym (c .before .figures-within .ensures _) ∙ not-true _ (c .if2 .taken)))
+    refuted _ (λ h. clash (known-coded total channelTypes f h .each-known) (sym (c .before .codes-known .ensures) ∙ not-true _ (c .if2 .taken)))
 
--- past the test of the limits
-within : (c : tie.Else2) → figuresWithin total (figures (c .before .before .before .before .before)) ≡ true
-within c = sym (c .before .figures-within .ensures _) ∙ not-false _ (c .if2 .left)
-
-codes-known-requires : tie.Need-codes-known-requires
-codes-known-requires c κs =
-    omega (arith, places (c .before .before) .0, within-figures total (figures (c .before .before .before .before .before)) (within c) .some-channel)
+figures-within-requires : tie.Need-figures-within-requires
+figures-within-requires c κs = places (c .before .before) .1
 
 returns-3 : tie.Need-returns-3
 returns-3 c =
     let past = c .before in
-    c .codes-known .ensures ∙ lent-known total channelTypes _ _ _ (within past) (places (past .before .before) .0)
+    c .figures-within .ensures _
+    ∙ lent-known total channelTypes _ _ _ (sym (past .before .codes-known .ensures) ∙ not-false _ (past .if2 .left)) (places (past .before .before) .0)
 
 pub figures-known-lent-spec : {M : Type 1} → statement M
 figures-known-lent-spec =
     tie.close
-    (tie.spec (λ c κs. search needs) returns figures-within-requires returns-2 codes-known-requires returns-3)
+    (tie.spec (λ c κs. search needs) returns codes-known-requires returns-2 figures-within-requires returns-3)

@@ -13,15 +13,18 @@ use Rattle.limits.specs.Limits.{total}
 use Rattle.text.specs.Parts.{textWithin}
 use Rattle.text.specs.PartsLaws.{text-within}
 use Rattle.channel.specs.Channel.{channelTypes}
-use Rattle.envelope.specs.Figures.{figuresKnown, lentFigures}
+use Rattle.ball.specs.Ball.{filledBall}
+use Rattle.envelope.specs.Figures.{figuresKnown, figuresOf}
 use Rattle.envelope.specs.declared.Figures.{Figures}
 use Rattle.reading.proofs.VerdictSteps.{line-last, line-none, judged-text}
 use Rattle.reading.proofs.judge_lent.Statement.{statement}
 use Rattle.reading.proofs.judge_lent.Tie as tie
 
--- the figures that are lent
+-- the figures that the numbers are
 abbrev figures : tie.Start → Figures
-figures c = lentFigures (c .args .scalars) (now (c .args .codes)) (now (c .args .scaled-centre))
+figures c =
+    let a = c .args in
+    figuresOf (a .n) (now (a .codes)) (filledBall (now (a .scaled-centre)) (a .scaled-squared-radius) (a .scaled-lower-bound) (a .settled)) (a .moves)
 
 figures-known-lent-requires : tie.Need-figures-known-lent-requires
 figures-known-lent-requires c κs = search needs
