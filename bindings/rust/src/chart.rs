@@ -59,9 +59,9 @@ unsafe extern "C" {
     fn cundarivo_chart(
         figures: FiguresGiven,
         codes: *const u8,
-        types_len: usize,
-        centre: *const i64,
-        centre_len: usize,
+        codes_len: usize,
+        scaled_centre: *const i64,
+        scaled_centre_len: usize,
         horizontal: usize,
         vertical: usize,
     ) -> MarkAnswer;
@@ -69,9 +69,9 @@ unsafe extern "C" {
     fn cundarivo_panel(
         figures: FiguresGiven,
         codes: *const u8,
-        types_len: usize,
-        centre: *const i64,
-        centre_len: usize,
+        codes_len: usize,
+        scaled_centre: *const i64,
+        scaled_centre_len: usize,
         steps: *mut i32,
         steps_len: usize,
     ) -> PanelAnswer;

@@ -462,8 +462,8 @@ unsafe extern "C" {
         m: usize,
         n: usize,
         budget: u32,
-        centre: *mut i64,
-        centre_len: usize,
+        scaled_centre: *mut i64,
+        scaled_centre_len: usize,
         weights: *mut u32,
         weights_len: usize,
     ) -> EnvelopeAnswer;
@@ -475,8 +475,8 @@ unsafe extern "C" {
         n: usize,
         weights: *const u32,
         weights_len: usize,
-        centre: *mut i64,
-        centre_len: usize,
+        scaled_centre: *mut i64,
+        scaled_centre_len: usize,
     ) -> CheckAnswer;
 
     fn cundarivo_read_reference(
@@ -485,7 +485,7 @@ unsafe extern "C" {
         table: *mut i32,
         table_len: usize,
         codes: *mut u8,
-        types_len: usize,
+        codes_len: usize,
     ) -> ReferenceAnswer;
 
     fn cundarivo_label(text: *const u8, text_len: usize, row: usize) -> LabelAnswer;
@@ -493,9 +493,9 @@ unsafe extern "C" {
     fn cundarivo_judge(
         figures: FiguresGiven,
         codes: *const u8,
-        types_len: usize,
-        centre: *const i64,
-        centre_len: usize,
+        codes_len: usize,
+        scaled_centre: *const i64,
+        scaled_centre_len: usize,
         text: *const u8,
         text_len: usize,
     ) -> VerdictAnswer;

@@ -18,6 +18,7 @@ use Rattle.refusal.specs.Outcome.{numberOf}
 use Rattle.limits.specs.Limits.{channelLimit}
 use Rattle.geometry.specs.Places.{centreList, centreOf}
 use Rattle.checking.specs.Check.{checking}
+use Rattle.ball.specs.Ball.{filledBall}
 use Rattle.ball.specs.declared.Ball.{Ball}
 use Rattle.checking.specs.declared.Checked.{Checked}
 use Rattle.envelope.specs.Figures.{channelCodes, figuresOf, envelopeOf}
@@ -44,13 +45,7 @@ unfoldable pub agrees : ℕ → ℕ → List ℤ → ℕ → ℕ → Ball → Li
 agrees D limit rows m n b ws = allZero (drop m ws) && ballAgrees n b (checking D limit rows m n (take m ws))
 
 abbrev pub withCentre : Ball → List ℤ → Ball
-withCentre b x =
-    record {
-      «scaled_centre» = x;
-      «scaled_squared_radius» = b .«scaled_squared_radius»;
-      «scaled_lower_bound» = b .«scaled_lower_bound»;
-      settled = b .settled;
-    }
+withCentre b x = filledBall x (b .«scaled_squared_radius») (b .«scaled_lower_bound») (b .settled)
 
 -- places past n are not looked at where an envelope is handed in, and are 0 where it is handed out
 abbrev pub clearedBall : ℕ → Ball → Ball

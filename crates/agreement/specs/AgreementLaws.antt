@@ -39,7 +39,7 @@ use Rattle.geometry.specs.Move.{weightOf}
 use Rattle.geometry.specs.Places.{centreList, centreOf, weightsTotal}
 use Rattle.geometry.specs.PlacesLaws.{centreList-at, centreList-cong}
 use Rattle.geometry.specs.TableLaws.{within-limits}
-use Rattle.ball.specs.Ball.{ballOf}
+use Rattle.ball.specs.Ball.{filledBall, ballOf}
 use Rattle.checking.specs.Check.{checking}
 use Rattle.drawing.specs.Draw.{drawing}
 use Rattle.checking.specs.CheckLaws.{checking-checked}
@@ -149,8 +149,7 @@ module _ (n : ℕ) (b : Ball) (k : Checked) where
 
 -- a ball is its figures
 ball-by : (x y : List ℤ) (r s l k : ℕ) (e f : Bool) → x ≡ y → r ≡ s → l ≡ k → e ≡ f
-    → _≡_ {A = Ball} record { «scaled_centre» = x; «scaled_squared_radius» = r; «scaled_lower_bound» = l; settled = e }
-    record { «scaled_centre» = y; «scaled_squared_radius» = s; «scaled_lower_bound» = k; settled = f }
+    → filledBall x r l e ≡ filledBall y s k f
 ball-by x y r s l k e f p q u v = cc
 
 -- ---- agreement

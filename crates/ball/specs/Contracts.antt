@@ -5,7 +5,6 @@ use mathlib.Core.Path.{_≡_}
 use mathlib.Core.Bool.{true}
 use lib.IntN.{ℤ, pos, natAbs, _-ℤ_, _*ℤ_}
 use Rattle.geometry.specs.Figures.{squaredLength, scaledSquaredDistance, largestSquaredDistance}
-use Rattle.geometry.specs.Table.{coordinate}
 use Rattle.limits.specs.Limits.{centreLimit, distanceLimit}
 use Rattle.geometry.specs.Places.{centreOf}
 use Rattle.geometry.specs.Demand.{Rival}

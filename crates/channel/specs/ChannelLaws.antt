@@ -1,6 +1,8 @@
 -- Laws of tables of channel types, for any table that is sound; a list of types gives a sound table where it passes a test which is computed.
 --     soundRange t              the type's range has 0 and reaches no farther from it than a coordinate may
 --     soundType t               the type's code is above 0, its tag is a label, its range is sound
+--     alone t types             no type of a list has the code or the tag of t
+--     soundList types           the test: each type of a list is sound, and has a code and a tag of its own
 --     FoundType                 the type of a code is a sound type with this code, or there is none
 --     SoundTypes types          each type is sound, a code has one tag, and a tag one code
 --     typesOf-code              the code of a tag in the table of a list is that in the list

@@ -9,7 +9,7 @@ ghost use Rattle.limits.specs.Limits.{total, distanceLimit};
 ghost use Rattle.geometry.specs.Places.{centreOf};
 ghost use Rattle.geometry.specs.Contracts.{CentreWithin};
 ghost use Rattle.channel.specs.Channel.{channelTypes};
-ghost use Rattle.envelope.specs.Figures.{lentFigures};
+ghost use Rattle.envelope.specs.Contracts.{lentFigures};
 ghost use Rattle.chart.specs.Fraction.{fractionOf};
 ghost use Rattle.chart.specs.Mark.{refusedMark, channelWithin, markOf, chartMark};
 

@@ -13,7 +13,6 @@ use case_io::two_bytes;
 use checking::Checked;
 use drawing::Drawing;
 use libc::STDIN_FILENO;
-use libc::STDOUT_FILENO;
 use limits::CENTRE_MOST;
 use limits::CHANNELS;
 use limits::PLACES;

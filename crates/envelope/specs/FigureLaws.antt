@@ -42,7 +42,8 @@ use Rattle.ball.specs.declared.Ball.{Ball}
 use Rattle.checking.specs.declared.Checked.{Checked}
 use Rattle.drawing.specs.declared.Drawing.{Drawing}
 use Rattle.channel.specs.Channel.{Types, codesKnown}
-use Rattle.envelope.specs.Figures.{channelCodes, figuresWithin, codesWithin, figuresKnown, figuresOf, scalarsOf, lentFigures, placesLent, envelopeOf}
+use Rattle.envelope.specs.Figures.{channelCodes, figuresWithin, codesWithin, figuresKnown, figuresOf, envelopeOf}
+use Rattle.envelope.specs.Contracts.{scalarsOf, lentFigures, placesLent}
 use Rattle.envelope.specs.declared.Figures.{Figures}
 use Rattle.envelope.specs.declared.Scalars.{Scalars}
 use Rattle.envelope.specs.declared.Envelope.{Envelope}

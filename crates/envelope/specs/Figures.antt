@@ -5,24 +5,19 @@
 --     figuresKnown D types f              both; else 8
 --     figuresOf n codes ball moves        the figures of a ball for n channels of these codes
 --     emptyFigures                        every figure 0
---     scalarsOf f                         the figures that are single numbers
---     lentFigures scalars codes X         the figures of these numbers with the codes and X that are lent
---     placesLent n codes X                a code and a place of X are lent for each of n channels
 --     envelopeOf figures weights          the envelope with these figures and weights
 --     emptyEnvelope limit                 every figure and weight 0, for a row limit
 use Prim.Native.Nat.{ℕ}
 use mathlib.Core.Bool.{Bool, _&&_}
 use mathlib.Core.List.{List}
 use lib.Dec.{leb}
-use lib.IntN.{ℤ}
 use lib.ListN.{length, take, replicate}
 use Rattle.limits.specs.Limits.{channelLimit, centreLimit, distanceLimit, budgetLimit}
 use Rattle.geometry.specs.Table.{placesWithin}
-use Rattle.ball.specs.Ball.{filledBall, emptyBall}
+use Rattle.ball.specs.Ball.{emptyBall}
 use Rattle.ball.specs.declared.Ball.{Ball}
 use Rattle.channel.specs.Channel.{Types, codesKnown}
 use Rattle.envelope.specs.declared.Figures.{Figures}
-use Rattle.envelope.specs.declared.Scalars.{Scalars}
 use Rattle.envelope.specs.declared.Envelope.{Envelope}
 
 -- places past n are not looked at
@@ -53,23 +48,6 @@ figuresOf n codes ball moves = record { n = n; codes = codes; ball = ball; moves
 
 abbrev pub emptyFigures : Figures
 emptyFigures = figuresOf 0 (replicate channelLimit 0) emptyBall 0
-
-abbrev pub scalarsOf : Figures → Scalars
-scalarsOf f =
-    record {
-      n = f .n;
-      «scaled_squared_radius» = f .ball .«scaled_squared_radius»;
-      «scaled_lower_bound» = f .ball .«scaled_lower_bound»;
-      settled = f .ball .settled;
-      moves = f .moves;
-    }
-
-abbrev pub lentFigures : Scalars → List ℕ → List ℤ → Figures
-lentFigures s codes X =
-    figuresOf (s .n) codes (filledBall X (s .«scaled_squared_radius») (s .«scaled_lower_bound») (s .settled)) (s .moves)
-
-abbrev pub placesLent : ℕ → List ℕ → List ℤ → Bool
-placesLent n codes X = leb n (length codes) && leb n (length X)
 
 abbrev pub envelopeOf : Figures → List ℕ → Envelope
 envelopeOf figures weights = record { figures = figures; weights = weights }

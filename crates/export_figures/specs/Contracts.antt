@@ -9,7 +9,7 @@ use mathlib.Core.List.{List}
 use lib.Dec.{eqb, leb}
 use lib.IntN.{ℤ}
 use Rattle.refusal.specs.Outcome.{choose}
-use Rattle.envelope.specs.Figures.{lentFigures}
+use Rattle.envelope.specs.Contracts.{lentFigures}
 use Rattle.envelope.specs.declared.Figures.{Figures}
 use Rattle.envelope.specs.declared.Scalars.{Scalars}
 use Rattle.export_figures.specs.declared.FiguresGiven.{FiguresGiven}

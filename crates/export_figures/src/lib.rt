@@ -1,5 +1,5 @@
 // The figures of an envelope as C and Rust give them: numbers, with the codes and X in lent slices beside them. Each call on them
-// tests the ending first, else it answers 8, and hands the slices on as they are lent.
+// tests the ending first, else it answers 8.
 ghost use mathlib.Core.Path.{_≡_};
 ghost use Rattle.export_figures.specs.Contracts.{endingKnown, scalarsGiven};
 use envelope::Scalars;

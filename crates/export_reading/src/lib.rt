@@ -6,6 +6,7 @@ ghost use Rattle.export_reading.specs.Contracts.{verdictInNumbers, judge
 use channel::Code;
 use export_figures::FiguresGiven;
 use export_figures::ending_known;
+use export_figures::scalars_given;
 use reading::Verdict;
 use refusal::Refusal;
 
@@ -66,12 +67,13 @@ pub fn judge(
             line: 0,
         }));
     }
+    let scalars = scalars_given(figures);
     let verdict = reading::judge_lent(
-        figures.n,
-        figures.scaled_squared_radius,
-        figures.scaled_lower_bound,
-        figures.settled == 1,
-        figures.moves,
+        scalars.n,
+        scalars.scaled_squared_radius,
+        scalars.scaled_lower_bound,
+        scalars.settled,
+        scalars.moves,
         codes,
         scaled_centre,
         text,

@@ -17,7 +17,8 @@ use Rattle.limits.specs.Limits.{channelLimit}
 use Rattle.lent.specs.Contracts.{notWritten, withRoom}
 use Rattle.lent.specs.Filled.{filled}
 use Rattle.channel.specs.Channel.{Types}
-use Rattle.envelope.specs.Figures.{placesLent, envelopeOf}
+use Rattle.envelope.specs.Contracts.{placesLent}
+use Rattle.envelope.specs.Figures.{envelopeOf}
 use Rattle.envelope.specs.declared.Figures.{Figures}
 use Rattle.envelope.specs.declared.Envelope.{Envelope}
 use Rattle.record_write.specs.Contracts.{recordWritten}

@@ -7,8 +7,7 @@
 --     escapedStart name                            the first bytes of a name
 --     quotedStart name                             these in single quotes
 --     escapedName name                             a name: these, and `...` after the closing quote where it has more bytes
---     byteRoom, startRoom, quotedRoom, nameRoom    the most bytes of each of these
-use Prim.Native.Nat.{ℕ, _+_, _*_, _/_, _%_}
+use Prim.Native.Nat.{ℕ, _/_, _%_}
 use mathlib.Core.Bool.{Bool, cond, not, _&&_}
 use mathlib.Core.List.{List, [], _∷_, _++_}
 use lib.Dec.{leb, eqb}
@@ -41,15 +40,3 @@ quotedStart name = (ascii "'" ++ escapedStart name) ++ ascii "'"
 
 abbrev pub escapedName : List ℕ → List ℕ
 escapedName name = quotedStart name ++ cond (leb (length name) nameLimit) [] (ascii "...")
-
-abbrev pub byteRoom : ℕ
-byteRoom = 4
-
-abbrev pub startRoom : ℕ
-startRoom = byteRoom * nameLimit
-
-abbrev pub quotedRoom : ℕ
-quotedRoom = startRoom + 2
-
-abbrev pub nameRoom : ℕ
-nameRoom = quotedRoom + 3

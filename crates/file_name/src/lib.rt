@@ -10,12 +10,8 @@ ghost use Rattle.file_name.specs.Name.{
   escapedStart,
   quotedStart,
   escapedName,
-  byteRoom,
-  startRoom,
-  quotedRoom,
-  nameRoom,
 };
-ghost use Rattle.file_name.specs.Contracts.{ShownLength, PutWithin};
+ghost use Rattle.file_name.specs.Contracts.{byteRoom, startRoom, quotedRoom, nameRoom, ShownLength, PutWithin};
 use printing::put_bytes;
 
 // the most bytes of a name that are told

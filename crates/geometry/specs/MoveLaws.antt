@@ -9,16 +9,16 @@
 --     moved-by                      moving t from the near to the far row is the move
 --     moved-length, moved-total     a move keeps the list's length and the weights' sum
 --     moved-other                   no weight but the near and the far row's changes
---     moved-centre                  X after a move
+--     moved-sum, moved-centre       a weighted sum, and X, after a move
 --     far-within, near-within       the two rows are among the m
---     radius-far                    M is s of the far row
+--     radius-far, near-below-far    M is s of the far row, and s of the near row is at most that
 --     difference-exact              g is whole: s far ≡ s near + D g
 --     difference-within             g is within its limit
---     separation-positive           d² is above 0 where the weights are not Settled
+--     separation-below, -positive   d² is below g, and above 0, where the weights are not Settled
 --     transfer-most                 t is at most the near row's weight
 --     transfer-some                 t is above 0 where the weights are not Settled
 --     transfer-gains                t d² is below g where the weights are not Settled
---     lower-bound-rises             L rises by t (g - t d²), at least 1
+--     lower-bound-rises, rise-some  L rises by t (g - t d²), which is at least 1
 use Prim.Native.Nat.{ℕ, _+_, _*_, _-_, _/_, _≤_, _<_, zero-le}
 use mathlib.Core.Path.{_≡_, sym, _∙_, ap, ap₂}
 use mathlib.Core.Logic.{_≢_, _⊎_, inl, inr}

@@ -35,7 +35,7 @@ fn no_heading() -> Heading
 }
 
 // The number of channels that a field states, 0 where it states none from 1 to 8.
-fn channel_count(field: &[u8]) -> usize
+fn stated_count(field: &[u8]) -> usize
     ensures { λ r. ⌜ r ≡ statedCount channelLimit (now (field .entry)) ⌝ }
 {
     let number = plain_number(field);
@@ -61,7 +61,7 @@ fn read_tags(line: &[u8], at: usize, n: usize) -> Heading
     requires { ⌜ n ≤ channelLimit ⌝ }
     ensures { λ r. ⌜ r ≡ tagsRead channelTypes n (partsFrom comma (now (line .entry)) at) ⌝ }
 {
-    let mut codes = [0u8; CHANNELS];
+    let mut codes = [0 as Code; CHANNELS];
     let mut from = at;
     let mut i = 0;
     while i < n {
@@ -96,7 +96,7 @@ pub fn read_heading(line: &[u8], word: &[u8]) -> Heading
         return no_heading();
     }
     let count_end = field_end(line, at);
-    let n = channel_count(&line[at..count_end]);
+    let n = stated_count(&line[at..count_end]);
     if n == 0 {
         return no_heading();
     }

@@ -2,6 +2,7 @@
 --     labelByteCount    how many bytes may stand in a label
 --     keyBase           the base of the numbers
 --     labelDigit b      which of these bytes b is, from 1; 0 for any other byte
+--     keyAfter d f k    the number with one more digit, handed on, 0 where there is no digit
 --     keyFrom l k       the number of the bytes l after those of k, 0 where some byte is not of a label
 --     labelKey l        the number by which the code tells labels apart, 0 where l is no label
 use Prim.Native.Nat.{ℕ, zero, suc, _+_, _-_, _*_}

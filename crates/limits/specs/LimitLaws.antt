@@ -1,4 +1,5 @@
 -- The digits of the limits: each limit is below the power of ten that its number of digits says, and not below the one before.
+--     Digits limit digits     limit has so many digits
 --     channel-digits, row-digits, coordinate-digits, weight-digits, centre-digits, distance-digits, moves-digits
 use Prim.Native.Nat.{ℕ, _-_, _^_, _≤_, _<_}
 use lib.Dec.{lit<, lit≤}

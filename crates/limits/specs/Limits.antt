@@ -5,6 +5,7 @@
 --     lengthLimit, separationLimit                                    the limits on a row's squared length and on d²
 --     differenceLimit D                                               the limit on g
 --     textLimit, labelLimit, tagLimit                                 the most bytes of a text, of a label and of a tag
+--     recordDigits                                                    the most digits of a number in a record
 --     channelDigits .. movesDigits                                    how many digits the largest number of a kind has
 use Prim.Native.Nat.{ℕ, _*_}
 
@@ -55,6 +56,10 @@ labelLimit = 12
 
 abbrev pub tagLimit : ℕ
 tagLimit = 3
+
+-- of a number in a record, whatever it stands for
+abbrev pub recordDigits : ℕ
+recordDigits = 19
 
 -- of n, a row, a coordinate, a weight, a place of X, s, and the moves made
 abbrev pub channelDigits : ℕ

@@ -34,10 +34,12 @@ pub const LABEL_MOST: usize = 12;
 
 pub const TAG_MOST: usize = 3;
 
-// how many digits have the largest n, row, weight, place of X, s, and number of moves
+// how many digits have the largest n, row, coordinate, weight, place of X, s, and number of moves
 pub const CHANNEL_DIGITS: usize = 1;
 
 pub const ROW_DIGITS: usize = 3;
+
+pub const COORDINATE_DIGITS: usize = 4;
 
 pub const WEIGHT_DIGITS: usize = 5;
 

@@ -7,14 +7,12 @@
 --     fileMessage program name                 a file
 --     standardInput, standardOutput            the streams
 --     streamMessage program stream             a stream
---     streamRoom, programRoom, argumentRoom, namedRoom, messageRoom      the most bytes of these, and of every message
-use Prim.Native.Nat.{ℕ, _+_}
+use Prim.Native.Nat.{ℕ}
 use mathlib.Core.List.{List, _++_}
 use lib.IntN.{pos}
 use Rattle.number.specs.Number.{print}
-use Rattle.printing.specs.Contracts.{numberRoom}
 use Rattle.file_name.specs.Ascii.{ascii}
-use Rattle.file_name.specs.Name.{escapedStart, escapedName, startRoom, nameRoom}
+use Rattle.file_name.specs.Name.{escapedStart, escapedName}
 
 abbrev pub programPart : List ℕ → List ℕ
 programPart program = escapedStart program ++ ascii ": "
@@ -42,18 +40,3 @@ standardOutput = ascii "standard output"
 
 abbrev pub streamMessage : List ℕ → List ℕ → List ℕ
 streamMessage program stream = programPart program ++ stream
-
-abbrev pub streamRoom : ℕ
-streamRoom = 15
-
-abbrev pub programRoom : ℕ
-programRoom = startRoom + 2
-
-abbrev pub argumentRoom : ℕ
-argumentRoom = programRoom + 9 + numberRoom
-
-abbrev pub namedRoom : ℕ
-namedRoom = argumentRoom + 1 + nameRoom
-
-abbrev pub messageRoom : ℕ
-messageRoom = namedRoom + 15

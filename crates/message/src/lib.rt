@@ -11,12 +11,8 @@ ghost use Rattle.message.specs.Message.{
   standardInput,
   standardOutput,
   streamMessage,
-  streamRoom,
-  programRoom,
-  argumentRoom,
-  namedRoom,
-  messageRoom,
 };
+ghost use Rattle.message.specs.Contracts.{streamRoom, programRoom, argumentRoom, namedRoom, messageRoom};
 ghost use Rattle.file_name.specs.Contracts.{PutWithin};
 use file_name::NAME_ROOM;
 use file_name::START_ROOM;

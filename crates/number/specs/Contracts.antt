@@ -8,7 +8,7 @@ use Prim.Native.Nat.{ℕ, suc, _+_, _-_, _*_, _^_, min}
 use mathlib.Core.Bool.{true, false}
 use mathlib.Core.Option.{Option, none, some}
 use lib.IntN.{ℤ, pos, negsuc}
-use Rattle.limits.specs.Limits.{distanceDigits}
+use Rattle.limits.specs.Limits.{recordDigits}
 use Rattle.number.specs.Number.{digitZero}
 use Rattle.number.specs.declared.Magnitude.{Magnitude}
 use Rattle.number.specs.declared.Magnitude.the-variants as magnitude
@@ -16,7 +16,7 @@ use Rattle.number.specs.declared.Plain.{Plain}
 use Rattle.number.specs.declared.Plain.the-variants as written
 
 abbrev pub magnitudeLimit : ℕ
-magnitudeLimit = 10 ^ distanceDigits
+magnitudeLimit = 10 ^ recordDigits
 
 abbrev pub saturated : ℕ → ℕ
 saturated n = min n magnitudeLimit

@@ -8,7 +8,7 @@ ghost use Rattle.limits.specs.Limits.{total, channelLimit, coordinateLimit, cen
 ghost use Rattle.geometry.specs.Places.{centreOf, centreList};
 ghost use Rattle.geometry.specs.Contracts.{CentreWithin};
 ghost use Rattle.channel.specs.Channel.{channelTypes};
-ghost use Rattle.envelope.specs.Figures.{lentFigures};
+ghost use Rattle.envelope.specs.Contracts.{lentFigures};
 ghost use Rattle.panel_steps.specs.Panel.{nearestMagnitude, nearestStep, refusedPanel, panelShown};
 use channel::Code;
 use envelope::Figures;

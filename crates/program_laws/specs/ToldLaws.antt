@@ -10,7 +10,6 @@
 --     refusal-injective           a printed refusal states one number and one line
 --     refusesTexts output         the test: the first line is a `NO`, and none that a single reading meets
 --     isFaulty, isRefused         a reference text is refused; a reference text or a record is
---     refusal-apart               no tag of document 01's types starts as a refusal does
 -- For a sound table of types and a total above 0, the output passes the test exactly where
 --     draw-told                   draw refuses the reference text
 --     verify-told, panel-told     verify refuses one of its texts, or panel, where no tag starts as a refusal does
@@ -39,9 +38,9 @@ use Rattle.number.specs.NumberLaws.{plain-print, print-free}
 use Rattle.text.specs.Parts.{comma, lineEnd, textWithin, same, extend, cut, join, free, allFree}
 use Rattle.text.specs.PartsLaws.{text-within, same-refl, same-eq, join-cut, cut-join, join-length, join-free}
 use Rattle.printing.specs.Contracts.{numbersAfter}
-use Rattle.channel.specs.Channel.{Types, channelTypes, tagOf}
+use Rattle.channel.specs.Channel.{Types, tagOf}
 use Rattle.channel.specs.ChannelLaws.{SoundTypes}
-use Rattle.channel.specs.ContractLaws.{TagsApart, house-apart}
+use Rattle.channel.specs.ContractLaws.{TagsApart}
 use Rattle.heading.specs.Heading.{printHeading}
 use Rattle.reference_rows.specs.ReferenceText.{codesOf, channelCount, rowCount, tableOf}
 use Rattle.reference_rows.specs.Rows.{Content, faulty, sound}
@@ -313,9 +312,6 @@ figures-told read output t texts further = go (read .outcome) refl
     go Accepted is = further is
     go (Refused r) is =
         only-told (r .number) (r .line) ∙ ap not (ap (λ (o : Outcome). ofReading (numberOf o) (lineOf o)) (sym is) ∙ texts)
-
-pub refusal-apart : TagsApart refusalByte channelTypes
-refusal-apart = house-apart
 
 -- the first line of a panel starts with a tag
 tag-told : (tag number end more : List ℕ) → eqb (getD tag 0 0) refusalByte ≡ false → refusesTexts (((tag ++ (comma ∷ number)) ++ end) ++ more) ≡ false

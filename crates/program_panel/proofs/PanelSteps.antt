@@ -1,4 +1,5 @@
 -- The panel as it is printed, channel by channel.
+--     tag-end                        where a tag that is printed ends
 --     StepPut, step-put              a tag, a comma and a step, with room for byte 10
 --     Steps codes steps out₀ ..      the first channels are printed
 --     steps-start, -next, -done      before the first, after one more, and after the last

@@ -1,5 +1,4 @@
-// Records read (document 01, "Texts"): what the plant receives of an envelope is read against the rows and tags that it is said to be drawn
-// from.
+// Records read (document 01, "Texts"): a record is read against the rows and tags that it is said to be drawn from.
 ghost use mathlib.Core.Path.{_≡_};
 ghost use Rattle.refusal.specs.Outcome.{refusedAt};
 ghost use Rattle.limits.specs.Limits.{total, rowLimit};

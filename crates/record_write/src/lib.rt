@@ -1,4 +1,4 @@
-// Records written (document 01, "Texts"): what the desk keeps of an envelope is written only where it would be read back.
+// Records written (document 01, "Texts"): the record of an envelope is written only where it would be read back.
 ghost use mathlib.Core.Path.{_≡_};
 ghost use lib.ListN.{length};
 ghost use Rattle.refusal.specs.Outcome.{numberOf};

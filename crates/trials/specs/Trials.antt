@@ -88,7 +88,7 @@ trials =
     -- Rows 0, 10: one move, t = 32,768, M = L = 107,374,182,400
     record {
       computed =
-          numbers (transferUnder (numbers (0 ∷ 10 ∷ [])) (65536 ∷ 0 ∷ []) ∷ []) ++ outline (draw 1 (numbers (0 ∷ 10 ∷ [])) 2 10000);
+          numbers (transferUnder (numbers (0 ∷ 10 ∷ [])) (total ∷ 0 ∷ []) ∷ []) ++ outline (draw 1 (numbers (0 ∷ 10 ∷ [])) 2 10000);
       stated = numbers (32768 ∷ 1 ∷ 107374182400 ∷ 107374182400 ∷ 1 ∷ []);
     }
     -- Rows 0, 1: M = 1,073,741,824, gap 0

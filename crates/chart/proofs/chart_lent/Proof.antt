@@ -9,7 +9,8 @@ use borrow.Author.Tests.{not-true, not-false}
 use denote.Ref.{now}
 use Rattle.limits.specs.Limits.{total}
 use Rattle.channel.specs.Channel.{channelTypes}
-use Rattle.envelope.specs.Figures.{figuresKnown, lentFigures}
+use Rattle.envelope.specs.Figures.{figuresKnown}
+use Rattle.envelope.specs.Contracts.{lentFigures}
 use Rattle.envelope.specs.FigureLaws.{Within, known-within, within-centre}
 use Rattle.envelope.specs.declared.Figures.{Figures}
 use Rattle.chart.specs.Mark.{channelWithin, markOf}

@@ -11,7 +11,7 @@ use denote.Ref.{now}
 use Rattle.integers.specs.Tests.{both, clash, refuted}
 use Rattle.limits.specs.Limits.{total}
 use Rattle.channel.specs.Channel.{channelTypes}
-use Rattle.envelope.specs.Figures.{lentFigures}
+use Rattle.envelope.specs.Contracts.{lentFigures}
 use Rattle.envelope.specs.FigureLaws.{known-coded, lent-places, lent-known}
 use Rattle.envelope.specs.declared.Figures.{Figures}
 use Rattle.envelope.proofs.figures_known_lent.Statement.{statement}

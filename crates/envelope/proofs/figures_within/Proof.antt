@@ -11,7 +11,8 @@ use denote.Ref.{now}
 use Rattle.integers.specs.Tests.{clash}
 use Rattle.limits.specs.Limits.{total, centreLimit, budgetLimit}
 use Rattle.geometry.specs.TableLaws.{placesWithin-at, placesWithin-by}
-use Rattle.envelope.specs.Figures.{figuresWithin, lentFigures}
+use Rattle.envelope.specs.Figures.{figuresWithin}
+use Rattle.envelope.specs.Contracts.{lentFigures}
 use Rattle.envelope.specs.FigureLaws.{Within, figures-refused, figures-within}
 use Rattle.envelope.specs.declared.Figures.{Figures}
 use Rattle.envelope.proofs.figures_within.Statement.{statement}

@@ -27,7 +27,8 @@ returns c =
 returns-2 : tie.Need-returns-2
 unfolding judgeAnswer
 returns-2 c =
-    let past = c .before .before .before in
+    let at-scalars = c .before .before in
+    let past = at-scalars .before in
     let at-ending = past .before in
     let args = at-ending .before .before .before .args in
     c .verdict-in-numbers2 .ensures
@@ -35,9 +36,9 @@ returns-2 c =
     (answer-taken (args .figures) (now (args .codes)) (now (args .scaled-centre))
     (λ (f : Figures). judged total channelTypes f (now (args .text))) (refusedVerdict outside-limits 0)
     (sym (at-ending .ending-known .ensures) ∙ not-false _ (past .if1 .left))
-    refl (c .before .judge-lent .ensures))
+    (at-scalars .scalars-given .ensures) (c .before .judge-lent .ensures))
 
 pub judge-spec : {M : Type 1} → statement M
 judge-spec =
     tie.close
-    (tie.spec (λ c κs. search needs) (λ c κs. search needs) returns (λ c κs. search needs) (λ c κs. search needs) returns-2)
+    (tie.spec (λ c κs. search needs) (λ c κs. search needs) returns (λ c κs. search needs) (λ c κs. search needs) (λ c κs. search needs) returns-2)

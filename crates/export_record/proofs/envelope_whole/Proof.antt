@@ -7,7 +7,7 @@ use lib.Dec.{leb}
 use lib.ListN.{length}
 use denote.Ref.{now}
 use Rattle.limits.specs.Limits.{rowLimit, channelLimit}
-use Rattle.envelope.specs.Figures.{placesLent}
+use Rattle.envelope.specs.Contracts.{placesLent}
 use Rattle.export_figures.specs.Contracts.{endingKnown}
 use Rattle.export_record.specs.Contracts.{envelopeWhole}
 use Rattle.export_record.proofs.envelope_whole.Statement.{statement}

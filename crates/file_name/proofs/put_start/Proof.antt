@@ -6,7 +6,8 @@ use native.Mathlib.Omega.{arith}
 use lib.ListN.{length, getD, take}
 use Rattle.printing.specs.Contracts.{Put}
 use Rattle.printing.specs.ContractLaws.{put-none, put-then, put-as, take-next}
-use Rattle.file_name.specs.Name.{nameLimit, escapedByte, escaped, byteRoom}
+use Rattle.file_name.specs.Name.{nameLimit, escapedByte, escaped}
+use Rattle.file_name.specs.Contracts.{byteRoom}
 use Rattle.file_name.specs.NameLaws.{escaped-none, escaped-more, start-taken}
 use Rattle.file_name.specs.PutLaws.{put-within}
 use Rattle.file_name.proofs.put_start.Statement.{statement}

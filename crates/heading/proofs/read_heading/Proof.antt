@@ -60,17 +60,17 @@ returns-2 c =
 field-end-requires-2 : tie.Need-field-end-requires-2
 field-end-requires-2 c κs = search needs
 
-sub-channel-count : tie.Need-sub-channel-count
-sub-channel-count c = search needs
+sub-stated-count : tie.Need-sub-stated-count
+sub-stated-count c = search needs
 
-part-channel-count-start : tie.Need-part-channel-count-start
-part-channel-count-start c = search needs
+part-stated-count-start : tie.Need-part-stated-count-start
+part-stated-count-start c = search needs
 
-part-channel-count-end : tie.Need-part-channel-count-end
-part-channel-count-end c = search needs
+part-stated-count-end : tie.Need-part-stated-count-end
+part-stated-count-end c = search needs
 
-channel-count-requires : tie.Need-channel-count-requires
-channel-count-requires c κs = search needs
+stated-count-requires : tie.Need-stated-count-requires
+stated-count-requires c κs = search needs
 
 no-heading-requires-3 : tie.Need-no-heading-requires-3
 no-heading-requires-3 c κs = search needs
@@ -94,13 +94,13 @@ returns-3 c =
     let at-second = at-count .before .before in
     c .no-heading3 .ensures
     ∙ sym (ap headingRead (heading-no-count (now (at-second .before .before .before .before .before .before .before .before .args .word)) channelLimit channelTypes _ (fields at-second)
-    (sym (at-count .channel-count .ensures) ∙ c .before .if3 .taken)))
+    (sym (at-count .stated-count .ensures) ∙ c .before .if3 .taken)))
 
 add-read-tags : tie.Need-add-read-tags
 add-read-tags c = search needs
 
 read-tags-requires : tie.Need-read-tags-requires
-read-tags-requires c κs = rw (c .before .channel-count .ensures) (count-most channelLimit _)
+read-tags-requires c κs = rw (c .before .stated-count .ensures) (count-most channelLimit _)
 
 returns-4 : tie.Need-returns-4
 returns-4 c =
@@ -109,10 +109,10 @@ returns-4 c =
     let at-same = at-second .before .before .before in
     let line = now (at-same .before .before .before .before .before .args .line) in
     c .read-tags .ensures
-    ∙ ap (λ n. tagsRead channelTypes n (partsFrom comma line (at-second .field-end2 .result + 1))) (at-count .channel-count .ensures)
+    ∙ ap (λ n. tagsRead channelTypes n (partsFrom comma line (at-second .field-end2 .result + 1))) (at-count .stated-count .ensures)
     ∙ sym (heading-tags (now (at-same .before .before .before .before .before .args .word)) channelLimit channelTypes _ (fields at-second)
     (sym (at-same .same-bytes .ensures) ∙ not-false _ (at-second .before .before .if1 .left))
-    (λ z. c .before .if3 .left (at-count .channel-count .ensures ∙ z)))
+    (λ z. c .before .if3 .left (at-count .stated-count .ensures ∙ z)))
 
 pub read-heading-spec : {M : Type 1} → statement M
 read-heading-spec =
@@ -127,10 +127,10 @@ read-heading-spec =
     no-heading-requires-2
     returns-2
     field-end-requires-2
-    sub-channel-count
-    part-channel-count-start
-    part-channel-count-end
-    channel-count-requires
+    sub-stated-count
+    part-stated-count-start
+    part-stated-count-end
+    stated-count-requires
     no-heading-requires-3
     returns-3
     add-read-tags

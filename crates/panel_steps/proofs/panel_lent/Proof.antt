@@ -7,7 +7,8 @@ use denote.Ref.{now}
 use Rattle.refusal.specs.declared.Outcome.the-variants.{Accepted}
 use Rattle.limits.specs.Limits.{total}
 use Rattle.channel.specs.Channel.{channelTypes}
-use Rattle.envelope.specs.Figures.{figuresKnown, lentFigures}
+use Rattle.envelope.specs.Figures.{figuresKnown}
+use Rattle.envelope.specs.Contracts.{lentFigures}
 use Rattle.envelope.specs.FigureLaws.{known-within, within-centre}
 use Rattle.envelope.specs.declared.Figures.{Figures}
 use Rattle.panel_steps.specs.PanelLaws.{panel-refuses, panel-shows}

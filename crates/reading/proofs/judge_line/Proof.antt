@@ -11,7 +11,8 @@ use Rattle.limits.specs.Limits.{total}
 use Rattle.geometry.specs.Places.{centreOf}
 use Rattle.channel.specs.Channel.{channelTypes}
 use Rattle.channel.specs.ChannelLaws.{house-sound}
-use Rattle.envelope.specs.Figures.{channelCodes, lentFigures}
+use Rattle.envelope.specs.Figures.{channelCodes}
+use Rattle.envelope.specs.Contracts.{lentFigures}
 use Rattle.envelope.specs.FigureLaws.{Within as FiguresWithin, Coded, known-within, known-coded, within-centre}
 use Rattle.envelope.specs.declared.Figures.{Figures}
 use Rattle.reading_line.specs.Reading.{Reading, readingLine}

@@ -10,8 +10,8 @@ use Rattle.limits.specs.Limits.{channelLimit}
 use Rattle.number.specs.declared.Plain.the-variants as written
 use Rattle.heading.specs.Heading.{statedCount}
 use Rattle.heading.proofs.HeadingSteps.{counted, counted-read}
-use Rattle.heading.proofs.channel_count.Statement.{statement}
-use Rattle.heading.proofs.channel_count.Tie as tie
+use Rattle.heading.proofs.stated_count.Statement.{statement}
+use Rattle.heading.proofs.stated_count.Tie as tie
 
 plain-number-requires : tie.Need-plain-number-requires
 plain-number-requires c κs = search needs
@@ -50,8 +50,8 @@ returns-4 c =
     let magnitude = at-number .number .given .0 .1 .0 in
     sym (ap (λ t. cond t magnitude 0) (le-leb magnitude channelLimit (omega arith))) ∙ signed at-number false (c .before .if1 .left)
 
-pub channel-count-spec : {M : Type 1} → statement M
-channel-count-spec =
+pub stated-count-spec : {M : Type 1} → statement M
+stated-count-spec =
     tie.close
     (tie.spec
     plain-number-requires
