@@ -11,7 +11,7 @@ use Rattle.refusal.specs.Number.{buffer-short}
 use Rattle.refusal.specs.Outcome.{refused, numberOf, lineOf}
 use Rattle.reference.specs.Contracts.{refusedReference}
 use Rattle.reference.specs.declared.read.Reference.{Reference}
-use Rattle.reference.specs.declared.read.Part.{Part}
+use Rattle.reference_label.specs.declared.Part.{Part}
 use Rattle.export_reference.specs.declared.ReferenceAnswer.{ReferenceAnswer}
 use Rattle.export_reference.specs.declared.LabelAnswer.{LabelAnswer}
 

@@ -7,13 +7,14 @@ ghost use Rattle.limits.specs.Limits.{rowLimit};
 ghost use Rattle.lent.specs.Filled.{filled};
 ghost use Rattle.channel.specs.Channel.{channelTypes};
 ghost use Rattle.reference.specs.Reference.{content};
-ghost use Rattle.reference.specs.Contracts.{referenceRead, valuesIn, labelPart};
+ghost use Rattle.reference.specs.Contracts.{referenceRead, valuesIn};
+ghost use Rattle.reference_label.specs.Contracts.{labelPart};
 ghost use Rattle.export_reference.specs.Contracts.{referenceAnswer, refusedAnswer, labelAnswer};
 use channel::Code;
 use channel::fill_codes;
 use lent::fill_table;
 use limits::PLACES;
-use reference::read::label_part;
+use reference_label::label_part;
 
 // What a reference text answers: number 0 where accepted, else the refusal's number and line, m and n being 0.
 #[repr(C)]

@@ -13,10 +13,10 @@ use libc::STDIN_FILENO;
 use limits::CHANNELS;
 use limits::COORDINATE_MOST;
 use limits::PLACES;
-use reference::read::Part;
 use reference::read::Reference;
-use reference::read::label_part;
 use reference::read::read;
+use reference_label::Part;
+use reference_label::label_part;
 
 // The most bytes of the input.
 const INPUT_MOST: usize = 200_000;

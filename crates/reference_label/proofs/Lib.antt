@@ -1,0 +1,2 @@
+-- How the code finds a label.
+pub mod LabelSteps
