@@ -55,14 +55,14 @@ fn redraw_share(texts: &[PathBuf], beside: &Path) {
 
 /// The record of an accepted reference text.
 fn draw(text: &[u8]) -> String {
-    let (mut table, mut types) = ([0; ROWS * CHANNELS], [0; CHANNELS]);
+    let (mut table, mut codes) = ([0; ROWS * CHANNELS], [0; CHANNELS]);
     let (mut centre, mut weights) = ([0; CHANNELS], [0; ROWS]);
-    let (m, n) = reader::read(text, &mut table, &mut types).expect("a text within the rules");
+    let (m, n) = reader::read(text, &mut table, &mut codes).expect("a text within the rules");
     let figures = plain::draw(&table, (m, n), BUDGET, &mut centre, &mut weights);
     let figures = figures.expect("within limits");
     let figures = verdict::Figures {
         n,
-        types: &types,
+        codes: &codes,
         scaled_centre: &centre,
         scaled_squared_radius: figures.scaled_squared_radius,
         scaled_lower_bound: figures.scaled_lower_bound,

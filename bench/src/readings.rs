@@ -63,8 +63,8 @@ fn drawn(random: &mut Random, n: usize) -> (Figures, Vec<Vec<u8>>) {
         texts.push((text + "\n").into_bytes());
     }
     let drawing = cundarivo::draw(&rows, READINGS, n, BUDGET).expect("within limits");
-    let types: Vec<u8> = (1..=n as u8).collect();
-    (drawing.figures(&types), texts)
+    let codes: Vec<u8> = (1..=n as u8).collect();
+    (drawing.figures(&codes), texts)
 }
 
 fn proved(work: &Work<'_>) -> Outcome {
@@ -87,7 +87,7 @@ fn in_one_pass(work: &Work<'_>) -> Outcome {
 pub fn given(figures: &Figures) -> verdict::Figures<'_> {
     verdict::Figures {
         n: figures.n,
-        types: &figures.codes,
+        codes: &figures.codes,
         scaled_centre: &figures.scaled_centre,
         scaled_squared_radius: figures.scaled_squared_radius,
         scaled_lower_bound: figures.scaled_lower_bound,

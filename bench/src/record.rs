@@ -41,7 +41,7 @@ impl Number {
 /// What a record in form states.
 pub struct Stated {
     pub n: usize,
-    pub types: [u8; CHANNELS],
+    pub codes: [u8; CHANNELS],
     pub centre: [Number; CHANNELS],
     pub radius: Number,
     pub bound: Number,
@@ -57,7 +57,7 @@ impl Stated {
     pub fn new() -> Stated {
         Stated {
             n: 0,
-            types: [0; CHANNELS],
+            codes: [0; CHANNELS],
             centre: [Number::default(); CHANNELS],
             radius: Number::default(),
             bound: Number::default(),
@@ -89,9 +89,9 @@ impl Stated {
         Some(())
     }
 
-    /// The figures and X, where the record agrees with the rows and the types.
-    fn agreed(&self, table: &Table<'_>, types: &[u8]) -> Option<(Figures, [i64; CHANNELS])> {
-        if self.n != table.n || self.types[..self.n] != *types || self.last_row > table.m {
+    /// The figures and X, where the record agrees with the rows and the codes.
+    fn agreed(&self, table: &Table<'_>, codes: &[u8]) -> Option<(Figures, [i64; CHANNELS])> {
+        if self.n != table.n || self.codes[..self.n] != *codes || self.last_row > table.m {
             return None;
         }
         let (checked, centre) = table.check(&self.weights[..table.m]).ok()?;
@@ -108,21 +108,21 @@ impl Stated {
     }
 }
 
-/// Rows, and the types of their channels.
+/// Rows, and the codes of their channels.
 pub struct Rows<'a> {
     pub places: &'a [i32],
     pub m: usize,
     pub n: usize,
-    pub types: &'a [u8],
+    pub codes: &'a [u8],
 }
 
 impl<'a> Rows<'a> {
-    /// The table and the first n types.
+    /// The table and the first n codes.
     fn within_limits(&self) -> Result<(Table<'a>, &'a [u8]), Refusal> {
         let table = Table::new(self.places, self.m, self.n).map_err(|_| OUTSIDE_LIMITS)?;
-        let types = self.types.get(..self.n).ok_or(OUTSIDE_LIMITS)?;
-        match types.iter().all(|code| (1..=8).contains(code)) {
-            true => Ok((table, types)),
+        let codes = self.codes.get(..self.n).ok_or(OUTSIDE_LIMITS)?;
+        match codes.iter().all(|code| (1..=8).contains(code)) {
+            true => Ok((table, codes)),
             false => Err(OUTSIDE_LIMITS),
         }
     }
@@ -137,12 +137,12 @@ pub fn read(
     centre: &mut [i64],
     weights: &mut [u32],
 ) -> Result<Figures, Refusal> {
-    let (table, types) = rows.within_limits()?;
+    let (table, codes) = rows.within_limits()?;
     if text.is_empty() || text.len() > TEXT_LIMIT {
         return Err(TEXT_LENGTH);
     }
     let stated = parse(text).map_err(|line| (RECORD_FORM, line))?;
-    let (figures, own) = stated.agreed(&table, types).ok_or(DISAGREES)?;
+    let (figures, own) = stated.agreed(&table, codes).ok_or(DISAGREES)?;
     let centre = centre.get_mut(..rows.n).ok_or(TOO_SHORT)?;
     let weights = weights.get_mut(..rows.m).ok_or(TOO_SHORT)?;
     centre.copy_from_slice(&own[..rows.n]);

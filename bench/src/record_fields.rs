@@ -34,7 +34,7 @@ fn parse_heading(line: Option<&[u8]>, stated: &mut Stated) -> Option<()> {
     let count = parse_number(fields.next()?)?;
     for tag in fields {
         let code = TAGS.iter().position(|own| own.as_bytes() == tag)? + 1;
-        *stated.types.get_mut(stated.n)? = code as u8;
+        *stated.codes.get_mut(stated.n)? = code as u8;
         stated.n += 1;
     }
     (stated.n > 0 && !count.negative && count.magnitude == stated.n as u64).then_some(())
@@ -97,7 +97,7 @@ fn add_lines(text: &mut String, envelope: &Envelope<'_>) -> std::fmt::Result {
     let figures = &envelope.figures;
     let n = figures.n;
     write!(text, "ENV,{n}")?;
-    for code in &figures.types[..n] {
+    for code in &figures.codes[..n] {
         write!(text, ",{}", TAGS[usize::from(*code) - 1])?;
     }
     write!(text, "\nC")?;

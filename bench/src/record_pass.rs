@@ -42,7 +42,7 @@ impl Bytes<'_> {
             return None;
         }
         stated.n = n;
-        for place in &mut stated.types[..n] {
+        for place in &mut stated.codes[..n] {
             self.word(b",")?;
             let ends = |rest: &[u8]| matches!(rest.first(), Some(b',' | b'\n'));
             let (code, rest) = (1..).zip(TAGS).find_map(|(code, tag)| {
@@ -134,7 +134,7 @@ pub fn print(envelope: &Envelope<'_>) -> Text {
     let n = figures.n;
     text.add(b"ENV,");
     text.add_number(n as u64);
-    for code in &figures.types[..n] {
+    for code in &figures.codes[..n] {
         text.add(b",");
         text.add(TAGS[usize::from(*code) - 1].as_bytes());
     }

@@ -14,7 +14,7 @@ const ROWS: usize = 256;
 const CHANNELS: usize = 8;
 const WEIGHT: u32 = 256;
 const RECORDS: usize = 16;
-const TYPES: [u8; CHANNELS] = [1, 2, 3, 4, 5, 6, 7, 8];
+const CODES: [u8; CHANNELS] = [1, 2, 3, 4, 5, 6, 7, 8];
 
 struct Work {
     rows: Vec<i32>,
@@ -70,7 +70,7 @@ impl Work {
             .collect();
         let weights = vec![WEIGHT; ROWS];
         let checked = cundarivo::check(&rows, ROWS, CHANNELS, &weights).expect("within limits");
-        let figures = checked.figures(&TYPES, random.below(1_000_001) as u32);
+        let figures = checked.figures(&CODES, random.below(1_000_001) as u32);
         let envelope = Envelope { figures, weights };
         let text =
             cundarivo::write_record(&envelope, &rows, ROWS).expect("an envelope that agrees");
@@ -129,7 +129,7 @@ fn proved_read(work: &Work) -> Read {
         rows,
         ROWS,
         CHANNELS,
-        &TYPES,
+        &CODES,
         text,
         &mut centre,
         &mut weights,
@@ -160,7 +160,7 @@ fn plain_read(parse: impl Fn(&[u8]) -> Result<Stated, u32>, work: &Work) -> Read
         places: &work.rows,
         m: ROWS,
         n: CHANNELS,
-        types: &TYPES,
+        codes: &CODES,
     };
     let figures = record::read(parse, &rows, &work.text, &mut centre, &mut weights);
     (figures, centre, weights)

@@ -28,7 +28,7 @@ pub const TAGS: [(&str, i32, i32); CHANNELS] = [
     ("ORP", -2_000, 2_000),
 ];
 
-/// m and n or the refusal's number and line, the table and the types.
+/// m and n or the refusal's number and line, the table and the codes.
 type Outcome = (
     Result<(usize, usize), reader::Refusal>,
     [i32; ROWS * CHANNELS],
@@ -63,19 +63,19 @@ pub fn measure_texts(random: &mut Random) {
 }
 
 fn proved_read(text: &[u8]) -> Outcome {
-    let (mut table, mut types) = ([0; ROWS * CHANNELS], [0; CHANNELS]);
-    let answer = cundarivo::read_reference_into(text, &mut table, &mut types);
+    let (mut table, mut codes) = ([0; ROWS * CHANNELS], [0; CHANNELS]);
+    let answer = cundarivo::read_reference_into(text, &mut table, &mut codes);
     let counts = match answer.number {
         0 => Ok((answer.m, answer.n)),
         number => Err((number, answer.line)),
     };
-    (counts, table, types)
+    (counts, table, codes)
 }
 
 fn plain_read(text: &[u8]) -> Outcome {
-    let (mut table, mut types) = ([0; ROWS * CHANNELS], [0; CHANNELS]);
-    let counts = reader::read(text, &mut table, &mut types);
-    (counts, table, types)
+    let (mut table, mut codes) = ([0; ROWS * CHANNELS], [0; CHANNELS]);
+    let counts = reader::read(text, &mut table, &mut codes);
+    (counts, table, codes)
 }
 
 fn ordinary_text(random: &mut Random) -> Vec<u8> {

@@ -9,7 +9,9 @@ fn main() {
     let archive = folder.join("libcundarivo.a");
     if !archive.exists() {
         let name = archive.display();
-        println!("cargo::warning={name} is missing: run 'rt staticlib cundarivo' in the repository");
+        println!(
+            "cargo::warning={name} is missing: run 'rt staticlib cundarivo' in the repository"
+        );
     }
     println!("cargo::rustc-link-search=native={}", folder.display());
     println!("cargo::rustc-link-lib=static=cundarivo");

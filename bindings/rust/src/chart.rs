@@ -145,18 +145,18 @@ pub fn chart(figures: &Figures, horizontal: usize, vertical: usize) -> Result<Ma
 pub fn panel(figures: &Figures) -> Result<Vec<i32>, Refusal> {
     // More than CHANNELS are refused, so that no count, however large, is allocated.
     let mut steps = vec![0; figures.n.min(CHANNELS)];
-    let (codes, centre) = (&figures.codes, &figures.scaled_centre);
-    let answer = panel_into(figures.given(), codes, centre, &mut steps);
+    let (codes, scaled_centre) = (&figures.codes, &figures.scaled_centre);
+    let answer = panel_into(figures.given(), codes, scaled_centre, &mut steps);
     accepted(answer.number, answer.line)?;
     Ok(steps)
 }
 
-/// The library's own call of [`chart`], which takes and answers numbers. `codes` and `centre` lend
+/// The library's own call of [`chart`], which takes and answers numbers. `codes` and `scaled_centre` lend
 /// at least n places, of which the first n count; fewer are refused by 8.
 pub fn chart_given(
     figures: FiguresGiven,
     codes: &[u8],
-    centre: &[i64],
+    scaled_centre: &[i64],
     horizontal: usize,
     vertical: usize,
 ) -> MarkAnswer {
@@ -166,8 +166,8 @@ pub fn chart_given(
             figures,
             codes.as_ptr(),
             codes.len(),
-            centre.as_ptr(),
-            centre.len(),
+            scaled_centre.as_ptr(),
+            scaled_centre.len(),
             horizontal,
             vertical,
         )
@@ -175,13 +175,13 @@ pub fn chart_given(
 }
 
 /// The library's own call of [`panel`], which takes and answers numbers. Accepted, it fills the first
-/// n places of `steps`, and no other; refused, it changes nothing. `codes` and `centre` lend at least
+/// n places of `steps`, and no other; refused, it changes nothing. `codes` and `scaled_centre` lend at least
 /// n places, of which the first n count; fewer are refused by 8. After that comes 13 for `steps` of
 /// fewer than n places; [`CHANNELS`] are always enough.
 pub fn panel_into(
     figures: FiguresGiven,
     codes: &[u8],
-    centre: &[i64],
+    scaled_centre: &[i64],
     steps: &mut [i32],
 ) -> PanelAnswer {
     // SAFETY: as in `draw_into`.
@@ -190,8 +190,8 @@ pub fn panel_into(
             figures,
             codes.as_ptr(),
             codes.len(),
-            centre.as_ptr(),
-            centre.len(),
+            scaled_centre.as_ptr(),
+            scaled_centre.len(),
             steps.as_mut_ptr(),
             steps.len(),
         )

@@ -540,15 +540,15 @@ pub fn check(rows: &[i32], m: usize, n: usize, weights: &[u32]) -> Result<Checke
     })
 }
 
-/// The library's drawing on lent slices. An accepted one fills the first n places of `centre` with
+/// The library's drawing on lent slices. An accepted one fills the first n places of `scaled_centre` with
 /// X and the first m places of `weights`, and no other; a refused one changes nothing. Refusals 8,
-/// 9, then 13 for a `centre` of fewer than n or `weights` of fewer than m places.
+/// 9, then 13 for a `scaled_centre` of fewer than n or `weights` of fewer than m places.
 pub fn draw_into(
     rows: &[i32],
     m: usize,
     n: usize,
     budget: u32,
-    centre: &mut [i64],
+    scaled_centre: &mut [i64],
     weights: &mut [u32],
 ) -> EnvelopeAnswer {
     // SAFETY: each pointer and length are those of a live slice, the written ones lent to nobody
@@ -560,23 +560,23 @@ pub fn draw_into(
             m,
             n,
             budget,
-            centre.as_mut_ptr(),
-            centre.len(),
+            scaled_centre.as_mut_ptr(),
+            scaled_centre.len(),
             weights.as_mut_ptr(),
             weights.len(),
         )
     }
 }
 
-/// The library's check on lent slices. An accepted one fills the first n places of `centre` with X,
-/// and no other; a refused one changes nothing. Refusals 8, 12, then 13 for a `centre` of fewer
+/// The library's check on lent slices. An accepted one fills the first n places of `scaled_centre` with X,
+/// and no other; a refused one changes nothing. Refusals 8, 12, then 13 for a `scaled_centre` of fewer
 /// than n places.
 pub fn check_into(
     rows: &[i32],
     m: usize,
     n: usize,
     weights: &[u32],
-    centre: &mut [i64],
+    scaled_centre: &mut [i64],
 ) -> CheckAnswer {
     // SAFETY: as in `draw_into`.
     unsafe {
@@ -587,8 +587,8 @@ pub fn check_into(
             n,
             weights.as_ptr(),
             weights.len(),
-            centre.as_mut_ptr(),
-            centre.len(),
+            scaled_centre.as_mut_ptr(),
+            scaled_centre.len(),
         )
     }
 }
@@ -685,12 +685,12 @@ pub fn judge(figures: &Figures, text: &[u8]) -> Result<Verdict, Refusal> {
     })
 }
 
-/// The library's own call of [`judge`], which takes and answers numbers. `codes` and `centre` lend
+/// The library's own call of [`judge`], which takes and answers numbers. `codes` and `scaled_centre` lend
 /// at least n places, of which the first n count; fewer are refused by 8.
 pub fn judge_given(
     figures: FiguresGiven,
     codes: &[u8],
-    centre: &[i64],
+    scaled_centre: &[i64],
     text: &[u8],
 ) -> VerdictAnswer {
     // SAFETY: each pointer and length are those of a live slice, which the library only reads, and
@@ -700,8 +700,8 @@ pub fn judge_given(
             figures,
             codes.as_ptr(),
             codes.len(),
-            centre.as_ptr(),
-            centre.len(),
+            scaled_centre.as_ptr(),
+            scaled_centre.len(),
             text.as_ptr(),
             text.len(),
         )

@@ -143,17 +143,25 @@ pub fn read_record(
 /// Refusals 8, then 12: see [`Refusal`].
 pub fn write_record(envelope: &Envelope, rows: &[i32], m: usize) -> Result<Vec<u8>, Refusal> {
     let Envelope { figures, weights } = envelope;
-    let (codes, centre) = (&figures.codes, &figures.scaled_centre);
+    let (codes, scaled_centre) = (&figures.codes, &figures.scaled_centre);
     let mut text = vec![0; RECORD_BYTES];
-    let answer = write_record_into(figures.given(), codes, centre, weights, rows, m, &mut text);
+    let answer = write_record_into(
+        figures.given(),
+        codes,
+        scaled_centre,
+        weights,
+        rows,
+        m,
+        &mut text,
+    );
     accepted(answer.number, answer.line)?;
     text.truncate(answer.length);
     Ok(text)
 }
 
 /// The library's own call of [`read_record`], which answers with numbers. Accepted, it fills the
-/// first n places of `centre` with X and the first m places of `weights`, and no other; refused, it
-/// changes nothing. After the refusals of [`read_record`] comes 13 for a `centre` of fewer than n or
+/// first n places of `scaled_centre` with X and the first m places of `weights`, and no other; refused, it
+/// changes nothing. After the refusals of [`read_record`] comes 13 for a `scaled_centre` of fewer than n or
 /// `weights` of fewer than m places.
 pub fn read_record_into(
     rows: &[i32],
@@ -161,7 +169,7 @@ pub fn read_record_into(
     n: usize,
     codes: &[u8],
     text: &[u8],
-    centre: &mut [i64],
+    scaled_centre: &mut [i64],
     weights: &mut [u32],
 ) -> EnvelopeAnswer {
     // SAFETY: as in `draw_into`, and the library is proved to keep within the lengths for every
@@ -176,8 +184,8 @@ pub fn read_record_into(
             codes.len(),
             text.as_ptr(),
             text.len(),
-            centre.as_mut_ptr(),
-            centre.len(),
+            scaled_centre.as_mut_ptr(),
+            scaled_centre.len(),
             weights.as_mut_ptr(),
             weights.len(),
         )
@@ -186,13 +194,13 @@ pub fn read_record_into(
 
 /// The library's own call of [`write_record`], which takes and answers numbers. Accepted, it fills
 /// the first places of `buffer` with the record, and no other; refused, it changes nothing. `codes`
-/// and `centre` lend at least n places, of which the first n count, and `weights` at least m and at
+/// and `scaled_centre` lend at least n places, of which the first n count, and `weights` at least m and at
 /// most [`ROWS`], of which those past m are 0. After the refusals of [`write_record`] comes 13 for a
 /// `buffer` that is too short; [`RECORD_BYTES`] are always enough.
 pub fn write_record_into(
     figures: FiguresGiven,
     codes: &[u8],
-    centre: &[i64],
+    scaled_centre: &[i64],
     weights: &[u32],
     rows: &[i32],
     m: usize,
@@ -204,8 +212,8 @@ pub fn write_record_into(
             figures,
             codes.as_ptr(),
             codes.len(),
-            centre.as_ptr(),
-            centre.len(),
+            scaled_centre.as_ptr(),
+            scaled_centre.len(),
             weights.as_ptr(),
             weights.len(),
             rows.as_ptr(),
