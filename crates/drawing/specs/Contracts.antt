@@ -8,6 +8,7 @@ use mathlib.Core.List.{List}
 use lib.IntN.{ℤ}
 use Rattle.refusal.specs.declared.Outcome.the-variants.{Accepted}
 use Rattle.geometry.specs.Table.{coordinate}
+use Rattle.geometry.specs.Places.{weightsTotal}
 use Rattle.limits.specs.Limits.{total, rowLimit, budgetLimit}
 use Rattle.ball.specs.Contracts.{Tight}
 use Rattle.drawing.specs.Draw.{drawing, start, runFrom}
@@ -19,6 +20,8 @@ use Rattle.drawing.specs.declared.Ended.{Ended}
 -- a drawing is the defined one, and where it is accepted demand 3 holds of its figures
 pub record DrawPromise (rows : List ℤ) (m n b : ℕ) (r : Drawing) : Type 0 where
   pub is : r ≡ drawing total rowLimit rows m n b
+  -- 2.3: the weights keep their sum from the start to the end
+  pub total-kept : r .outcome ≡ Accepted → weightsTotal m (r .weights) ≡ total
   pub tight : r .outcome ≡ Accepted → Tight total m n (coordinate rows n) (r .ball)
   -- 3.4: the moves made are at most L
   pub moves-most : r .outcome ≡ Accepted → r .moves ≤ r .ball .«scaled_lower_bound»

@@ -1,5 +1,6 @@
 -- Demand 3 of document 01, of what a drawing answers, for any total D above 0 and any row limit.
---     Kept, run-kept                         a run keeps the sum of the weights, and L rises by at least 1 with each move
+--     run-total                              any number of moves from any weights keeps their sum
+--     Kept, run-kept                         after a run from the first row the sum is D, and L has risen by at least 1 with each move
 --     drawing-accepts, drawing-accepted      a drawing is accepted exactly where the limits hold and the budget is within its own
 --     drawing-zero                           only an accepted drawing has the number 0
 --     drawing-is                             an accepted drawing is that of the whole run
@@ -38,6 +39,13 @@ use Rattle.refusal.specs.OutcomeLaws.{each-answer, never-accepted, never-zero}
 use Rattle.drawing.specs.declared.Drawing.{Drawing}
 
 -- ---- runs
+
+-- the weights keep their sum through any number of moves, whatever they are
+pub run-total : (D m n : ℕ) (a : ℕ → ℕ → ℤ) (b made : ℕ) (ws : List ℕ) → 0 < m → m ≤ length ws → weightsTotal m (runFrom D m n a b made ws .weights) ≡ weightsTotal m ws
+unfolding runFrom
+run-total D m n a b made ws some places =
+    run-keeps (λ later. settled D m n a (weightOf later)) (moved D m n a) (λ k later. (m ≤ length later) × (weightsTotal m later ≡ weightsTotal m ws))
+    (λ k later unsettled h. (omega (arith, moved-length D m n a later, h .0), moved-total D m n a later some (h .0) ∙ h .1)) b made ws (places, refl) .1
 
 -- what holds after k moves: the list's places, the sum of the weights, and k at most L
 pub record Kept (D m n : ℕ) (a : ℕ → ℕ → ℤ) (k : ℕ) (ws : List ℕ) : Type 0 where
@@ -116,6 +124,7 @@ draw-promise rows m n b r e =
     subst (DrawPromise rows m n b) (sym e)
     record {
       is = refl;
+      total-kept = λ h. drawing-total total rowLimit rows m n b h (lit< tt);
       tight = λ h. drawing-tight total rowLimit rows m n b h (lit< tt);
       moves-most = λ h. drawing-moves total rowLimit rows m n b h (lit< tt);
       budget-spent = drawing-spent total rowLimit rows m n b;
