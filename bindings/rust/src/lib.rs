@@ -757,7 +757,10 @@ fn accepted(number: u32, line: u32) -> Result<(), Refusal> {
     }
 }
 
-/// The README's example is a test.
+#[doc = include_str!("../README.md")]
+pub mod guide {}
+
+/// The example of the repository's README is a test.
 #[cfg(doctest)]
 #[doc = include_str!("../../../README.md")]
 struct Readme;
