@@ -48,6 +48,7 @@ impl Project {
             fs::set_permissions(file, fs::Permissions::from_mode(0o755)).expect("a file of ours");
         }
         for package in [
+            "tests/documents",
             "tests/outside",
             "tests/differential",
             "tests/programs",
@@ -80,13 +81,16 @@ impl Project {
         assert!(!last.contains("0 failed"));
         assert_eq!(ended.status, 0);
         let asked = String::from_utf8(self.folder.read("asked")).expect("a text");
-        assert!(asked.starts_with("rt fmt --check\nrt check\n"), "{asked}");
+        assert!(
+            asked.starts_with("rt fmt --check\ncargo test --offline --release --quiet\nrt check\n"),
+            "{asked}"
+        );
         assert!(asked.contains("\nrt staticlib cundarivo\n"), "{asked}");
         assert_eq!(
             asked
                 .matches("cargo test --offline --release --quiet\n")
                 .count(),
-            4
+            5
         );
         let after = |start| {
             asked
