@@ -10,6 +10,7 @@
 //! - `lent`: slices lent to the product, with what lies round them.
 //! - `named`: tests by the names of known cases.
 //! - `tally`: what was compared and which refusals were reached.
+//! - `seeded`: a run of seeded comparisons.
 //! - `reached`: how often each outcome and each kind of input was met.
 
 pub mod compare;
@@ -22,4 +23,5 @@ pub mod lent;
 pub mod named;
 pub mod product;
 pub mod reached;
+pub mod seeded;
 pub mod tally;

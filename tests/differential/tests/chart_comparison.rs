@@ -5,15 +5,15 @@
 
 use differential::compare_chart::{Chart, Panel};
 use differential::reached::Reached;
+use differential::seeded::seeded;
 use outside::chart_figures::{self, CHANNEL_FAULTS, ChannelFault, PLACES, RADII};
 use outside::charts::Mark;
 use outside::envelopes::{self, FIGURE_FAULTS, Fitted};
 use outside::projections::{self, Tested};
-use outside::random::{Random, count_from_environment, seed_from_environment};
+use outside::random::Random;
 use outside::readings::EnvelopeFigures;
 use outside::rules::{CHANNEL_LIMIT, OUTSIDE_LIMITS, ROW_LIMIT, Vector};
 use outside::sets::{self, SHAPES};
-use std::time::Instant;
 
 const SEED: u64 = 20_260_112;
 /// How many charts and how many panels of seeded figures.
@@ -36,12 +36,12 @@ struct Comparison {
 }
 
 fn main() {
-    let seed = seed_from_environment(SEED);
-    let charts = count_from_environment("CHARTS", CHARTS);
-    println!("seed: {seed}");
-    let started = Instant::now();
+    seeded(SEED, "CHARTS", CHARTS, compare_all);
+}
+
+fn compare_all(random: Random, charts: u64) {
     let mut comparison = Comparison {
-        random: Random::new(seed),
+        random,
         charts: 0,
         panels: 0,
         reached: Reached::default(),
@@ -57,7 +57,6 @@ fn main() {
     comparison.compare_drawings();
     println!("charts in all: {}", comparison.charts);
     println!("panels in all: {}", comparison.panels);
-    println!("seconds: {:.1}", started.elapsed().as_secs_f64());
 }
 
 impl Comparison {

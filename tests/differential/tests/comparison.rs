@@ -2,10 +2,11 @@
 //! CUNDARIVO_SETS in the environment give another seed and a larger number of sets.
 
 use differential::compare::{self, Lent, Room};
+use differential::seeded::seeded;
 use differential::tally::Tally;
 use outside::cases::{self, Answer, Case, WEIGHTINGS};
 use outside::demands::Demands;
-use outside::random::{Random, count_from_environment, seed_from_environment};
+use outside::random::Random;
 use outside::rules::{BUDGET_LIMIT, CHANNEL_LIMIT, ROW_LIMIT};
 use outside::sets::{self, DAMAGES, SHAPES, Set};
 
@@ -15,10 +16,10 @@ const SETS: u64 = 200_000;
 const BUDGETS: [u32; 5] = [0, 1, 2, 10_000, BUDGET_LIMIT];
 
 fn main() {
-    let seed = seed_from_environment(SEED);
-    let sets = count_from_environment("SETS", SETS);
-    println!("seed: {seed}");
-    let mut random = Random::new(seed);
+    seeded(SEED, "SETS", SETS, compare_all);
+}
+
+fn compare_all(mut random: Random, sets: u64) {
     let mut tally = Tally::default();
     for _ in 0..sets {
         compare_set(&mut random, &mut tally);

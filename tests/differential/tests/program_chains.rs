@@ -5,9 +5,10 @@
 
 use cundarivo::{Envelope, programs};
 use differential::reached::Reached;
+use differential::seeded::seeded;
 use outside::envelopes;
 use outside::program_inputs;
-use outside::random::{Random, count_from_environment, seed_from_environment};
+use outside::random::Random;
 use outside::reading_texts;
 use outside::record_calls::{self, Fault, FaultyCall};
 use outside::record_texts::Enveloped;
@@ -15,7 +16,6 @@ use outside::records::{self, TypedRows};
 use outside::reference;
 use outside::rules::{CHANNEL_LIMIT, ROW_LIMIT};
 use outside::texts::Draft;
-use std::time::Instant;
 
 const SEED: u64 = 20_260_113;
 const CHAINS: u64 = 20_000;
@@ -24,11 +24,11 @@ const SHARE: u64 = 10;
 const RARE_SHARE: u64 = 2_000;
 
 fn main() {
-    let seed = seed_from_environment(SEED);
-    let chains = count_from_environment("CHAINS", CHAINS);
-    println!("seed: {seed}");
-    let started = Instant::now();
-    let random = &mut Random::new(seed);
+    seeded(SEED, "CHAINS", CHAINS, compare_all);
+}
+
+fn compare_all(mut random: Random, chains: u64) {
+    let random = &mut random;
     let mut reached = Reached::default();
     for _ in 0..chains {
         let chain = Chain::new(program_inputs::reference(random));
@@ -51,7 +51,6 @@ fn main() {
     for name in ["ending: Budget", "256 rows of 8 channels"] {
         reached.require(name, chains / RARE_SHARE);
     }
-    println!("seconds: {:.1}", started.elapsed().as_secs_f64());
 }
 
 /// A reference text, and the record that the product draws of it.

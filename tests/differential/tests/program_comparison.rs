@@ -4,16 +4,16 @@
 
 use differential::compare_program::Run;
 use differential::reached::Reached;
+use differential::seeded::seeded;
 use outside::known_programs;
 use outside::program_inputs::{self, Change, READINGS, RECORD, REFERENCE, Source};
 use outside::programs::{PROGRAMS, Program};
-use outside::random::{Random, count_from_environment, seed_from_environment};
+use outside::random::Random;
 use outside::reference::TEXT_LIMIT;
 use outside::sweeps;
 use std::cmp::Ordering;
 use std::collections::BTreeSet;
 use std::fmt::Display;
-use std::time::Instant;
 
 const SEED: u64 = 20_260_112;
 const INPUTS: u64 = 110_000;
@@ -33,12 +33,12 @@ struct Comparison {
 }
 
 fn main() {
-    let seed = seed_from_environment(SEED);
-    let inputs = count_from_environment("INPUTS", INPUTS);
-    println!("seed: {seed}");
-    let started = Instant::now();
+    seeded(SEED, "INPUTS", INPUTS, compare_all);
+}
+
+fn compare_all(random: Random, inputs: u64) {
     let mut comparison = Comparison {
-        random: Random::new(seed),
+        random,
         compared: 0,
         reached: Reached::default(),
     };
@@ -53,7 +53,6 @@ fn main() {
     comparison.require(inputs);
     comparison.compare_sweeps();
     println!("inputs in all: {}", comparison.compared);
-    println!("seconds: {:.1}", started.elapsed().as_secs_f64());
 }
 
 impl Comparison {

@@ -5,8 +5,9 @@
 
 use differential::compare_reading::Reading;
 use differential::reached::Reached;
+use differential::seeded::seeded;
 use outside::envelopes::{self, FIGURE_FAULTS, Fitted};
-use outside::random::{Random, count_from_environment, seed_from_environment};
+use outside::random::Random;
 use outside::reading_damage;
 use outside::reading_faults::{self, Fault, FaultyCall, LINE_FAULTS, ORDER, STRETCHED, TwoFaults};
 use outside::reading_texts::{self, ReadingDraft};
@@ -15,7 +16,6 @@ use outside::reference::ChannelType;
 use outside::rules::{CHANNEL_LIMIT, ROW_LIMIT, Refusal};
 use outside::sweeps;
 use outside::texts::{self, Draft};
-use std::time::Instant;
 
 const SEED: u64 = 20_260_105;
 const READINGS: u64 = 1_000_000;
@@ -46,12 +46,12 @@ struct Comparison {
 }
 
 fn main() {
-    let seed = seed_from_environment(SEED);
-    let readings = count_from_environment("READINGS", READINGS);
-    println!("seed: {seed}");
-    let started = Instant::now();
+    seeded(SEED, "READINGS", READINGS, compare_all);
+}
+
+fn compare_all(random: Random, readings: u64) {
     let mut comparison = Comparison {
-        random: Random::new(seed),
+        random,
         readings: 0,
         reached: Reached::default(),
     };
@@ -63,7 +63,6 @@ fn main() {
     comparison.require(readings);
     compare_rows(&mut comparison.random);
     compare_sweeps(&mut comparison.random);
-    println!("seconds: {:.1}", started.elapsed().as_secs_f64());
 }
 
 impl Comparison {

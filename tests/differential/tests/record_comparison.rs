@@ -6,8 +6,9 @@
 use differential::compare_record::{Record, Writing};
 use differential::lent::{ENOUGH, ROOMS, Room};
 use differential::reached::Reached;
+use differential::seeded::seeded;
 use outside::known_records;
-use outside::random::{Random, count_from_environment, seed_from_environment};
+use outside::random::Random;
 use outside::record_calls::{self, FaultyCall};
 use outside::record_damage;
 use outside::record_texts::{self, BUDGETS, Enveloped};
@@ -16,7 +17,6 @@ use outside::rules::{CHANNEL_LIMIT, ROW_LIMIT};
 use outside::sets::{self, SHAPES};
 use outside::sweeps;
 use outside::writing_faults::{self, FaultyWriting, WritingCall};
-use std::time::Instant;
 
 const SEED: u64 = 20_260_108;
 const RECORDS: u64 = 500_000;
@@ -40,12 +40,12 @@ struct Comparison {
 }
 
 fn main() {
-    let seed = seed_from_environment(SEED);
-    let records = count_from_environment("RECORDS", RECORDS);
-    println!("seed: {seed}");
-    let started = Instant::now();
+    seeded(SEED, "RECORDS", RECORDS, compare_all);
+}
+
+fn compare_all(random: Random, records: u64) {
     let mut comparison = Comparison {
-        random: Random::new(seed),
+        random,
         records_read: 0,
         records_written: 0,
         reached: Reached::default(),
@@ -59,7 +59,6 @@ fn main() {
     comparison.compare_sweeps();
     println!("comparisons in all: {}", comparison.compared());
     assert!(comparison.compared() >= LEAST_COMPARED);
-    println!("seconds: {:.1}", started.elapsed().as_secs_f64());
 }
 
 impl Comparison {

@@ -5,13 +5,13 @@
 use differential::compare_text::Text;
 use differential::lent::{ENOUGH, ROOMS, Room};
 use differential::reached::Reached;
+use differential::seeded::seeded;
 use outside::damage;
 use outside::faults::{self, Faulty};
-use outside::random::{Random, count_from_environment, seed_from_environment};
+use outside::random::Random;
 use outside::rules::{CHANNEL_LIMIT, ROW_LIMIT};
 use outside::sweeps;
 use outside::texts::{self, Draft};
-use std::time::Instant;
 
 const SEED: u64 = 20_260_103;
 const TEXTS: u64 = 300_000;
@@ -29,12 +29,12 @@ struct Comparison {
 }
 
 fn main() {
-    let seed = seed_from_environment(SEED);
-    let texts = count_from_environment("TEXTS", TEXTS);
-    println!("seed: {seed}");
-    let started = Instant::now();
+    seeded(SEED, "TEXTS", TEXTS, compare_all);
+}
+
+fn compare_all(random: Random, texts: u64) {
     let mut comparison = Comparison {
-        random: Random::new(seed),
+        random,
         texts: 0,
         readings: 0,
         labels: 0,
@@ -47,7 +47,6 @@ fn main() {
     comparison.require(texts);
     comparison.compare_sweeps();
     comparison.print();
-    println!("seconds: {:.1}", started.elapsed().as_secs_f64());
 }
 
 impl Comparison {

@@ -3,6 +3,7 @@
 use documents::sources::Sources;
 use documents::{DOCUMENTS, cited, root, text};
 use std::collections::BTreeSet;
+use std::fmt::Debug;
 use std::fs;
 
 /// Names of C, libc and the kit, which no source of the repository declares.
@@ -34,68 +35,61 @@ fn every_document_is_looked_at() {
     assert_eq!(there, DOCUMENTS.map(str::to_string).into());
 }
 
+/// What the documents cite and is not there, of at least so many.
+fn missing<T: Debug>(
+    cite: fn(&str) -> BTreeSet<T>,
+    least: usize,
+    there: impl Fn(&T) -> bool,
+) -> Vec<String> {
+    let mut count = 0;
+    let mut missing = Vec::new();
+    for document in DOCUMENTS {
+        for cited in cite(&text(document)) {
+            count += 1;
+            if !there(&cited) {
+                missing.push(format!("{document}: {cited:?}"));
+            }
+        }
+    }
+    assert!(count >= least, "only {count}");
+    missing
+}
+
+const NONE: [&str; 0] = [];
+
 #[test]
 fn every_file_of_definitions_that_is_cited_is_there() {
     let sources = Sources::new();
-    let mut count = 0;
-    for document in DOCUMENTS {
-        let cited = cited::files(&text(document));
-        let of_crates = cited
-            .into_iter()
-            .filter(|(owner, _)| sources.crates.contains_key(owner));
-        for file in of_crates {
-            assert!(sources.files.contains(&file), "{document}: {file:?}");
-            count += 1;
-        }
-    }
-    assert!(count > 100, "{count} files");
+    let there = |file: &(String, String)| {
+        !sources.crates.contains_key(&file.0) || sources.files.contains(file)
+    };
+    assert_eq!(missing(cited::files, 150, there), NONE);
 }
 
 #[test]
 fn every_path_that_is_cited_is_there() {
-    let mut count = 0;
-    for document in DOCUMENTS {
-        for path in cited::paths(&text(document)) {
-            assert!(root().join(&path).exists(), "{document}: {path}");
-            count += 1;
-        }
-    }
-    assert!(count > 20, "{count} paths");
+    assert_eq!(
+        missing(cited::paths, 20, |path| root().join(path).exists()),
+        NONE
+    );
 }
 
+/// A path of modules may start at a module of the crate at hand.
 #[test]
 fn every_item_of_code_that_is_cited_is_there() {
     let sources = Sources::new();
-    let mut count = 0;
-    for document in DOCUMENTS {
-        for (owner, name) in cited::items(&text(document)) {
-            // A path may start at a module of the crate at hand.
-            let there = match sources.crates.get(&owner) {
-                Some(names) => names.contains(&name),
-                None => sources.has(&owner) && sources.has(&name),
-            };
-            assert!(there, "{document}: {owner}::{name}");
-            count += 1;
-        }
-    }
-    assert!(count > 50, "{count} items");
+    let there = |(owner, name): &(String, String)| match sources.crates.get(owner) {
+        Some(names) => names.contains(name),
+        None => sources.has(owner) && sources.has(name),
+    };
+    assert_eq!(missing(cited::items, 50, there), NONE);
 }
 
 #[test]
 fn every_word_that_can_only_be_a_name_is_one() {
     let sources = Sources::new();
-    let mut count = 0;
-    let mut unknown = Vec::new();
-    for document in DOCUMENTS {
-        for name in cited::names(&text(document)) {
-            if !sources.has(&name) && !ELSEWHERE.contains(&name.as_str()) {
-                unknown.push(format!("{document}: {name}"));
-            }
-            count += 1;
-        }
-    }
-    assert!(unknown.is_empty(), "{unknown:#?}");
-    assert!(count > 300, "{count} names");
+    let there = |name: &String| sources.has(name) || ELSEWHERE.contains(&name.as_str());
+    assert_eq!(missing(cited::names, 300, there), NONE);
 }
 
 #[test]

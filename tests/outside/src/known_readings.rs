@@ -437,6 +437,8 @@ const ROW_A: &str = "A,TOC,0,CND,0\n";
 
 pub fn figures_outside() -> Vec<KnownReading> {
     let outside = |name, figures| refused(name, figures, ROW_A, 8, 0);
+    let centre =
+        |name, place: usize, x| outside(name, changed(|figures| figures.scaled_centre[place] = x));
     let nine = EnvelopeFigures {
         n: 9,
         types: vec![1; 9],
@@ -456,30 +458,12 @@ pub fn figures_outside() -> Vec<KnownReading> {
         outside("code_0_last", changed(|figures| figures.types[1] = 0)),
         outside("code_9_last", changed(|figures| figures.types[1] = 9)),
         outside("code_255", changed(|figures| figures.types[1] = 255)),
-        outside(
-            "centre_above",
-            changed(|figures| figures.scaled_centre[0] = 262_144_001),
-        ),
-        outside(
-            "centre_below",
-            changed(|figures| figures.scaled_centre[0] = -262_144_001),
-        ),
-        outside(
-            "centre_above_last",
-            changed(|figures| figures.scaled_centre[1] = 262_144_001),
-        ),
-        outside(
-            "centre_below_last",
-            changed(|figures| figures.scaled_centre[1] = -262_144_001),
-        ),
-        outside(
-            "centre_least",
-            changed(|figures| figures.scaled_centre[0] = i64::MIN),
-        ),
-        outside(
-            "centre_most",
-            changed(|figures| figures.scaled_centre[1] = i64::MAX),
-        ),
+        centre("centre_above", 0, 262_144_001),
+        centre("centre_below", 0, -262_144_001),
+        centre("centre_above_last", 1, 262_144_001),
+        centre("centre_below_last", 1, -262_144_001),
+        centre("centre_least", 0, i64::MIN),
+        centre("centre_most", 1, i64::MAX),
         outside(
             "radius_above",
             changed(|figures| figures.scaled_squared_radius = MOST + 1),

@@ -14,6 +14,7 @@
 //! - `demands`: what demand 3 says of the figures, tested in whole numbers.
 //! - `known`: the cases that document 01 and the list of bad input name, and directed ones.
 //! - `stored`: a set of cases as the input and the output of a program.
+//! - `written`: the files of such a set.
 //! - `texts`: reference texts within the rules.
 //! - `faults`: texts with two faults in both orders.
 //! - `damage`: texts damaged in any way.
@@ -76,3 +77,4 @@ pub mod stored_texts;
 pub mod sweeps;
 pub mod texts;
 pub mod writing_faults;
+pub mod written;
