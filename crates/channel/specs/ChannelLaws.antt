@@ -29,6 +29,7 @@ use lib.Dec.{eqb, leb}
 use lib.IntN.{ℤ, pos, negsuc, negℤ, natAbs}
 use lib.Signed.{leZ}
 use Rattle.limits.specs.Limits.{coordinateLimit}
+use Rattle.text.specs.Ascii.{ascii}
 use Rattle.text.specs.Parts.{same, allFree}
 use Rattle.integers.specs.Tests.{both, clash}
 use Rattle.lists.specs.Each.{Each, each-head, each-tail}
@@ -181,11 +182,11 @@ pub house-sound : SoundTypes channelTypes
 unfolding soundList houseTypes codeIn knownIn same isLabel labelBytes
 house-sound = typesOf-sound houseTypes refl
 
-pub house-TOC : tagOf channelTypes 1 ≡ 84 ∷ 79 ∷ 67 ∷ []
+pub house-TOC : tagOf channelTypes 1 ≡ ascii "TOC"
 unfolding typeOf typeIn houseTypes
 house-TOC = refl
 
-pub house-CND : tagOf channelTypes 4 ≡ 67 ∷ 78 ∷ 68 ∷ []
+pub house-CND : tagOf channelTypes 4 ≡ ascii "CND"
 unfolding typeOf typeIn houseTypes
 house-CND = refl
 
