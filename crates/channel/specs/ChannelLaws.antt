@@ -8,8 +8,6 @@
 --     typesOf-code              the code of a tag in the table of a list is that in the list
 --     typesOf-sound             the table of a list that passes the test is sound
 --     house-sound               document 01's table is
---     house-TOC, house-CND      the tags of codes 1 and 4 in it
---     house-TMP                 code 5 is known in it
 --     known-code                the code that a tag has is known
 --     known-type                a code is known where its type has a code above 0
 --     known-some                a known code is above 0
@@ -29,7 +27,6 @@ use lib.Dec.{eqb, leb}
 use lib.IntN.{ℤ, pos, negsuc, negℤ, natAbs}
 use lib.Signed.{leZ}
 use Rattle.limits.specs.Limits.{coordinateLimit}
-use Rattle.text.specs.Ascii.{ascii}
 use Rattle.text.specs.Parts.{same, allFree}
 use Rattle.integers.specs.Tests.{both, clash}
 use Rattle.lists.specs.Each.{Each, each-head, each-tail}
@@ -181,18 +178,6 @@ typesOf-sound list h =
 pub house-sound : SoundTypes channelTypes
 unfolding soundList houseTypes codeIn knownIn same isLabel labelBytes
 house-sound = typesOf-sound houseTypes refl
-
-pub house-TOC : tagOf channelTypes 1 ≡ ascii "TOC"
-unfolding typeOf typeIn houseTypes
-house-TOC = refl
-
-pub house-CND : tagOf channelTypes 4 ≡ ascii "CND"
-unfolding typeOf typeIn houseTypes
-house-CND = refl
-
-pub house-TMP : known channelTypes 5 ≡ true
-unfolding known knownIn houseTypes
-house-TMP = refl
 
 -- ---- what a sound table gives
 
