@@ -17,6 +17,7 @@ use mathlib.Core.Bool.{Bool, true, false, cond, _&&_, _||_}
 use mathlib.Core.List.{List, [], _∷_}
 use lib.Dec.{eqb}
 use lib.IntN.{ℤ, pos, negℤ}
+use Rattle.text.specs.Ascii.{ascii}
 use Rattle.text.specs.Parts.{same}
 
 pub record ChannelType : Type 0 where
@@ -71,17 +72,17 @@ knownIn (t ∷ list) code = eqb (t .code) code || knownIn list code
 abbrev pub typesOf : List ChannelType → Types
 typesOf list = record { code-of-tag = codeIn list; type-of-code = typeIn list; is-known = knownIn list }
 
--- the tags are TOC, TC, IC, CND, TMP, PH, FLW, ORP; the step is left out, since no rule uses it
+-- the step is left out, since no rule uses it
 unfoldable pub houseTypes : List ChannelType
 houseTypes =
-    record { code = 1; tag = 84 ∷ 79 ∷ 67 ∷ []; low = pos 0; high = pos 2000 }
-    ∷ record { code = 2; tag = 84 ∷ 67 ∷ []; low = pos 0; high = pos 4000 }
-    ∷ record { code = 3; tag = 73 ∷ 67 ∷ []; low = pos 0; high = pos 4000 }
-    ∷ record { code = 4; tag = 67 ∷ 78 ∷ 68 ∷ []; low = pos 0; high = pos 4000 }
-    ∷ record { code = 5; tag = 84 ∷ 77 ∷ 80 ∷ []; low = negℤ (pos 200); high = pos 1500 }
-    ∷ record { code = 6; tag = 80 ∷ 72 ∷ []; low = pos 0; high = pos 1400 }
-    ∷ record { code = 7; tag = 70 ∷ 76 ∷ 87 ∷ []; low = pos 0; high = pos 4000 }
-    ∷ record { code = 8; tag = 79 ∷ 82 ∷ 80 ∷ []; low = negℤ (pos 2000); high = pos 2000 }
+    record { code = 1; tag = ascii "TOC"; low = pos 0; high = pos 2000 }
+    ∷ record { code = 2; tag = ascii "TC"; low = pos 0; high = pos 4000 }
+    ∷ record { code = 3; tag = ascii "IC"; low = pos 0; high = pos 4000 }
+    ∷ record { code = 4; tag = ascii "CND"; low = pos 0; high = pos 4000 }
+    ∷ record { code = 5; tag = ascii "TMP"; low = negℤ (pos 200); high = pos 1500 }
+    ∷ record { code = 6; tag = ascii "PH"; low = pos 0; high = pos 1400 }
+    ∷ record { code = 7; tag = ascii "FLW"; low = pos 0; high = pos 4000 }
+    ∷ record { code = 8; tag = ascii "ORP"; low = negℤ (pos 2000); high = pos 2000 }
     ∷ []
 
 abbrev pub houseCount : ℕ

@@ -8,8 +8,6 @@
 --     typesOf-code              the code of a tag in the table of a list is that in the list
 --     typesOf-sound             the table of a list that passes the test is sound
 --     house-sound               document 01's table is
---     house-TOC, house-CND      the tags of codes 1 and 4 in it
---     house-TMP                 code 5 is known in it
 --     known-code                the code that a tag has is known
 --     known-type                a code is known where its type has a code above 0
 --     known-some                a known code is above 0
@@ -180,18 +178,6 @@ typesOf-sound list h =
 pub house-sound : SoundTypes channelTypes
 unfolding soundList houseTypes codeIn knownIn same isLabel labelBytes
 house-sound = typesOf-sound houseTypes refl
-
-pub house-TOC : tagOf channelTypes 1 ≡ 84 ∷ 79 ∷ 67 ∷ []
-unfolding typeOf typeIn houseTypes
-house-TOC = refl
-
-pub house-CND : tagOf channelTypes 4 ≡ 67 ∷ 78 ∷ 68 ∷ []
-unfolding typeOf typeIn houseTypes
-house-CND = refl
-
-pub house-TMP : known channelTypes 5 ≡ true
-unfolding known knownIn houseTypes
-house-TMP = refl
 
 -- ---- what a sound table gives
 

@@ -3,7 +3,7 @@
 --     house-short              document 01's table has such tags
 --     house-tag                so has the type at each place of its list
 --     type-short               and the tag of each code of a table with short tags
---     TagsApart byte types     no tag of the table starts with this byte
+--     TagsApart b types        no tag of the table starts with this byte
 --     house-apart              none of document 01's starts with `N`
 --     tag-within               what holds a tag in three places counts at most three
 --     tag-taken                the first of the three places hold the tag
@@ -11,12 +11,12 @@ use Prim.Native.Nat.{ℕ, zero, suc, _≤_}
 use mathlib.Core.Path.{_≡_, refl, sym, ap, subst, _∙_}
 use mathlib.Core.Bool.{Bool, true, false, not, cond, _&&_}
 use mathlib.Core.List.{List, [], _∷_}
-use native.Mathlib.Omega.{arith}
 use borrow.Author.Tests.{leb-true, not-true}
 use lib.Dec.{eqb, leb}
 use lib.ListN.{length, getD, take}
 use Rattle.integers.specs.Tests.{both}
 use Rattle.lists.specs.Padded.{padded-take}
+use Rattle.text.specs.Ascii.{byte}
 use Rattle.channel.specs.Channel.{ChannelType, noType, Types, typeOf, tagOf, typeIn, typesOf, houseTypes, channelTypes}
 use Rattle.channel.specs.Contracts.{tagPlaces}
 use Rattle.limits.specs.Limits.{tagLimit}
@@ -69,17 +69,16 @@ house-tag at = leb-true (length (getD houseTypes at noType .tag)) tagLimit (tag-
 pub type-short : (types : Types) → ShortTags types → (code : ℕ) → length (tagOf types code) ≤ tagLimit
 type-short types h = h .short
 
-pub record TagsApart (byte : ℕ) (types : Types) : Type 0 where
-  pub apart : (code : ℕ) → eqb (getD (tagOf types code) 0 0) byte ≡ false
+pub record TagsApart (b : ℕ) (types : Types) : Type 0 where
+  pub apart : (code : ℕ) → eqb (getD (tagOf types code) 0 0) b ≡ false
 
 -- the test of one tag
 abbrev isApart : ℕ → List ℕ → Bool
-isApart byte tag = not (eqb (getD tag 0 0) byte)
+isApart b tag = not (eqb (getD tag 0 0) b)
 
--- 78 is `N`
-pub house-apart : TagsApart 78 channelTypes
+pub house-apart : TagsApart (byte "N") channelTypes
 unfolding everyTag houseTypes
-house-apart = record { apart = λ code. not-true (eqb (getD (tagOf channelTypes code) 0 0) 78) (every-tag (isApart 78) refl houseTypes refl code) }
+house-apart = record { apart = λ code. not-true (eqb (getD (tagOf channelTypes code) 0 0) (byte "N")) (every-tag (isApart (byte "N")) refl houseTypes refl code) }
 
 -- ---- a tag in three places
 

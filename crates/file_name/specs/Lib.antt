@@ -1,5 +1,4 @@
--- Names as they are told, in reading order: bytes as text, escaped names; then what the functions promise, and the laws.
-pub mod Ascii
+-- Names as they are told, in reading order: escaped names; then what the functions promise, and the laws.
 pub mod Name
 pub mod Contracts
 pub mod NameLaws

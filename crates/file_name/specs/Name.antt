@@ -1,7 +1,7 @@
 -- A name as it is told.
 --     nameLimit                                    at most so many bytes of it are told
 --     backslash                                    the byte before an escaped one
---     isShown b                                    the byte stands for itself: 33 to 126, except the backslash
+--     isShown b                                    the byte stands for itself: `!` to `~`, 33 to 126, except the backslash
 --     escapedByte b                                the byte as it is told: else a backslash, `x` and two lower-case hex digits
 --     escaped l                                    bytes as they are told, one after the other
 --     escapedStart name                            the first bytes of a name
@@ -13,20 +13,20 @@ use mathlib.Core.List.{List, [], _∷_, _++_}
 use lib.Dec.{leb, eqb}
 use lib.ListN.{length, take}
 use Rattle.io.specs.Digits.{glyph}
-use Rattle.file_name.specs.Ascii.{ascii}
+use Rattle.text.specs.Ascii.{ascii, byte}
 
 abbrev pub nameLimit : ℕ
 nameLimit = 60
 
 abbrev pub backslash : ℕ
-backslash = 92
+backslash = byte "\\"
 
 abbrev pub isShown : ℕ → Bool
-isShown b = leb 33 b && leb b 126 && not (eqb b backslash)
+isShown b = leb (byte "!") b && leb b (byte "~") && not (eqb b backslash)
 
 -- the two digits of a byte are those of its quotient and of its remainder by 16
 abbrev pub escapedByte : ℕ → List ℕ
-escapedByte b = cond (isShown b) (b ∷ []) (backslash ∷ 120 ∷ glyph (b / 16) ∷ glyph (b % 16) ∷ [])
+escapedByte b = cond (isShown b) (b ∷ []) (ascii "\\x" ++ (glyph (b / 16) ∷ glyph (b % 16) ∷ []))
 
 unfoldable pub escaped : List ℕ → List ℕ
 escaped [] = []

@@ -12,19 +12,19 @@ use native.Mathlib.Omega.{arith}
 use lib.ListN.{length, take, length-take}
 use lib.Seq.{take-take, take-length}
 use Rattle.io.specs.Digits.{glyph}
-use Rattle.file_name.specs.Ascii.{ascii}
-use Rattle.file_name.specs.Name.{nameLimit, backslash, isShown, escapedByte, escaped, quotedStart, escapedName}
+use Rattle.text.specs.Ascii.{ascii}
+use Rattle.file_name.specs.Name.{nameLimit, isShown, escapedByte, escaped, quotedStart, escapedName}
 
 module _ (b : ℕ) where
-  by-test : (t : Bool) → isShown b ≡ t → cond t (b ∷ []) (backslash ∷ 120 ∷ glyph (b / 16) ∷ glyph (b % 16) ∷ []) ≡ escapedByte b
-  by-test t e = sym (ap (λ (s : Bool). cond s (b ∷ []) (backslash ∷ 120 ∷ glyph (b / 16) ∷ glyph (b % 16) ∷ [])) e)
+  by-test : (t : Bool) → isShown b ≡ t → cond t (b ∷ []) (ascii "\\x" ++ (glyph (b / 16) ∷ glyph (b % 16) ∷ [])) ≡ escapedByte b
+  by-test t e = sym (ap (λ (s : Bool). cond s (b ∷ []) (ascii "\\x" ++ (glyph (b / 16) ∷ glyph (b % 16) ∷ []))) e)
 
   pub byte-shown : isShown b ≡ true → b ∷ [] ≡ escapedByte b
   byte-shown e = by-test true e
 
   pub byte-hidden : {high low : ℕ} → high ≡ glyph (b / 16) → low ≡ glyph (b % 16) → isShown b ≡ false
-      → backslash ∷ 120 ∷ high ∷ low ∷ [] ≡ escapedByte b
-  byte-hidden h l e = ap₂ (λ (x y : ℕ). backslash ∷ 120 ∷ x ∷ y ∷ []) h l ∙ by-test false e
+      → ascii "\\x" ++ (high ∷ low ∷ []) ≡ escapedByte b
+  byte-hidden h l e = ap₂ (λ (x y : ℕ). ascii "\\x" ++ (x ∷ y ∷ [])) h l ∙ by-test false e
 
 pub escaped-more : (l : List ℕ) (b : ℕ) → escaped (l ++ (b ∷ [])) ≡ escaped l ++ escapedByte b
 unfolding escaped

@@ -22,7 +22,10 @@ pub const START_ROOM: usize = 4 * NAME_MOST;
 
 pub const NAME_ROOM: usize = START_ROOM + 5;
 
-const BACKSLASH: u8 = 92;
+const BACKSLASH: u8 = b'\\';
+
+// what is added to a hex digit from ten on
+const BEFORE_HEX_LETTERS: u8 = b'a' - 10;
 
 const QUOTE: [u8; 1] = *b"'";
 
@@ -32,10 +35,10 @@ const DOTS: [u8; 3] = *b"...";
 fn is_shown(byte: u8) -> bool
     ensures { λ r. ⌜ r ≡ isShown byte ⌝ }
 {
-    if byte < 33 {
+    if byte < b'!' {
         return false;
     }
-    if byte > 126 {
+    if byte > b'~' {
         return false;
     }
     byte != BACKSLASH
@@ -45,7 +48,11 @@ fn hex_digit(digit: u8) -> u8
     requires { ⌜ digit < 16 ⌝ }
     ensures { λ r. ⌜ r ≡ glyph digit ⌝ }
 {
-    if digit < 10 { 48 + digit } else { 87 + digit }
+    if digit < 10 {
+        b'0' + digit
+    } else {
+        BEFORE_HEX_LETTERS + digit
+    }
 }
 
 fn put_escaped_byte(out: &mut [u8], at: usize, byte: u8) -> usize

@@ -25,21 +25,21 @@ use lib.ListN.{length, getD, drop, drop-of-length-le}
 use lib.Seq.{drop-cons}
 use Rattle.text.specs.Parts.{free}
 use Rattle.integers.specs.Tests.{both, clash, neither}
-use Rattle.number.specs.Number.{hyphen, isDigit}
-use Rattle.label.specs.Label.{isLetter, isLabelByte, labelBytes, isLabel}
+use Rattle.number.specs.Number.{hyphen, digitZero, digitNine, isDigit}
+use Rattle.label.specs.Label.{letterA, letterZ, isLetter, isLabelByte, labelBytes, isLabel}
 use Rattle.limits.specs.Limits.{labelLimit}
-use Rattle.label.specs.Key.{labelByteCount, keyBase, labelDigit, keyAfter, keyFrom, labelKey}
+use Rattle.label.specs.Key.{labelByteCount, keyBase, beforeLetters, beforeDigits, labelDigit, keyAfter, keyFrom, labelKey}
 
 -- ---- digits
 
 pub digit-at : (b : ℕ) {letter digit dash : Bool} → isLetter b ≡ letter → isDigit b ≡ digit → eqb b hyphen ≡ dash
-    → labelDigit b ≡ cond letter (b - 64) (cond digit (b - 21) (cond dash labelByteCount 0))
+    → labelDigit b ≡ cond letter (b - beforeLetters) (cond digit (b - beforeDigits) (cond dash labelByteCount 0))
 digit-at b p q r =
-    ap₂ (λ x y. cond x (b - 64) y) p (ap₂ (λ x y. cond x (b - 21) y) q (ap (λ x. cond x labelByteCount 0) r))
+    ap₂ (λ x y. cond x (b - beforeLetters) y) p (ap₂ (λ x y. cond x (b - beforeDigits) y) q (ap (λ x. cond x labelByteCount 0) r))
 
 -- the byte of a digit
 byteOf : ℕ → ℕ
-byteOf d = cond (leb d 26) (d + 64) (cond (leb d 36) (d + 21) 45)
+byteOf d = cond (leb d 26) (d + beforeLetters) (cond (leb d 36) (d + beforeDigits) hyphen)
 
 -- d is the digit of the byte b, which stands in labels or does not
 record Read (b d : ℕ) (labelled : Bool) : Type 0 where
@@ -52,29 +52,29 @@ unfolding byteOf
 digit-read b = go (isLetter b) (isDigit b) (eqb b hyphen) refl refl refl
   where
     go : (x y z : Bool) → isLetter b ≡ x → isDigit b ≡ y → eqb b hyphen ≡ z
-        → Read b (cond x (b - 64) (cond y (b - 21) (cond z labelByteCount 0))) (x || (y || z))
+        → Read b (cond x (b - beforeLetters) (cond y (b - beforeDigits) (cond z labelByteCount 0))) (x || (y || z))
     go true y z p q r =
-        let t = both (leb 65 b) (leb b 90) p in
-        let low = leb-true 65 b (t .0) in
-        let high = leb-true b 90 (t .1) in
+        let t = both (leb letterA b) (leb b letterZ) p in
+        let low = leb-true letterA b (t .0) in
+        let high = leb-true b letterZ (t .1) in
         record {
-          positive = le-leb 1 (b - 64) (omega arith);
+          positive = le-leb 1 (b - beforeLetters) (omega arith);
           most = omega arith;
-          back = λ h. ap (λ t. cond t (b - 64 + 64) (cond (leb (b - 64) 36) (b - 64 + 21) 45)) (le-leb (b - 64) 26 (omega arith)) ∙ omega arith;
+          back = λ h. ap (λ t. cond t (b - beforeLetters + beforeLetters) (cond (leb (b - beforeLetters) 36) (b - beforeLetters + beforeDigits) hyphen)) (le-leb (b - beforeLetters) 26 (omega arith)) ∙ omega arith;
         }
     go false true z p q r =
-        let t = both (leb 48 b) (leb b 57) q in
-        let low = leb-true 48 b (t .0) in
-        let high = leb-true b 57 (t .1) in
+        let t = both (leb digitZero b) (leb b digitNine) q in
+        let low = leb-true digitZero b (t .0) in
+        let high = leb-true b digitNine (t .1) in
         record {
-          positive = le-leb 1 (b - 21) (omega arith);
+          positive = le-leb 1 (b - beforeDigits) (omega arith);
           most = omega arith;
           back =
               λ h.
-              ap₂ (λ t u. cond t (b - 21 + 64) (cond u (b - 21 + 21) 45)) (lt-leb (b - 21) 26 (omega arith)) (le-leb (b - 21) 36 (omega arith))
+              ap₂ (λ t u. cond t (b - beforeDigits + beforeLetters) (cond u (b - beforeDigits + beforeDigits) hyphen)) (lt-leb (b - beforeDigits) 26 (omega arith)) (le-leb (b - beforeDigits) 36 (omega arith))
               ∙ omega arith;
         }
-    go false false true p q r = record { positive = refl; most = omega arith; back = λ h. sym (eqb-true b 45 r) }
+    go false false true p q r = record { positive = refl; most = omega arith; back = λ h. sym (eqb-true b hyphen r) }
     go false false false p q r = record { positive = refl; most = omega arith; back = λ h. clash h refl }
 
 pub digit-most : (b : ℕ) → labelDigit b ≤ labelByteCount

@@ -15,6 +15,11 @@ const LABEL_BYTE_COUNT: u64 = 26 + 10 + 1;
 
 const KEY_BASE: u64 = LABEL_BYTE_COUNT + 1;
 
+// what is taken from a letter and from a digit: `A` is 1, `0` is 27
+const BEFORE_LETTERS: u8 = b'A' - 1;
+
+const BEFORE_DIGITS: u8 = b'0' - 27;
+
 // Whether a field is short enough for a label.
 fn is_short(field: &[u8]) -> bool
     ensures { λ r. ⌜ r ≡ leb (length (now (field .entry))) labelLimit ⌝ }
@@ -27,9 +32,9 @@ fn label_digit(byte: u8) -> u64
     ensures { λ r. ⌜ r ≡ labelDigit byte ⌝ }
 {
     match byte {
-        65..=90 => (byte - 64) as u64,
-        48..=57 => (byte - 21) as u64,
-        45 => LABEL_BYTE_COUNT,
+        b'A'..=b'Z' => (byte - BEFORE_LETTERS) as u64,
+        b'0'..=b'9' => (byte - BEFORE_DIGITS) as u64,
+        b'-' => LABEL_BYTE_COUNT,
         _ => 0,
     }
 }

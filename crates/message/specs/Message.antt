@@ -10,8 +10,8 @@
 use Prim.Native.Nat.{ℕ}
 use mathlib.Core.List.{List, _++_}
 use lib.IntN.{pos}
+use Rattle.text.specs.Ascii.{ascii}
 use Rattle.number.specs.Number.{print}
-use Rattle.file_name.specs.Ascii.{ascii}
 use Rattle.file_name.specs.Name.{escapedStart, escapedName}
 
 abbrev pub programPart : List ℕ → List ℕ

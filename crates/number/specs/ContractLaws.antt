@@ -15,7 +15,7 @@ use native.Mathlib.Omega.{arith}
 use lib.IntN.{pos}
 use lib.ListN.{length, getD, drop, drop-of-length-le}
 use lib.Seq.{drop-cons}
-use Rattle.number.specs.Number.{hyphen, isDigit, digitsFrom, magnitudeOf, negated, plain}
+use Rattle.number.specs.Number.{hyphen, digitZero, isDigit, digitsFrom, magnitudeOf, negated, plain}
 use Rattle.number.specs.NumberLaws.{digit-step, digit-none, plain-signed, plain-unsigned}
 use Rattle.number.specs.Contracts.{magnitudeLimit, saturated, grown, magnitudeRead, plainRead}
 use Rattle.number.specs.declared.Magnitude.{Magnitude}
@@ -34,16 +34,16 @@ saturated-grown n d = omega arith
 pub digits-saturated : (l : List ℕ) (n : ℕ) → magnitudeRead (digitsFrom l n) ≡ magnitudeRead (digitsFrom l (saturated n))
 unfolding digitsFrom
 digits-saturated [] n = let e : saturated n ≡ saturated (saturated n) = omega arith in ap Saturated e
-digits-saturated (b ∷ l) n = go (isDigit b) refl (digits-saturated l (n * 10 + (b - 48))) (digits-saturated l (saturated n * 10 + (b - 48)))
+digits-saturated (b ∷ l) n = go (isDigit b) refl (digits-saturated l (n * 10 + (b - digitZero))) (digits-saturated l (saturated n * 10 + (b - digitZero)))
   where
     go : (t : Bool) → isDigit b ≡ t →
-        magnitudeRead (digitsFrom l (n * 10 + (b - 48))) ≡ magnitudeRead (digitsFrom l (saturated (n * 10 + (b - 48)))) →
-        magnitudeRead (digitsFrom l (saturated n * 10 + (b - 48))) ≡ magnitudeRead (digitsFrom l (saturated (saturated n * 10 + (b - 48)))) →
+        magnitudeRead (digitsFrom l (n * 10 + (b - digitZero))) ≡ magnitudeRead (digitsFrom l (saturated (n * 10 + (b - digitZero)))) →
+        magnitudeRead (digitsFrom l (saturated n * 10 + (b - digitZero))) ≡ magnitudeRead (digitsFrom l (saturated (saturated n * 10 + (b - digitZero)))) →
         magnitudeRead (digitsFrom (b ∷ l) n) ≡ magnitudeRead (digitsFrom (b ∷ l) (saturated n))
     go true e whole kept =
         ap magnitudeRead (digit-step b l n e)
         ∙ whole
-        ∙ ap (λ (k : ℕ). magnitudeRead (digitsFrom l k)) (sym (saturated-grown n (b - 48)))
+        ∙ ap (λ (k : ℕ). magnitudeRead (digitsFrom l k)) (sym (saturated-grown n (b - digitZero)))
         ∙ sym kept
         ∙ ap magnitudeRead (sym (digit-step b l (saturated n) e))
     go false e whole kept = ap magnitudeRead (digit-none b l n e ∙ sym (digit-none b l (saturated n) e))
@@ -63,7 +63,7 @@ module _ (s : List ℕ) (i n : ℕ) where
   digits-more r h e is =
       ap (λ (l : List ℕ). magnitudeRead (digitsFrom l n)) (next h)
       ∙ ap magnitudeRead (digit-step (getD s i 0) (drop (i + 1) s) n e)
-      ∙ digits-saturated (drop (i + 1) s) (n * 10 + (getD s i 0 - 48))
+      ∙ digits-saturated (drop (i + 1) s) (n * 10 + (getD s i 0 - digitZero))
       ∙ ap (λ (k : ℕ). magnitudeRead (digitsFrom (drop (i + 1) s) k)) (sym is)
 
   pub digits-other : i < length s → isDigit (getD s i 0) ≡ false → magnitudeRead (digitsFrom (drop i s) n) ≡ Malformed

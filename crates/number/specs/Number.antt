@@ -1,6 +1,7 @@
 -- Document 01, "Texts": a plain number is a whole decimal number without leading zeros, `-` before a negative one, never `-0`.
---     hyphen, digitZero     the bytes `-` and `0`
---     isDigit b             the byte is 0 to 9
+--     hyphen                the byte `-`
+--     digitZero, digitNine  the bytes of the digits 0 and 9
+--     isDigit b             the byte is that of a digit
 --     digitsFrom l n        the number that the digits l make after those of n
 --     magnitudeOf l         the number that the digits l make, without a leading zero
 --     negated o             the number below 0 with this magnitude, if there is one
@@ -14,16 +15,19 @@ use mathlib.Core.List.{List, [], _∷_, _++_}
 use mathlib.Core.Option.{Option, none, some, Option·map}
 use lib.Dec.{eqb, leb}
 use lib.IntN.{ℤ, pos, negsuc}
+use Rattle.text.specs.Ascii.{byte}
 
 abbrev pub hyphen : ℕ
-hyphen = 45
+hyphen = byte "-"
 
--- the byte of the digit 0
 abbrev pub digitZero : ℕ
-digitZero = 48
+digitZero = byte "0"
+
+abbrev pub digitNine : ℕ
+digitNine = byte "9"
 
 abbrev pub isDigit : ℕ → Bool
-isDigit b = leb digitZero b && leb b 57
+isDigit b = leb digitZero b && leb b digitNine
 
 unfoldable pub digitsFrom : List ℕ → ℕ → Option ℕ
 digitsFrom [] n = some n

@@ -1,6 +1,6 @@
 -- The two laws of plain numbers, `plain-print` and `print-plain`, by which each number has exactly one written form; and what leads to
 -- them.
---     range-digit, below-digit, above-digit      a byte from 48 to 57 is a digit, and no other
+--     range-digit, below-digit, above-digit      a byte from that of 0 to that of 9 is a digit, and no other
 --     digit-step, digit-none                     the first byte of a field of digits is a digit, or the field is no number
 --     digit-read                                 the first byte of a field that is a number (`Digit`)
 --     digits-past                                digits after other digits
@@ -37,29 +37,30 @@ use lib.Seq.{append-snoc}
 use lib.Signed.{ltZ}
 use Rattle.integers.specs.Absolute.{abs-nonneg}
 use Rattle.integers.specs.Tests.{clash, unlike, both, range-in, range-under, range-over}
+use Rattle.text.specs.Ascii.{byte}
 use Rattle.text.specs.Parts.{free}
-use Rattle.number.specs.Number.{hyphen, isDigit, digitsFrom, magnitudeOf, negated, plain, decimal, printMagnitude, print}
+use Rattle.number.specs.Number.{hyphen, digitZero, digitNine, isDigit, digitsFrom, magnitudeOf, negated, plain, decimal, printMagnitude, print}
 
 -- ---- digits
 
-pub range-digit : (b : ℕ) → 48 ≤ b → b ≤ 57 → isDigit b ≡ true
-range-digit b h k = range-in 48 57 b h k
+pub range-digit : (b : ℕ) → digitZero ≤ b → b ≤ digitNine → isDigit b ≡ true
+range-digit b h k = range-in digitZero digitNine b h k
 
-pub below-digit : (b : ℕ) → b < 48 → isDigit b ≡ false
-below-digit b h = range-under 48 57 b h
+pub below-digit : (b : ℕ) → b < digitZero → isDigit b ≡ false
+below-digit b h = range-under digitZero digitNine b h
 
-pub above-digit : (b : ℕ) → 57 < b → isDigit b ≡ false
-above-digit b h = range-over 48 57 b h
+pub above-digit : (b : ℕ) → digitNine < b → isDigit b ≡ false
+above-digit b h = range-over digitZero digitNine b h
 
 -- the byte b is a digit, and with it after those of n the digits l make m
 pub record Digit (b : ℕ) (l : List ℕ) (n m : ℕ) : Type 0 where
   pub is : isDigit b ≡ true
-  pub low : 48 ≤ b
-  pub high : b ≤ 57
-  pub after : digitsFrom l (n * 10 + (b - 48)) ≡ some m
+  pub low : digitZero ≤ b
+  pub high : b ≤ digitNine
+  pub after : digitsFrom l (n * 10 + (b - digitZero)) ≡ some m
 
 module _ (b : ℕ) (l : List ℕ) (n : ℕ) where
-  pub digit-step : isDigit b ≡ true → digitsFrom (b ∷ l) n ≡ digitsFrom l (n * 10 + (b - 48))
+  pub digit-step : isDigit b ≡ true → digitsFrom (b ∷ l) n ≡ digitsFrom l (n * 10 + (b - digitZero))
   unfolding digitsFrom
   digit-step h = rw h
 
@@ -72,8 +73,8 @@ module _ (b : ℕ) (l : List ℕ) (n : ℕ) where
     where
       go : (t : Bool) → isDigit b ≡ t → Digit b l n m
       go true e =
-          let tests : (leb 48 b ≡ true) × (leb b 57 ≡ true) = both (leb 48 b) (leb b 57) e in
-          record { is = e; low = leb-true 48 b (tests .0); high = leb-true b 57 (tests .1); after = sym (digit-step e) ∙ h }
+          let tests : (leb digitZero b ≡ true) × (leb b digitNine ≡ true) = both (leb digitZero b) (leb b digitNine) e in
+          record { is = e; low = leb-true digitZero b (tests .0); high = leb-true b digitNine (tests .1); after = sym (digit-step e) ∙ h }
       go false e = unlike (sym (digit-none e) ∙ h)
 
 pub digits-past : (l r : List ℕ) (n m : ℕ) → digitsFrom l n ≡ some m → digitsFrom (l ++ r) n ≡ digitsFrom r m
@@ -81,12 +82,12 @@ unfolding digitsFrom
 digits-past [] r n m h = let e : n ≡ m = cc in ap (digitsFrom r) e
 digits-past (b ∷ l) r n m h =
     let read : Digit b l n m = digit-read b l n m h in
-    digit-step b (l ++ r) n (read .is) ∙ digits-past l r (n * 10 + (b - 48)) m (read .after)
+    digit-step b (l ++ r) n (read .is) ∙ digits-past l r (n * 10 + (b - digitZero)) m (read .after)
 
 pub digits-least : (l : List ℕ) (n m : ℕ) → digitsFrom l n ≡ some m → n ≤ m
 unfolding digitsFrom
 digits-least [] n m h = let e : n ≡ m = cc in omega arith
-digits-least (b ∷ l) n m h = omega (arith, digits-least l (n * 10 + (b - 48)) m (digit-read b l n m h .after))
+digits-least (b ∷ l) n m h = omega (arith, digits-least l (n * 10 + (b - digitZero)) m (digit-read b l n m h .after))
 
 pub digits-free : (c : ℕ) → isDigit c ≡ false → (l : List ℕ) (n m : ℕ) → digitsFrom l n ≡ some m → free c l ≡ true
 unfolding free
@@ -94,7 +95,7 @@ digits-free c other [] n m h = refl
 digits-free c other (b ∷ l) n m h =
     let read : Digit b l n m = digit-read b l n m h in
     let apart : eqb b c ≡ false = ne-eqb b c (λ e. clash (read .is) (ap isDigit e ∙ other)) in
-    rw apart (digits-free c other l (n * 10 + (b - 48)) m (read .after))
+    rw apart (digits-free c other l (n * 10 + (b - digitZero)) m (read .after))
 
 -- ---- the digits of a number
 
@@ -111,17 +112,17 @@ decimal-fuel zero g n h k = sym (decimal-none g n (omega arith))
 decimal-fuel (suc f) zero n h k = decimal-none (suc f) n (omega arith)
 decimal-fuel (suc f) (suc g) zero h k = refl
 decimal-fuel (suc f) (suc g) (suc i) h k =
-    ap (λ (l : List ℕ). l ++ ((48 + suc i % 10) ∷ [])) (decimal-fuel f g (suc i / 10) (omega arith) (omega arith))
+    ap (λ (l : List ℕ). l ++ ((digitZero + suc i % 10) ∷ [])) (decimal-fuel f g (suc i / 10) (omega arith) (omega arith))
 
 pub decimal-digits : (f n : ℕ) → n ≤ f → digitsFrom (decimal f n) 0 ≡ some n
 unfolding decimal digitsFrom
 decimal-digits zero n h = let e : 0 ≡ n = omega arith in ap some e
 decimal-digits (suc f) zero h = refl
 decimal-digits (suc f) (suc i) h =
-    let last : isDigit (48 + suc i % 10) ≡ true = range-digit (48 + suc i % 10) (omega arith) (omega arith) in
-    let whole : suc i / 10 * 10 + (48 + suc i % 10 - 48) ≡ suc i = omega arith in
-    digits-past (decimal f (suc i / 10)) ((48 + suc i % 10) ∷ []) 0 (suc i / 10) (decimal-digits f (suc i / 10) (omega arith))
-    ∙ digit-step (48 + suc i % 10) [] (suc i / 10) last
+    let last : isDigit (digitZero + suc i % 10) ≡ true = range-digit (digitZero + suc i % 10) (omega arith) (omega arith) in
+    let whole : suc i / 10 * 10 + (digitZero + suc i % 10 - digitZero) ≡ suc i = omega arith in
+    digits-past (decimal f (suc i / 10)) ((digitZero + suc i % 10) ∷ []) 0 (suc i / 10) (decimal-digits f (suc i / 10) (omega arith))
+    ∙ digit-step (digitZero + suc i % 10) [] (suc i / 10) last
     ∙ ap some whole
 
 -- a list that starts with a digit, `lowest` or above
@@ -130,49 +131,49 @@ pub record Led (lowest : ℕ) (l : List ℕ) : Type 0 where
   pub rest : List ℕ
   pub is : l ≡ first ∷ rest
   pub low : lowest ≤ first
-  pub high : first ≤ 57
+  pub high : first ≤ digitNine
 
-led-append : (l r : List ℕ) → Led 49 l → Led 49 (l ++ r)
+led-append : (l r : List ℕ) → Led (byte "1") l → Led (byte "1") (l ++ r)
 led-append l r led =
     record { first = led .first; rest = led .rest ++ r; is = ap (λ (k : List ℕ). k ++ r) (led .is); low = led .low; high = led .high }
 
-pub decimal-first : (f n : ℕ) → n ≤ f → 0 < n → Led 49 (decimal f n)
+pub decimal-first : (f n : ℕ) → n ≤ f → 0 < n → Led (byte "1") (decimal f n)
 unfolding decimal
 decimal-first zero n h p = absurd (omega arith)
 decimal-first (suc f) zero h p = absurd (omega arith)
 decimal-first (suc f) (suc i) h p = go (suc i / 10) refl (decimal-first f (suc i / 10) (omega arith))
   where
-    go : (q : ℕ) → suc i / 10 ≡ q → (0 < suc i / 10 → Led 49 (decimal f (suc i / 10))) → Led 49 (decimal f (suc i / 10) ++ ((48 + suc i % 10) ∷ []))
+    go : (q : ℕ) → suc i / 10 ≡ q → (0 < suc i / 10 → Led (byte "1") (decimal f (suc i / 10))) → Led (byte "1") (decimal f (suc i / 10) ++ ((digitZero + suc i % 10) ∷ []))
     go zero e led =
         record {
-          first = 48 + suc i % 10;
+          first = digitZero + suc i % 10;
           rest = [];
-          is = ap (λ (l : List ℕ). l ++ ((48 + suc i % 10) ∷ [])) (decimal-none f (suc i / 10) e);
+          is = ap (λ (l : List ℕ). l ++ ((digitZero + suc i % 10) ∷ [])) (decimal-none f (suc i / 10) e);
           low = omega arith;
           high = omega arith;
         }
-    go (suc q) e led = led-append (decimal f (suc i / 10)) ((48 + suc i % 10) ∷ []) (led (omega arith))
+    go (suc q) e led = led-append (decimal f (suc i / 10)) ((digitZero + suc i % 10) ∷ []) (led (omega arith))
 
 module _ (n d : ℕ) (h : d < 10) where
-  decimal-of : (t : ℕ) → n * 10 + d ≡ t → 0 < t → decimal t t ≡ decimal n n ++ ((48 + d) ∷ [])
+  decimal-of : (t : ℕ) → n * 10 + d ≡ t → 0 < t → decimal t t ≡ decimal n n ++ ((digitZero + d) ∷ [])
   unfolding decimal
   decimal-of zero e p = absurd (omega arith)
   decimal-of (suc i) e p =
       let quotient : suc i / 10 ≡ n = omega arith in
       let remainder : suc i % 10 ≡ d = omega arith in
-      rw (quotient, remainder) (ap (λ (l : List ℕ). l ++ ((48 + d) ∷ [])) (decimal-fuel i n n (omega arith) (omega arith)))
+      rw (quotient, remainder) (ap (λ (l : List ℕ). l ++ ((digitZero + d) ∷ [])) (decimal-fuel i n n (omega arith) (omega arith)))
 
-  pub decimal-more : 0 < n * 10 + d → decimal (n * 10 + d) (n * 10 + d) ≡ decimal n n ++ ((48 + d) ∷ [])
+  pub decimal-more : 0 < n * 10 + d → decimal (n * 10 + d) (n * 10 + d) ≡ decimal n n ++ ((digitZero + d) ∷ [])
   decimal-more p = decimal-of (n * 10 + d) refl p
 
 -- one digit more, where the number with it is not 0 and the digits after it are given
-decimal-step : (b : ℕ) (l : List ℕ) (n m : ℕ) → 48 ≤ b → b ≤ 57 → 0 < n * 10 + (b - 48) →
-    decimal m m ≡ decimal (n * 10 + (b - 48)) (n * 10 + (b - 48)) ++ l → decimal m m ≡ decimal n n ++ (b ∷ l)
+decimal-step : (b : ℕ) (l : List ℕ) (n m : ℕ) → digitZero ≤ b → b ≤ digitNine → 0 < n * 10 + (b - digitZero) →
+    decimal m m ≡ decimal (n * 10 + (b - digitZero)) (n * 10 + (b - digitZero)) ++ l → decimal m m ≡ decimal n n ++ (b ∷ l)
 decimal-step b l n m low high p rest =
-    let same : 48 + (b - 48) ≡ b = omega arith in
+    let same : digitZero + (b - digitZero) ≡ b = omega arith in
     rest
-    ∙ ap (λ (k : List ℕ). k ++ l) (decimal-more n (b - 48) (omega arith) p)
-    ∙ append-snoc (decimal n n) (48 + (b - 48)) l
+    ∙ ap (λ (k : List ℕ). k ++ l) (decimal-more n (b - digitZero) (omega arith) p)
+    ∙ append-snoc (decimal n n) (digitZero + (b - digitZero)) l
     ∙ ap (λ (k : ℕ). decimal n n ++ (k ∷ l)) same
 
 pub decimal-past : (l : List ℕ) (n m : ℕ) → 0 < n → digitsFrom l n ≡ some m → decimal m m ≡ decimal n n ++ l
@@ -180,7 +181,7 @@ unfolding digitsFrom
 decimal-past [] n m p h = let e : m ≡ n = cc in ap (λ (k : ℕ). decimal k k) e ∙ sym (append-nil (decimal n n))
 decimal-past (b ∷ l) n m p h =
     let read : Digit b l n m = digit-read b l n m h in
-    decimal-step b l n m (read .low) (read .high) (omega arith) (decimal-past l (n * 10 + (b - 48)) m (omega arith) (read .after))
+    decimal-step b l n m (read .low) (read .high) (omega arith) (decimal-past l (n * 10 + (b - digitZero)) m (omega arith) (read .after))
 
 -- ---- numbers without a sign
 
@@ -189,11 +190,11 @@ unfolding magnitudeOf
 magnitude-empty [] h = refl
 magnitude-empty (b ∷ l) h = absurd (omega arith)
 
-pub magnitude-zero : (l : List ℕ) → 1 < length l → getD l 0 0 ≡ 48 → magnitudeOf l ≡ none
+pub magnitude-zero : (l : List ℕ) → 1 < length l → getD l 0 0 ≡ digitZero → magnitudeOf l ≡ none
 unfolding magnitudeOf
 magnitude-zero [] h k = refl
 magnitude-zero (b ∷ []) h k = absurd (omega arith)
-magnitude-zero (b ∷ c ∷ l) h k = rw (eq-eqb b 48 k)
+magnitude-zero (b ∷ c ∷ l) h k = rw (eq-eqb b digitZero k)
 
 pub magnitude-one : (l : List ℕ) → length l ≡ 1 → magnitudeOf l ≡ digitsFrom l 0
 unfolding magnitudeOf
@@ -201,18 +202,18 @@ magnitude-one [] h = absurd (omega arith)
 magnitude-one (b ∷ []) h = refl
 magnitude-one (b ∷ c ∷ l) h = absurd (omega arith)
 
-pub magnitude-first : (l : List ℕ) → 0 < length l → (getD l 0 0 ≡ 48 → ⊥) → magnitudeOf l ≡ digitsFrom l 0
+pub magnitude-first : (l : List ℕ) → 0 < length l → (getD l 0 0 ≡ digitZero → ⊥) → magnitudeOf l ≡ digitsFrom l 0
 unfolding magnitudeOf
 magnitude-first [] h k = absurd (omega arith)
 magnitude-first (b ∷ []) h k = refl
-magnitude-first (b ∷ c ∷ l) h k = rw (ne-eqb b 48 k)
+magnitude-first (b ∷ c ∷ l) h k = rw (ne-eqb b digitZero k)
 
 pub print-digits : (n : ℕ) → digitsFrom (printMagnitude n) 0 ≡ some n
 unfolding printMagnitude digitsFrom
 print-digits zero = refl
 print-digits (suc k) = decimal-digits (suc k) (suc k) (omega arith)
 
-magnitude-led : (l : List ℕ) → Led 49 l → magnitudeOf l ≡ digitsFrom l 0
+magnitude-led : (l : List ℕ) → Led (byte "1") l → magnitudeOf l ≡ digitsFrom l 0
 magnitude-led l led = rw (led .is) (magnitude-first (led .first ∷ led .rest) (omega arith) (λ e. omega arith))
 
 pub magnitude-print : (n : ℕ) → magnitudeOf (printMagnitude n) ≡ some n
@@ -227,17 +228,17 @@ print-decimal zero p = absurd (omega arith)
 print-decimal (suc k) p = refl
 
 -- a number by its digits, the first of which is not 0
-print-nonzero : (b : ℕ) (l : List ℕ) (n : ℕ) → (b ≡ 48 → ⊥) → digitsFrom (b ∷ l) 0 ≡ some n → printMagnitude n ≡ b ∷ l
+print-nonzero : (b : ℕ) (l : List ℕ) (n : ℕ) → (b ≡ digitZero → ⊥) → digitsFrom (b ∷ l) 0 ≡ some n → printMagnitude n ≡ b ∷ l
 unfolding decimal
 print-nonzero b l n k h =
     let read : Digit b l 0 n = digit-read b l 0 n h in
-    let low : 48 ≤ b = read .low in
-    let p : 0 < 0 * 10 + (b - 48) = omega (arith, k) in
-    print-decimal n (omega (arith, digits-least l (0 * 10 + (b - 48)) n (read .after)))
-    ∙ decimal-step b l 0 n low (read .high) p (decimal-past l (0 * 10 + (b - 48)) n p (read .after))
+    let low : digitZero ≤ b = read .low in
+    let p : 0 < 0 * 10 + (b - digitZero) = omega (arith, k) in
+    print-decimal n (omega (arith, digits-least l (0 * 10 + (b - digitZero)) n (read .after)))
+    ∙ decimal-step b l 0 n low (read .high) p (decimal-past l (0 * 10 + (b - digitZero)) n p (read .after))
 
 -- a number whose first digit is 0
-print-zero : (l : List ℕ) (n : ℕ) → magnitudeOf (48 ∷ l) ≡ some n → printMagnitude n ≡ 48 ∷ l
+print-zero : (l : List ℕ) (n : ℕ) → magnitudeOf (digitZero ∷ l) ≡ some n → printMagnitude n ≡ digitZero ∷ l
 unfolding magnitudeOf digitsFrom printMagnitude
 print-zero [] n h = let e : n ≡ 0 = cc in ap printMagnitude e
 print-zero (c ∷ l) n h = unlike h
@@ -245,12 +246,12 @@ print-zero (c ∷ l) n h = unlike h
 pub print-magnitude : (l : List ℕ) (n : ℕ) → magnitudeOf l ≡ some n → printMagnitude n ≡ l
 unfolding magnitudeOf
 print-magnitude [] n h = unlike h
-print-magnitude (b ∷ l) n h = go (eqb b 48) refl
+print-magnitude (b ∷ l) n h = go (eqb b digitZero) refl
   where
-    go : (t : Bool) → eqb b 48 ≡ t → printMagnitude n ≡ b ∷ l
-    go true e = subst (λ (x : ℕ). magnitudeOf (x ∷ l) ≡ some n → printMagnitude n ≡ x ∷ l) (sym (eqb-true b 48 e)) (print-zero l n) h
+    go : (t : Bool) → eqb b digitZero ≡ t → printMagnitude n ≡ b ∷ l
+    go true e = subst (λ (x : ℕ). magnitudeOf (x ∷ l) ≡ some n → printMagnitude n ≡ x ∷ l) (sym (eqb-true b digitZero e)) (print-zero l n) h
     go false e =
-        let apart : b ≡ 48 → ⊥ = eqb-false b 48 e in
+        let apart : b ≡ digitZero → ⊥ = eqb-false b digitZero e in
         print-nonzero b l n apart (sym (magnitude-first (b ∷ l) (omega arith) apart) ∙ h)
 
 -- ---- plain numbers
@@ -263,19 +264,19 @@ plain-empty (b ∷ l) h = absurd (omega arith)
 pub plain-signed : (l : List ℕ) → 0 < length l → getD l 0 0 ≡ hyphen → plain l ≡ negated (magnitudeOf (drop 1 l))
 unfolding plain
 plain-signed [] h k = absurd (omega arith)
-plain-signed (b ∷ l) h k = rw (eq-eqb b 45 k)
+plain-signed (b ∷ l) h k = rw (eq-eqb b hyphen k)
 
 pub plain-unsigned : (l : List ℕ) → 0 < length l → (getD l 0 0 ≡ hyphen → ⊥) → plain l ≡ Option·map pos (magnitudeOf l)
 unfolding plain
 plain-unsigned [] h k = absurd (omega arith)
-plain-unsigned (b ∷ l) h k = rw (ne-eqb b 45 k)
+plain-unsigned (b ∷ l) h k = rw (ne-eqb b hyphen k)
 
-led-lower : (l : List ℕ) → Led 49 l → Led 48 l
+led-lower : (l : List ℕ) → Led (byte "1") l → Led digitZero l
 led-lower l led = record { first = led .first; rest = led .rest; is = led .is; low = omega arith; high = led .high }
 
-pub print-led : (n : ℕ) → Led 48 (printMagnitude n)
+pub print-led : (n : ℕ) → Led digitZero (printMagnitude n)
 unfolding printMagnitude
-print-led zero = record { first = 48; rest = []; is = refl; low = omega arith; high = omega arith }
+print-led zero = record { first = digitZero; rest = []; is = refl; low = omega arith; high = omega arith }
 print-led (suc k) = led-lower (decimal (suc k) (suc k)) (decimal-first (suc k) (suc k) (omega arith) (omega arith))
 
 pub print-natural : (z : ℤ) → ltZ z (pos 0) ≡ false → print z ≡ printMagnitude (natAbs z)
@@ -287,7 +288,7 @@ unfolding print
 print-negative (pos n) h = clash h (le-ltb n 0 zero-le)
 print-negative (negsuc k) h = refl
 
-plain-led : (l : List ℕ) → Led 48 l → plain l ≡ Option·map pos (magnitudeOf l)
+plain-led : (l : List ℕ) → Led digitZero l → plain l ≡ Option·map pos (magnitudeOf l)
 plain-led l led = rw (led .is) (plain-unsigned (led .first ∷ led .rest) (omega arith) (λ e. omega arith))
 
 pub plain-print : (z : ℤ) → plain (print z) ≡ some z
@@ -330,7 +331,7 @@ print-free c other apart (negsuc k) =
 pub print-first : (z : ℤ) → (b : ℕ) × (l : List ℕ) × (print z ≡ b ∷ l) × ((isDigit b ≡ true) ⊎ (b ≡ hyphen))
 unfolding print
 print-first (pos n) =
-    let led : Led 48 (printMagnitude n) = print-led n in
+    let led : Led digitZero (printMagnitude n) = print-led n in
     (led .first, led .rest, led .is, inl (range-digit (led .first) (led .low) (led .high)))
 print-first (negsuc k) = (hyphen, printMagnitude (suc k), refl, inr refl)
 

@@ -2,7 +2,7 @@
 // and out of every range, and one of at most 19 digits is told from a longer one.
 ghost use mathlib.Core.Path.{_≡_};
 ghost use Prim.Native.Nat.{_≤_};
-ghost use Rattle.number.specs.Number.{digitsFrom, magnitudeOf, plain};
+ghost use Rattle.number.specs.Number.{digitZero, digitNine, digitsFrom, magnitudeOf, plain};
 ghost use Rattle.number.specs.Contracts.{magnitudeLimit, grown, magnitudeRead, plainRead};
 
 // 10^19: the least number of more than 19 digits
@@ -11,11 +11,11 @@ pub const MAGNITUDE_MOST: u64 = 10_000_000_000_000_000_000;
 // below it, one more digit stays below that
 const GROWS_BELOW: u64 = MAGNITUDE_MOST / 10;
 
-const ZERO: u8 = 48;
+const ZERO: u8 = b'0';
 
-const NINE: u8 = 57;
+const NINE: u8 = b'9';
 
-const HYPHEN: u8 = 45;
+const HYPHEN: u8 = b'-';
 
 // What a field of digits holds.
 pub enum Magnitude {
@@ -31,7 +31,7 @@ pub enum Plain {
 
 // The magnitude with one more digit.
 fn with_digit(magnitude: u64, byte: u8) -> u64
-    requires { ⌜ (magnitude ≤ magnitudeLimit) × (48 ≤ byte) × (byte ≤ 57) ⌝ }
+    requires { ⌜ (magnitude ≤ magnitudeLimit) × (digitZero ≤ byte) × (byte ≤ digitNine) ⌝ }
     ensures { λ r. ⌜ r ≡ grown magnitude byte ⌝ }
 {
     if magnitude < GROWS_BELOW {

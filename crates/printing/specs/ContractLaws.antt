@@ -22,7 +22,7 @@ use lib.ListN.{length, getD, set, take, drop, length-append, length-set}
 use lib.Seq.{length-take-le, getD-take, append-snoc, set-split, take-suc, take-set-le, take-suc-set, take-add, drop-at}
 use Rattle.text.specs.Parts.{comma, lineEnd, join}
 use Rattle.text.specs.PartsLaws.{join-more}
-use Rattle.number.specs.Number.{decimal, printMagnitude, print}
+use Rattle.number.specs.Number.{digitZero, decimal, printMagnitude, print}
 use Rattle.number.specs.NumberLaws.{decimal-more, print-short}
 use Rattle.printing.specs.Contracts.{numberDigits, fieldRoom, numbersAfter, Put}
 
@@ -60,14 +60,14 @@ take-next l i z h = sym (take-suc l i z h) ∙ ap (λ (j : ℕ). take j l) (sym 
 
 pub lastDigits : ℕ → ℕ → List ℕ
 lastDigits zero n = []
-lastDigits (suc k) n = lastDigits k (n / 10) ++ ((48 + n % 10) ∷ [])
+lastDigits (suc k) n = lastDigits k (n / 10) ++ ((digitZero + n % 10) ∷ [])
 
 decimal-last : (f n : ℕ) → lastDigits (length (decimal f n)) n ≡ decimal f n
 unfolding decimal lastDigits
 decimal-last zero n = refl
 decimal-last (suc f) zero = refl
 decimal-last (suc f) (suc i) =
-    let last = (48 + suc i % 10) ∷ [] in
+    let last = (digitZero + suc i % 10) ∷ [] in
     ap (λ (k : ℕ). lastDigits k (suc i)) (length-append (decimal f (suc i / 10)) last ∙ add-one (length (decimal f (suc i / 10))))
     ∙ ap (λ (l : List ℕ). l ++ last) (decimal-last f (suc i / 10))
 
@@ -107,10 +107,10 @@ drop-set l i b h = ap (drop i) (set-split l i b h) ∙ drop-at (take i l) (b ∷
 
 module _ {word out₀ : List ℕ} {at end : ℕ} where
   pub printing-next : {out : List ℕ} {rest place : ℕ} → at < place → Printing word out₀ at end out rest place
-      → Printing word out₀ at end (set out (place - 1) (48 + rest % 10)) (rest / 10) (place - 1)
+      → Printing word out₀ at end (set out (place - 1) (digitZero + rest % 10)) (rest / 10) (place - 1)
   unfolding lastDigits
   printing-next {out} {rest} {place} h f =
-      let b = 48 + rest % 10 in
+      let b = digitZero + rest % 10 in
       let p = place - 1 in
       let here : suc p ≡ place = omega arith in
       let before : suc (p - at) ≡ place - at = omega arith in
@@ -151,7 +151,7 @@ width-next n h =
     let whole : n / 10 * 10 + n % 10 ≡ n = omega arith in
     ap (λ (k : ℕ). length (decimal k k)) (sym whole)
     ∙ ap length (decimal-more (n / 10) (n % 10) (omega arith) (omega arith))
-    ∙ length-append (decimal (n / 10) (n / 10)) ((48 + n % 10) ∷ [])
+    ∙ length-append (decimal (n / 10) (n / 10)) ((digitZero + n % 10) ∷ [])
     ∙ omega arith
 
 pub width-first : (n : ℕ) → length (printMagnitude n) ≡ 1 + length (decimal (n / 10) (n / 10))

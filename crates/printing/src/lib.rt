@@ -16,9 +16,9 @@ pub const NUMBER_ROOM: usize = 1 + DISTANCE_DIGITS;
 // the room of a number after a comma
 pub const FIELD_ROOM: usize = 1 + NUMBER_ROOM;
 
-const ZERO: u8 = 48;
+const ZERO: u8 = b'0';
 
-const HYPHEN: u8 = 45;
+const HYPHEN: u8 = b'-';
 
 pub fn put_bytes(out: &mut [u8], at: usize, word: &[u8]) -> usize
     requires { ⌜ at + length (now word) ≤ length (now out) ⌝ }

@@ -32,6 +32,7 @@ use Rattle.refusal.specs.declared.Refusal.{Refusal}
 use Rattle.refusal.specs.declared.Outcome.{Outcome}
 use Rattle.refusal.specs.declared.Outcome.the-variants.{Accepted, Refused}
 use Rattle.limits.specs.Limits.{textLimit}
+use Rattle.text.specs.Ascii.{byte}
 use Rattle.text.specs.Lines.{printLines}
 use Rattle.number.specs.Number.{hyphen, isDigit, plain, print}
 use Rattle.number.specs.NumberLaws.{plain-print, print-free}
@@ -258,9 +259,9 @@ refusal-told number line more =
 only-told : (number line : ℕ) → refusesTexts (printRefusal number line) ≡ not (ofReading number line)
 only-told number line = ap refusesTexts (sym (append-nil (printRefusal number line))) ∙ refusal-told number line []
 
--- the byte `N`
+-- the first byte of a refusal
 abbrev refusalByte : ℕ
-refusalByte = 78
+refusalByte = byte "N"
 
 nothing-told : refusesTexts [] ≡ false
 unfolding refusesTexts cut same
@@ -285,7 +286,7 @@ isFaulty (sound found) = false
 module _ (types : Types) where
   record-told : (e : Envelope) → refusesTexts (recordText types e) ≡ false
   unfolding recordText printRecord printLines printHeading join
-  record-told e = other-told 69 _ refl
+  record-told e = other-told (byte "E") _ refl
 
   pub draw-told : SoundTypes types → (D limit : ℕ) (reference : List ℕ)
       → refusesTexts (drawOutput D limit types reference) ≡ isFaulty (content limit types reference)
@@ -327,13 +328,13 @@ steps-told types apart (code ∷ codes) (step ∷ steps) =
 
 accepted-told : refusesTexts printAccepted ≡ false
 unfolding numbersAfter join
-accepted-told = other-told 79 _ refl
+accepted-told = other-told (byte "O") _ refl
 
 -- the line of a verdict, and whatever follows it
 line-told : (v : Verdict) → OfReading v → (more : List ℕ) → refusesTexts (printVerdict v ++ more) ≡ false
 unfolding numbersAfter join
-line-told Quiet h more = other-told 81 _ refl
-line-told (Alarm excess) h more = other-told 65 _ refl
+line-told Quiet h more = other-told (byte "Q") _ refl
+line-told (Alarm excess) h more = other-told (byte "A") _ refl
 line-told (RefusedReading r) h more = refusal-told (r .number) (r .line) more ∙ ap not h
 
 module _ (D : ℕ) (types : Types) (f : Figures) (within : figuresKnown D types f ≡ true) where

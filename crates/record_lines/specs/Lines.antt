@@ -29,6 +29,7 @@ use lib.Dec.{eqb, leb, ltb}
 use lib.IntN.{ℤ, pos, negsuc, natAbs}
 use lib.ListN.{length, getD, take, drop}
 use Rattle.limits.specs.Limits.{budgetLimit}
+use Rattle.text.specs.Ascii.{ascii}
 use Rattle.text.specs.Parts.{comma, cut, same}
 use Rattle.number.specs.Number.{plain}
 use Rattle.number.specs.Contracts.{magnitudeLimit}
@@ -37,22 +38,22 @@ use Rattle.printing.specs.Contracts.{numbersAfter}
 -- ---- the fixed byte strings
 
 abbrev pub recordWord : List ℕ
-recordWord = 69 ∷ 78 ∷ 86 ∷ []
+recordWord = ascii "ENV"
 
 abbrev pub centreWord : List ℕ
-centreWord = 67 ∷ []
+centreWord = ascii "C"
 
 abbrev pub resultWord : List ℕ
-resultWord = 82 ∷ []
+resultWord = ascii "R"
 
 abbrev pub weightWord : List ℕ
-weightWord = 87 ∷ []
+weightWord = ascii "W"
 
 abbrev pub settledLetter : List ℕ
-settledLetter = 83 ∷ []
+settledLetter = ascii "S"
 
 abbrev pub budgetLetter : List ℕ
-budgetLetter = 66 ∷ []
+budgetLetter = ascii "B"
 
 -- ---- numbers
 

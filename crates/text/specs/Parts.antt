@@ -1,6 +1,6 @@
 -- Document 01, "Texts": the parts of a text between separators. Lines are the parts between the bytes 10, fields those between
 -- the commas of a line. A byte is a number, a text a list of them.
---     comma, lineEnd               44 and 10
+--     comma, lineEnd               the bytes `,` and 10
 --     textWithin text              the text is not empty and has at most that many bytes; else 1
 --     same a b                     a and b have the same bytes
 --     extend b parts               the parts with the byte b before the first
@@ -17,9 +17,10 @@ use lib.Dec.{eqb, leb}
 use lib.ListN.{length, drop}
 use Rattle.bytes.specs.Bytes.{indexOf}
 use Rattle.limits.specs.Limits.{textLimit}
+use Rattle.text.specs.Ascii.{byte}
 
 abbrev pub comma : ℕ
-comma = 44
+comma = byte ","
 
 abbrev pub lineEnd : ℕ
 lineEnd = 10

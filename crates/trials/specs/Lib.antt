@@ -1,2 +1,2 @@
--- The starred trial figures of document 01.
+-- The trial figures of document 01.
 pub mod Trials

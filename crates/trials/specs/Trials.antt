@@ -1,4 +1,5 @@
--- Document 01, "Trial figures": the cases marked with a star as one table, and one law that computes them all.
+-- Document 01, "Trial figures": the cases marked with a star, and the range of TOC, as one table, and one law that computes them all from
+-- the definitions: texts from their bytes, types from their table, drawings from their start.
 --     Trial             the figures that the definitions give, and those that document 01 states or that follow from them
 --     trials            the table, in document 01's order
 --     trials-agree      every case gives document 01's figures
@@ -9,6 +10,7 @@ use mathlib.Core.List.{List, [], _∷_, _++_, map}
 use lib.IntN.{ℤ, pos, negℤ}
 use lib.ListN.{length, take}
 use Rattle.integers.specs.Sum.{sumℤ, sumℕ, square}
+use Rattle.lists.specs.Padded.{padded}
 use Rattle.refusal.specs.Outcome.{numberOf}
 use Rattle.geometry.specs.Figures.{squaredLength, squaredDistance, scaledCentre, scaledSquaredDistance, largest, scaledSquaredRadius, weightedSquaredLength, scaledLowerBound}
 use Rattle.geometry.specs.Select.{farthest, replaces, nearest}
@@ -19,21 +21,29 @@ use Rattle.geometry.specs.Places.{tabulate, centreList}
 use Rattle.ball.specs.Ball.{ballOf, emptyBall}
 use Rattle.drawing.specs.Draw.{run, start, runFrom, drawing}
 use Rattle.drawing.specs.declared.Drawing.{Drawing}
-use Rattle.text.specs.Parts.{join}
+use Rattle.text.specs.Ascii.{ascii}
+use Rattle.text.specs.Parts.{same, extend, cut, join}
 use Rattle.text.specs.Lines.{printLines}
-use Rattle.number.specs.Number.{decimal, printMagnitude, print}
+use Rattle.number.specs.Number.{digitsFrom, magnitudeOf, plain, decimal, printMagnitude, print}
+use Rattle.label.specs.Label.{labelBytes, isLabel}
+use Rattle.label.specs.RowLabel.{isRowLabel, labelUsed}
 use Rattle.printing.specs.Contracts.{numbersAfter}
-use Rattle.channel.specs.Channel.{channelTypes, codesKnown}
-use Rattle.channel.specs.ChannelLaws.{house-TOC, house-CND, house-TMP}
-use Rattle.heading.specs.Heading.{printHeading}
+use Rattle.channel.specs.Channel.{codeOf, typeOf, known, codesKnown, codeIn, typeIn, knownIn, houseTypes, channelTypes}
+use Rattle.value.specs.Value.{valueOf}
+use Rattle.value.specs.Values.{valuesOf, valuesInRange}
+use Rattle.heading.specs.Heading.{statedCount, codesOfTags, headingFields, headingOf, printHeading}
+use Rattle.reference_row.specs.Row.{rowFields, rowOf}
+use Rattle.reference_rows.specs.ReferenceText.{ofHeading, withRow, codesOf, channelCount, rowsOf, rowCount, rowNumbers, tableOf, linesBefore}
+use Rattle.reference_rows.specs.Rows.{Content, faulty, sound, rowsFrom}
+use Rattle.reference.specs.Reference.{contentOf, content}
 use Rattle.envelope.specs.Figures.{figuresWithin, codesWithin, figuresKnown, figuresOf}
-use Rattle.envelope.specs.FigureLaws.{drawnEnvelope}
 use Rattle.agreement.specs.Agreement.{withCentre}
 use Rattle.record_lines.specs.Lines.{printCentre, printResult, printWeight}
 use Rattle.record_form.specs.Record.{printRecord}
 use Rattle.record_form.specs.Weights.{listed}
 use Rattle.record_print.specs.Printed.{recordText}
 use Rattle.panel_steps.specs.Panel.{panelShown}
+use Rattle.program_draw.specs.Output.{drawBudget, drawOutput}
 
 pub record Trial : Type 0 where
   pub computed : List ℤ
@@ -48,6 +58,22 @@ flag b = cond b 1 0
 -- the drawing of m rows of n channels
 draw : ℕ → List ℤ → ℕ → ℕ → Drawing
 draw n rows m budget = drawing total rowLimit rows m n budget
+
+-- the drawing of the rows of a reference text, of no row where it is refused
+drawFound : Content → ℕ → Drawing
+drawFound (faulty number line) budget = draw 0 [] 0 budget
+drawFound (sound found) budget = draw (channelCount found) (tableOf found) (rowCount found) budget
+
+drawText : List ℕ → ℕ → Drawing
+drawText text = drawFound (content rowLimit channelTypes text)
+
+-- the table of a reference text, or the refusal's number and line
+told : Content → List ℤ
+told (faulty number line) = numbers (number ∷ line ∷ [])
+told (sound found) = tableOf found
+
+readText : List ℕ → List ℤ
+readText text = told (content rowLimit channelTypes text)
 
 -- moves, M, L, Settled
 outline : Drawing → List ℤ
@@ -65,55 +91,59 @@ differenceUnder rows ws = difference total (length rows) 1 (coordinate rows 1) (
 transferUnder : List ℤ → List ℕ → ℕ
 transferUnder rows ws = transfer total (length rows) 1 (coordinate rows 1) (weightOf ws)
 
-right-triangle : List ℤ
-right-triangle = numbers (0 ∷ 0 ∷ 6 ∷ 0 ∷ 0 ∷ 8 ∷ [])
-
 -- the refusal's number, 0 where there is none, and what the panel shows of one channel, of type TMP, with this X
 shown : ℤ → List ℤ
 shown x =
-    let panel = panelShown total channelTypes (figuresOf 1 (5 ∷ []) (withCentre emptyBall (x ∷ [])) 0) in
+    let panel = panelShown total channelTypes (figuresOf 1 (codeOf channelTypes (ascii "TMP") ∷ []) (withCentre emptyBall (x ∷ [])) 0) in
     pos (numberOf (panel .outcome)) ∷ take 1 (panel .steps)
 
--- `ENV`, 2, `TOC`, `CND`; `C`, 196608, 262144; `R`, 107374182400, 107374182400, 2, `S`; `W`, 2, 32768; `W`, 3, 32768
+-- the reference text that document 01 prints, and its record
+exampleReference : List ℕ
+exampleReference =
+    ascii "REF,2,TOC,CND\n"
+    ++ ascii "A,0,0\n"
+    ++ ascii "B,6,0\n"
+    ++ ascii "C,0,8\n"
+
 exampleRecord : List ℕ
 exampleRecord =
-    (69 ∷ 78 ∷ 86 ∷ 44 ∷ 50 ∷ 44 ∷ 84 ∷ 79 ∷ 67 ∷ 44 ∷ 67 ∷ 78 ∷ 68 ∷ 10 ∷ [])
-    ++ (67 ∷ 44 ∷ 49 ∷ 57 ∷ 54 ∷ 54 ∷ 48 ∷ 56 ∷ 44 ∷ 50 ∷ 54 ∷ 50 ∷ 49 ∷ 52 ∷ 52 ∷ 10 ∷ [])
-    ++ (82 ∷ 44 ∷ 49 ∷ 48 ∷ 55 ∷ 51 ∷ 55 ∷ 52 ∷ 49 ∷ 56 ∷ 50 ∷ 52 ∷ 48 ∷ 48 ∷ 44 ∷ 49 ∷ 48 ∷ 55 ∷ 51 ∷ 55 ∷ 52 ∷ 49 ∷ 56 ∷ 50 ∷ 52 ∷ 48 ∷ 48 ∷ 44 ∷ 50 ∷ 44 ∷ 83 ∷ 10 ∷ [])
-    ++ (87 ∷ 44 ∷ 50 ∷ 44 ∷ 51 ∷ 50 ∷ 55 ∷ 54 ∷ 56 ∷ 10 ∷ [])
-    ++ (87 ∷ 44 ∷ 51 ∷ 44 ∷ 51 ∷ 50 ∷ 55 ∷ 54 ∷ 56 ∷ 10 ∷ [])
+    ascii "ENV,2,TOC,CND\n"
+    ++ ascii "C,196608,262144\n"
+    ++ ascii "R,107374182400,107374182400,2,S\n"
+    ++ ascii "W,2,32768\n"
+    ++ ascii "W,3,32768\n"
 
 pub trials : List Trial
 trials =
     -- Rows 0, 10: one move, t = 32,768, M = L = 107,374,182,400
     record {
       computed =
-          numbers (transferUnder (numbers (0 ∷ 10 ∷ [])) (total ∷ 0 ∷ []) ∷ []) ++ outline (draw 1 (numbers (0 ∷ 10 ∷ [])) 2 10000);
+          numbers (transferUnder (numbers (0 ∷ 10 ∷ [])) (start rowLimit total) ∷ []) ++ outline (draw 1 (numbers (0 ∷ 10 ∷ [])) 2 drawBudget);
       stated = numbers (32768 ∷ 1 ∷ 107374182400 ∷ 107374182400 ∷ 1 ∷ []);
     }
     -- Rows 0, 1: M = 1,073,741,824, gap 0
     ∷ record {
-      computed = outline (draw 1 (numbers (0 ∷ 1 ∷ [])) 2 10000);
+      computed = outline (draw 1 (numbers (0 ∷ 1 ∷ [])) 2 drawBudget);
       stated = numbers (1 ∷ 1073741824 ∷ 1073741824 ∷ 1 ∷ []);
     }
     -- One row 7, budget 0: Settled, M = 0
     ∷ record { computed = outline (draw 1 (numbers (7 ∷ [])) 1 0); stated = numbers (0 ∷ 0 ∷ 0 ∷ 1 ∷ []) }
     -- Rows 5, 5: Settled, no move
     ∷ record {
-      computed = outline (draw 1 (numbers (5 ∷ 5 ∷ [])) 2 10000);
+      computed = outline (draw 1 (numbers (5 ∷ 5 ∷ [])) 2 drawBudget);
       stated = numbers (0 ∷ 0 ∷ 0 ∷ 1 ∷ []);
     }
     -- The record: 2 moves
     ∷ record {
-      computed = whole 3 2 (draw 2 right-triangle 3 10000);
+      computed = whole 3 2 (drawText exampleReference drawBudget);
       stated =
           numbers (2 ∷ 107374182400 ∷ 107374182400 ∷ 1 ∷ 196608 ∷ 262144 ∷ 0 ∷ 32768 ∷ 32768 ∷ []);
     }
-    -- its bytes, line by line as document 01 prints them
-    ∷ record { computed = numbers (recordText channelTypes (drawnEnvelope 2 (1 ∷ 4 ∷ []) (draw 2 right-triangle 3 10000))); stated = numbers exampleRecord }
+    -- what the drawing program prints
+    ∷ record { computed = numbers (drawOutput total rowLimit channelTypes exampleReference); stated = numbers exampleRecord }
     -- The same with budget 1: Budget, M = 223,338,299,392, L = 68,719,476,736
     ∷ record {
-      computed = outline (draw 2 right-triangle 3 1);
+      computed = outline (drawText exampleReference 1);
       stated = numbers (1 ∷ 223338299392 ∷ 68719476736 ∷ 0 ∷ []);
     }
     -- Rows 0, 10, weights 32,767 and 32,769: g = 200, t = 1
@@ -131,8 +161,13 @@ trials =
       computed = shown (negℤ (pos 32768)) ++ shown (negℤ (pos 32767)) ++ shown (pos 32768);
       stated = pos 0 ∷ negℤ (pos 1) ∷ pos 0 ∷ pos 0 ∷ pos 0 ∷ pos 1 ∷ [];
     }
+    -- TOC 2000 is read, 2001 gives 4
+    ∷ record {
+      computed = readText (ascii "REF,1,TOC\nA,2000\n") ++ readText (ascii "REF,1,TOC\nA,2001\n");
+      stated = numbers (2000 ∷ 4 ∷ 2 ∷ []);
+    }
     ∷ []
 
 pub trials-agree : map (λ (t : Trial). t .computed) trials ≡ map (λ (t : Trial). t .stated) trials
-unfolding trials numbers flag draw outline whole differenceUnder transferUnder right-triangle shown exampleRecord join printLines decimal printMagnitude print numbersAfter printHeading printCentre printResult printWeight printRecord listed recordText sumℤ sumℕ square squaredLength squaredDistance scaledCentre scaledSquaredDistance largest scaledSquaredRadius weightedSquaredLength scaledLowerBound farthest replaces nearest scaledSquaredDistanceOf farRow nearRow difference separation settled transfer moveWeight moved coordinate placesWithin rowsWithin tabulate centreList ballOf run start runFrom drawing codesKnown figuresWithin codesWithin figuresKnown panelShown
-trials-agree = rw (house-TOC, house-CND, house-TMP) refl
+unfolding trials numbers flag draw outline whole differenceUnder transferUnder shown exampleReference exampleRecord drawFound drawText told readText same extend cut join printLines decimal printMagnitude print numbersAfter digitsFrom magnitudeOf plain labelBytes isLabel isRowLabel labelUsed codeOf typeOf known codeIn typeIn knownIn houseTypes valueOf valuesOf valuesInRange statedCount codesOfTags headingFields headingOf rowFields rowOf ofHeading withRow codesOf rowsOf rowNumbers tableOf linesBefore rowsFrom contentOf content drawOutput printHeading printCentre printResult printWeight printRecord listed recordText padded sumℤ sumℕ square squaredLength squaredDistance scaledCentre scaledSquaredDistance largest scaledSquaredRadius weightedSquaredLength scaledLowerBound farthest replaces nearest scaledSquaredDistanceOf farRow nearRow difference separation settled transfer moveWeight moved coordinate placesWithin rowsWithin tabulate centreList ballOf run start runFrom drawing codesKnown figuresWithin codesWithin figuresKnown panelShown
+trials-agree = refl

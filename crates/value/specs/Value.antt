@@ -16,6 +16,7 @@ use mathlib.Core.Option.{Option, none, some, Option·map}
 use lib.Dec.{eqb}
 use lib.IntN.{ℤ, pos}
 use lib.Signed.{leZ}
+use Rattle.text.specs.Ascii.{byte}
 use Rattle.number.specs.Number.{plain, print}
 use Rattle.channel.specs.declared.Range.{Range}
 use Rattle.value.specs.declared.Value.{Value}
@@ -26,7 +27,7 @@ pub data Written : Type 0 where
   below : ℤ → Written
 
 abbrev pub lessThan : ℕ
-lessThan = 60
+lessThan = byte "<"
 
 unfoldable pub valueOf : List ℕ → Option Written
 valueOf [] = none

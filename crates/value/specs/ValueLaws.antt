@@ -22,7 +22,7 @@ use lib.ListN.{length}
 use lib.Signed.{leZ}
 use Rattle.text.specs.Parts.{free}
 use Rattle.integers.specs.Tests.{both, clash}
-use Rattle.number.specs.Number.{hyphen, isDigit, plain, print}
+use Rattle.number.specs.Number.{hyphen, digitZero, digitNine, isDigit, plain, print}
 use Rattle.number.specs.NumberLaws.{plain-print, print-plain, print-free, print-first, magnitude-short, print-short}
 use Rattle.channel.specs.Channel.{Types, typeOf}
 use Rattle.channel.specs.Contracts.{rangeOf}
@@ -35,7 +35,7 @@ use Rattle.value.specs.Value.{Written, number, below, lessThan, valueOf,
 -- no number starts with `<`
 number-first : (b : ℕ) → (isDigit b ≡ true) ⊎ (b ≡ hyphen) → eqb b lessThan ≡ false
 number-first b h =
-    ⊎-elim (λ d. ne-eqb b lessThan (λ e. omega (arith, leb-true b 57 (both (leb 48 b) (leb b 57) d .1))))
+    ⊎-elim (λ d. ne-eqb b lessThan (λ e. omega (arith, leb-true b digitNine (both (leb digitZero b) (leb b digitNine) d .1))))
     (λ d. ne-eqb b lessThan (λ e. omega arith)) h
 
 pub value-print : (v : Written) → valueOf (printValue v) ≡ some v

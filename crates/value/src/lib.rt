@@ -8,7 +8,7 @@ use limits::COORDINATE_MOST;
 use number::Plain;
 use number::plain_number;
 
-const LESS_THAN: u8 = 60;
+const LESS_THAN: u8 = b'<';
 
 // What a value field holds.
 pub enum Value {

@@ -1,5 +1,6 @@
--- A quoted text as the list of its bytes.
+-- Bytes written as a quoted text.
 --     ascii s     the codes of its characters, each below 128 in the texts of the house
+--     byte s      the first of them: a quoted character as its byte
 use Prim.Native.Nat.{ℕ}
 use Prim.Native.Char.{code}
 use Prim.Native.String.{String, [] as none, _∷_ as _then_}
@@ -8,3 +9,7 @@ use mathlib.Core.List.{List, [], _∷_}
 abbrev pub ascii : String → List ℕ
 ascii none = []
 ascii (c then s) = code c ∷ ascii s
+
+abbrev pub byte : String → ℕ
+byte none = 0
+byte (c then s) = code c
