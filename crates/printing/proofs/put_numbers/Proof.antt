@@ -4,6 +4,7 @@ use Prim.Native.Nat.{ℕ, _+_, _-_, _*_, _^_, _≤_, _<_}
 use mathlib.Core.Path.{_≡_, refl, sym, ap, _∙_}
 use mathlib.Core.List.{List, []}
 use native.Mathlib.Omega.{arith}
+use borrow.Author.Needs.{needs}
 use lib.IntN.{ℤ, pos, natAbs}
 use lib.ListN.{length, getD, set, take, length-set}
 use mir.Syntax.{w64}
@@ -37,23 +38,8 @@ module _ (numbers : List ℤ) (i : ℕ) (h : i < length numbers) (most : natAbs 
             (sym (numbers-more [] (take i numbers) z) ∙ ap (numbersAfter []) (take-next numbers i (pos 0) h)) refl,
       )
 
-put-bytes-requires : tie.Need-put-bytes-requires Inv-loop μ-loop
-put-bytes-requires c κs = omega arith
-
 loop-holds : tie.Need-loop-holds Inv-loop μ-loop
 loop-holds c = (omega arith, omega arith, put-as (put-none _ _) (sym (numbers-none [])) refl)
-
-slice-write-out : tie.Need-slice-write-out Inv-loop μ-loop
-slice-write-out c = omega arith
-
-add-put-number : tie.Need-add-put-number Inv-loop μ-loop
-add-put-number c = omega arith
-
-mul-put-number : tie.Need-mul-put-number Inv-loop μ-loop
-mul-put-number c = omega arith
-
-shared-slice-copy-out-put-number : tie.Need-shared-slice-copy-out-put-number Inv-loop μ-loop
-shared-slice-copy-out-put-number c = omega arith
 
 put-number-requires : tie.Need-put-number-requires Inv-loop μ-loop
 put-number-requires c κs =
@@ -62,12 +48,6 @@ put-number-requires c κs =
     let most = start .pre .1 .0 (at-loop .loop .i) (c .before .before .loop-test .taken) in
     let number = getD (start .args .numbers .now) (at-loop .loop .i) (pos 0) in
     (omega (arith, ap natAbs (back64 number most)), omega (arith, length-set (at-loop .loop .out) (at-loop .loop .from) comma))
-
-add-i : tie.Need-add-i Inv-loop μ-loop
-add-i c = omega arith
-
-loop-less : tie.Need-loop-less Inv-loop μ-loop
-loop-less c = omega arith
 
 loop-again : tie.Need-loop-again Inv-loop μ-loop
 loop-again c =
@@ -78,9 +58,6 @@ loop-again c =
     let printed = c .before .before .put-number .ensures in
     let more = number-more (start .args .numbers .now) (at-loop .loop .i) (omega arith) most (omega arith) (at-loop .loop .inv .2) printed in
     (omega arith, omega arith, more .1)
-
-same-length : tie.Need-same-length Inv-loop μ-loop
-same-length c = omega arith
 
 returns : tie.Need-returns Inv-loop μ-loop
 returns c =
@@ -96,15 +73,15 @@ put-numbers-spec =
     (tie.spec
     Inv-loop
     μ-loop
-    put-bytes-requires
+    (λ c κs. search needs)
     loop-holds
-    slice-write-out
-    add-put-number
-    mul-put-number
-    shared-slice-copy-out-put-number
+    (λ c. search needs)
+    (λ c. search needs)
+    (λ c. search needs)
+    (λ c. search needs)
     put-number-requires
-    add-i
-    loop-less
+    (λ c. search needs)
+    (λ c. search needs)
     loop-again
-    same-length
+    (λ c. search needs)
     returns)

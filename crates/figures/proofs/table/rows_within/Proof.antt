@@ -55,9 +55,6 @@ returns-5 c =
     sym (within (a .rows .now) (a .m) (a .n) (omega arith) (omega arith) (omega arith) (omega arith)
     ∙ rw (lt-leb (a .m * a .n) (length (a .rows .now)) (omega arith)))
 
-coordinates-within-requires : tie.Need-coordinates-within-requires
-coordinates-within-requires c κs = search needs
-
 returns-6 : tie.Need-returns-6
 returns-6 c =
     let a = c .before .before .before .before .before .before .args in
@@ -74,5 +71,5 @@ rows-within-spec =
     returns-4
     mul-count
     returns-5
-    coordinates-within-requires
+    (λ c κs. search needs)
     returns-6)
