@@ -27,9 +27,6 @@ stated c = c .before .before .before .before .before .before .before .before .be
 abbrev given : tie.Else2 → Checked
 given c = c .before .before .before .before .before .before .before .before .before .args .checked
 
-number-of-requires : tie.Need-number-of-requires
-number-of-requires c κs = search needs
-
 returns : tie.Need-returns
 returns c = ball-refused _ _ _ (λ s. c .if1 .taken (c .before .number-of .ensures ∙ s .number))
 
@@ -76,7 +73,7 @@ pub ball-agrees-spec : {M : Type 1} → statement M
 ball-agrees-spec =
     tie.close
     (tie.spec
-    number-of-requires
+    (λ c κs. search needs)
     returns
     slice-aggregate-same-places
     slice-aggregate-same-places-2

@@ -74,12 +74,6 @@ long c = record { held = held (c .before .before); lengths = c .if1 .left }
 returns-2 : tie.Need-returns-2
 returns-2 c = done (long (c .before)) 0 refl (omega arith)
 
-shared-slice-read-if3 : tie.Need-shared-slice-read-if3
-shared-slice-read-if3 c = search needs
-
-array-read-if3 : tie.Need-array-read-if3
-array-read-if3 c = search needs
-
 returns-3 : tie.Need-returns-3
 returns-3 c = off (long (c .before .before .before)) 0 refl (omega arith) (c .if3 .taken)
 
@@ -90,12 +84,6 @@ first c = on (long (c .before .before .before)) 0 refl (omega arith) (c .if3 .le
 
 returns-4 : tie.Need-returns-4
 returns-4 c = done (long (c .before .before .before .before)) 1 (first (c .before)) (omega arith)
-
-shared-slice-read-if5 : tie.Need-shared-slice-read-if5
-shared-slice-read-if5 c = search needs
-
-array-read-if5 : tie.Need-array-read-if5
-array-read-if5 c = search needs
 
 returns-5 : tie.Need-returns-5
 returns-5 c =
@@ -114,12 +102,6 @@ second c =
 returns-6 : tie.Need-returns-6
 returns-6 c = done (long (c .before .before .before .before .before .before .before)) 2 (second (c .before)) (omega arith)
 
-shared-slice-read-result : tie.Need-shared-slice-read-result
-shared-slice-read-result c = search needs
-
-array-read-result : tie.Need-array-read-result
-array-read-result c = search needs
-
 returns-7 : tie.Need-returns-7
 returns-7 c =
     let two = c .before .before in
@@ -132,14 +114,14 @@ has-bytes-spec =
     (tie.spec
     returns
     returns-2
-    shared-slice-read-if3
-    array-read-if3
+    (λ c. search needs)
+    (λ c. search needs)
     returns-3
     returns-4
-    shared-slice-read-if5
-    array-read-if5
+    (λ c. search needs)
+    (λ c. search needs)
     returns-5
     returns-6
-    shared-slice-read-result
-    array-read-result
+    (λ c. search needs)
+    (λ c. search needs)
     returns-7)

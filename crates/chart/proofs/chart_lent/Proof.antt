@@ -22,12 +22,6 @@ use Rattle.chart.proofs.chart_lent.Tie as tie
 abbrev figures : tie.Start → Figures
 figures c = lentFigures (c .args .scalars) (now (c .args .codes)) (now (c .args .scaled-centre))
 
-figures-known-lent-requires : tie.Need-figures-known-lent-requires
-figures-known-lent-requires c κs = search needs
-
-refused-mark-requires : tie.Need-refused-mark-requires
-refused-mark-requires c κs = search needs
-
 returns : tie.Need-returns
 returns c =
     let test = c .before .before in
@@ -36,12 +30,6 @@ returns c =
     ∙ sym (refuses-figures total channelTypes (figures start) (start .args .horizontal) (start .args .vertical)
     (sym (test .figures-known-lent .ensures) ∙ not-true _ (c .before .if1 .taken)))
 
-channel-within-requires : tie.Need-channel-within-requires
-channel-within-requires c κs = search needs
-
-refused-mark-requires-2 : tie.Need-refused-mark-requires-2
-refused-mark-requires-2 c κs = search needs
-
 returns-2 : tie.Need-returns-2
 returns-2 c =
     let test = c .before .before in
@@ -49,12 +37,6 @@ returns-2 c =
     c .refused-mark2 .ensures
     ∙ sym (refuses-horizontal total channelTypes (figures start) (start .args .horizontal) (start .args .vertical)
     (sym (test .channel-within .ensures) ∙ not-true _ (c .before .if2 .taken)))
-
-channel-within-requires-2 : tie.Need-channel-within-requires-2
-channel-within-requires-2 c κs = search needs
-
-refused-mark-requires-3 : tie.Need-refused-mark-requires-3
-refused-mark-requires-3 c κs = search needs
 
 returns-3 : tie.Need-returns-3
 returns-3 c =
@@ -114,14 +96,14 @@ pub chart-lent-spec : {M : Type 1} → statement M
 chart-lent-spec =
     tie.close
     (tie.spec
-    figures-known-lent-requires
-    refused-mark-requires
+    (λ c κs. search needs)
+    (λ c κs. search needs)
     returns
-    channel-within-requires
-    refused-mark-requires-2
+    (λ c κs. search needs)
+    (λ c κs. search needs)
     returns-2
-    channel-within-requires-2
-    refused-mark-requires-3
+    (λ c κs. search needs)
+    (λ c κs. search needs)
     returns-3
     centre-fraction-requires
     centre-fraction-requires-2

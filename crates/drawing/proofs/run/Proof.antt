@@ -29,22 +29,10 @@ head c = c .before .before
 goes : (c : tie.Then1 Inv-loop μ-loop) → (ltb (head c .loop .pair .separation) (head c .loop .pair .difference) && ltb (head c .loop .moves) (entry c .args .budget)) ≡ true
 goes c = sym (c .before .goes-on .ensures) ∙ c .if1 .taken
 
-all-on-first-requires : tie.Need-all-on-first-requires Inv-loop μ-loop
-all-on-first-requires c κs = search needs
-
-slice-aggregate-scaled-centre : tie.Need-slice-aggregate-scaled-centre Inv-loop μ-loop
-slice-aggregate-scaled-centre c = search needs
-
 scaled-centre-requires : tie.Need-scaled-centre-requires Inv-loop μ-loop
 scaled-centre-requires c κs =
     let table = c .before .before .pre in
     (table, weights-within (le-refl total) (start-good table (c .before .all-on-first .ensures)))
-
-slice-aggregate-pair-of : tie.Need-slice-aggregate-pair-of Inv-loop μ-loop
-slice-aggregate-pair-of c = search needs
-
-slice-aggregate-pair-of-2 : tie.Need-slice-aggregate-pair-of-2 Inv-loop μ-loop
-slice-aggregate-pair-of-2 c = search needs
 
 pair-of-requires : tie.Need-pair-of-requires Inv-loop μ-loop
 pair-of-requires c κs =
@@ -55,9 +43,6 @@ loop-holds : tie.Need-loop-holds Inv-loop μ-loop
 loop-holds c =
     let first = c .before .before .before .before .before in
     begins (first .before .pre) (first .all-on-first .ensures) (lit≤ tt) (le-refl total) (c .before .before .before .scaled-centre .ensures) (c .pair-of .ensures)
-
-goes-on-requires : tie.Need-goes-on-requires Inv-loop μ-loop
-goes-on-requires c κs = search needs
 
 mul-transfer-of : tie.Need-mul-transfer-of Inv-loop μ-loop
 mul-transfer-of c = omega (arith, head c .loop .inv .paired, entry c .pre .rows-most)
@@ -83,12 +68,6 @@ shift-centre-requires c κs =
     let here = head turn .loop .inv in
     let t-most = transfer-most table here (goes turn) (c .before .transfer-of .ensures) (omega (arith, here .paired)) in
     (table-row table _ (omega (arith, here .paired)), (table-row table _ (omega (arith, here .paired)), (centre-good table here, t-most)))
-
-slice-aggregate-pair-of-3 : tie.Need-slice-aggregate-pair-of-3 Inv-loop μ-loop
-slice-aggregate-pair-of-3 c = search needs
-
-slice-aggregate-pair-of-4 : tie.Need-slice-aggregate-pair-of-4 Inv-loop μ-loop
-slice-aggregate-pair-of-4 c = search needs
 
 pair-of-requires-2 : tie.Need-pair-of-requires-2 Inv-loop μ-loop
 pair-of-requires-2 c κs =
@@ -133,21 +112,21 @@ run-spec =
     (tie.spec
     Inv-loop
     μ-loop
-    all-on-first-requires
-    slice-aggregate-scaled-centre
+    (λ c κs. search needs)
+    (λ c. search needs)
     scaled-centre-requires
-    slice-aggregate-pair-of
-    slice-aggregate-pair-of-2
+    (λ c. search needs)
+    (λ c. search needs)
     pair-of-requires
     loop-holds
-    goes-on-requires
+    (λ c κs. search needs)
     mul-transfer-of
     array-read-transfer-of
     transfer-of-requires
     one-move-requires
     shift-centre-requires
-    slice-aggregate-pair-of-3
-    slice-aggregate-pair-of-4
+    (λ c. search needs)
+    (λ c. search needs)
     pair-of-requires-2
     add-moves
     loop-less

@@ -1,24 +1,13 @@
 -- `label::label_digit` meets its contract: each range of bytes decides the definition's three tests (`digit-at`). Assumes nothing.
 use mathlib.Core.Path.{refl, sym}
 use native.Mathlib.Omega.{arith}
+use borrow.Author.Needs.{needs}
 use borrow.Author.Tests.{eq-eqb, ne-eqb}
 use Rattle.number.specs.Number.{hyphen}
 use Rattle.integers.specs.Tests.{range-in, range-under, range-over}
 use Rattle.label.specs.LabelLaws.{digit-at}
 use Rattle.label.proofs.label_digit.Statement.{statement}
 use Rattle.label.proofs.label_digit.Tie as tie
-
-sub-result : tie.Need-sub-result
-sub-result c = omega arith
-
-cast-result : tie.Need-cast-result
-cast-result c = omega arith
-
-sub-result-2 : tie.Need-sub-result-2
-sub-result-2 c = omega arith
-
-cast-result-2 : tie.Need-cast-result-2
-cast-result-2 c = omega arith
 
 returns : tie.Need-returns
 returns c =
@@ -55,10 +44,10 @@ pub label-digit-spec : {M : Type 1} → statement M
 label-digit-spec =
     tie.close
     (tie.spec
-    sub-result
-    cast-result
-    sub-result-2
-    cast-result-2
+    (λ c. search needs)
+    (λ c. search needs)
+    (λ c. search needs)
+    (λ c. search needs)
     returns
     returns-2
     returns-3

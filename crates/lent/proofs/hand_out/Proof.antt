@@ -21,7 +21,8 @@ returns c =
 
 returns-2 : tie.Need-returns-2
 returns-2 c =
-    let args = c .before .before .before .before .before .before .before .args in
+    let at-else1 = c .before .before .before .before in
+    let args = at-else1 .before .before .before .args in
     let text = now (args .text) in
     let buffer = now (args .buffer) in
     let is = sym (text-fits text (length buffer) (omega arith)) in

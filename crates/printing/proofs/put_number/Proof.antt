@@ -41,15 +41,17 @@ put-magnitude-requires c κs =
 
 same-length : tie.Need-same-length
 same-length c =
-    let start = c .before .before .before .before .before .before in
-    c .before .before .put-magnitude .ensures .same-length ∙ length-set (start .args .out .now) (start .args .at) hyphen
+    let at-put-magnitude = c .before .before in
+    let start = at-put-magnitude .before .before .before .before in
+    at-put-magnitude .put-magnitude .ensures .same-length ∙ length-set (start .args .out .now) (start .args .at) hyphen
 
 returns : tie.Need-returns
 returns c =
-    let start = c .before .before .before .before .before .before in
+    let at-put-magnitude = c .before .before in
+    let start = at-put-magnitude .before .before .before .before in
     put-as
-    (put-then (put-byte (start .args .out .now) (start .args .at) hyphen (omega arith)) (c .before .before .put-magnitude .ensures))
-    (printed-negative (start .args .number) (omega arith) (c .before .before .before .before .if1 .taken))
+    (put-then (put-byte (start .args .out .now) (start .args .at) hyphen (omega arith)) (at-put-magnitude .put-magnitude .ensures))
+    (printed-negative (start .args .number) (omega arith) (at-put-magnitude .before .before .if1 .taken))
     refl
 
 cast-put-magnitude-2 : tie.Need-cast-put-magnitude-2
@@ -65,9 +67,10 @@ put-magnitude-requires-2 c κs =
 
 returns-2 : tie.Need-returns-2
 returns-2 c =
-    let start = c .before .before .before .before .before .before in
-    put-as (c .before .before .put-magnitude2 .ensures)
-    (printed-natural (start .args .number) (omega arith) (c .before .before .before .before .if1 .left)) refl
+    let at-put-magnitude2 = c .before .before in
+    let start = at-put-magnitude2 .before .before .before .before in
+    put-as (at-put-magnitude2 .put-magnitude2 .ensures)
+    (printed-natural (start .args .number) (omega arith) (at-put-magnitude2 .before .before .if1 .left)) refl
 
 pub put-number-spec : {M : Type 1} → statement M
 put-number-spec =

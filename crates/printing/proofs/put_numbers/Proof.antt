@@ -41,28 +41,34 @@ module _ (numbers : List ℤ) (i : ℕ) (h : i < length numbers) (most : natAbs 
 loop-holds : tie.Need-loop-holds Inv-loop μ-loop
 loop-holds c = (omega arith, omega arith, put-as (put-none _ _) (sym (numbers-none [])) refl)
 
+abbrev start-of : tie.At-loop Inv-loop μ-loop → tie.Start Inv-loop μ-loop
+start-of c =
+    let at-put-bytes = c .before .before .before in
+    at-put-bytes .before .before .before .before
+
 put-number-requires : tie.Need-put-number-requires Inv-loop μ-loop
 put-number-requires c κs =
     let at-loop = c .before .before .before in
-    let start = at-loop .before .before .before .before .before .before .before in
+    let start = start-of at-loop in
     let most = start .pre .1 .0 (at-loop .loop .i) (c .before .before .loop-test .taken) in
     let number = getD (start .args .numbers .now) (at-loop .loop .i) (pos 0) in
     (omega (arith, ap natAbs (back64 number most)), omega (arith, length-set (at-loop .loop .out) (at-loop .loop .from) comma))
 
 loop-again : tie.Need-loop-again Inv-loop μ-loop
 loop-again c =
-    let in-loop = c .before .before .before .before .before in
+    let at-put-number = c .before .before in
+    let in-loop = at-put-number .before .before .before in
     let at-loop = in-loop .before in
-    let start = at-loop .before .before .before .before .before .before .before in
+    let start = start-of at-loop in
     let most = start .pre .1 .0 (at-loop .loop .i) (in-loop .loop-test .taken) in
-    let printed = c .before .before .put-number .ensures in
+    let printed = at-put-number .put-number .ensures in
     let more = number-more (start .args .numbers .now) (at-loop .loop .i) (omega arith) most (omega arith) (at-loop .loop .inv .2) printed in
     (omega arith, omega arith, more .1)
 
 returns : tie.Need-returns Inv-loop μ-loop
 returns c =
     let at-loop = c .before in
-    let start = at-loop .before .before .before .before .before .before .before in
+    let start = start-of at-loop in
     let all : at-loop .loop .i ≡ start .args .count = omega arith in
     put-as (put-then (at-loop .before .before .before .put-bytes .ensures) (at-loop .loop .inv .2))
     (numbers-after _ _ ∙ ap (λ (j : ℕ). numbersAfter (start .args .word .now) (take j (start .args .numbers .now))) all) refl

@@ -26,12 +26,6 @@ figures c =
     let a = c .args in
     figuresOf (a .n) (now (a .codes)) (filledBall (now (a .scaled-centre)) (a .scaled-squared-radius) (a .scaled-lower-bound) (a .settled)) (a .moves)
 
-figures-known-lent-requires : tie.Need-figures-known-lent-requires
-figures-known-lent-requires c κs = search needs
-
-refused-requires : tie.Need-refused-requires
-refused-requires c κs = search needs
-
 returns : tie.Need-returns
 returns c =
     let test = c .before .before in
@@ -43,12 +37,6 @@ returns c =
 -- past the test of the figures
 within : (c : tie.Else1) → figuresKnown total channelTypes (figures (c .before .before .before .before)) ≡ true
 within c = sym (c .before .figures-known-lent .ensures) ∙ not-false _ (c .if1 .left)
-
-text-within-requires : tie.Need-text-within-requires
-text-within-requires c κs = search needs
-
-refused-requires-2 : tie.Need-refused-requires-2
-refused-requires-2 c κs = search needs
 
 returns-2 : tie.Need-returns-2
 returns-2 c =
@@ -71,9 +59,6 @@ sub-end c = some-byte c
 
 shared-slice-read-if3 : tie.Need-shared-slice-read-if3
 shared-slice-read-if3 c = omega (arith, some-byte (c .before))
-
-refused-requires-3 : tie.Need-refused-requires-3
-refused-requires-3 c κs = search needs
 
 returns-3 : tie.Need-returns-3
 returns-3 c =
@@ -105,15 +90,15 @@ pub judge-lent-spec : {M : Type 1} → statement M
 judge-lent-spec =
     tie.close
     (tie.spec
-    figures-known-lent-requires
-    refused-requires
+    (λ c κs. search needs)
+    (λ c κs. search needs)
     returns
-    text-within-requires
-    refused-requires-2
+    (λ c κs. search needs)
+    (λ c κs. search needs)
     returns-2
     sub-end
     shared-slice-read-if3
-    refused-requires-3
+    (λ c κs. search needs)
     returns-3
     slice-aggregate-judge-line
     judge-line-requires

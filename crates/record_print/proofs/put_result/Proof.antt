@@ -19,21 +19,6 @@ use Rattle.record_print.proofs.put_result.Tie as tie
 below : (c : tie.Start) → Below (2 ^ 63) (c .args .scaled-squared-radius ∷ c .args .scaled-lower-bound ∷ c .args .moves ∷ [])
 below c = result-below (c .args .scaled-squared-radius) (c .args .scaled-lower-bound) (c .args .moves) (omega arith) (omega arith) (omega arith)
 
-cast-t12 : tie.Need-cast-t12
-cast-t12 c = search needs
-
-cast-t13 : tie.Need-cast-t13
-cast-t13 c = search needs
-
-cast-t14 : tie.Need-cast-t14
-cast-t14 c = search needs
-
-slice-aggregate-put-numbers : tie.Need-slice-aggregate-put-numbers
-slice-aggregate-put-numbers c = search needs
-
-slice-aggregate-put-numbers-2 : tie.Need-slice-aggregate-put-numbers-2
-slice-aggregate-put-numbers-2 c = search needs
-
 put-numbers-requires : tie.Need-put-numbers-requires
 put-numbers-requires c κs =
     let start = c .before .before .before .before in
@@ -92,11 +77,11 @@ pub put-result-spec : {M : Type 1} → statement M
 put-result-spec =
     tie.close
     (tie.spec
-    cast-t12
-    cast-t13
-    cast-t14
-    slice-aggregate-put-numbers
-    slice-aggregate-put-numbers-2
+    (λ c. search needs)
+    (λ c. search needs)
+    (λ c. search needs)
+    (λ c. search needs)
+    (λ c. search needs)
     put-numbers-requires
     slice-write-out
     add-put-bytes

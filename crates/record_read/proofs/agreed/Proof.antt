@@ -35,12 +35,6 @@ array-share-prefix-stated-codes c = omega (arith, type-places (c .before .before
 slice-aggregate-same-codes : tie.Need-slice-aggregate-same-codes
 slice-aggregate-same-codes c = sym (length-take-le _ _ (array-share-prefix-stated-codes (c .before)))
 
-same-codes-requires : tie.Need-same-codes-requires
-same-codes-requires c κs = search needs
-
-not-read-requires : tie.Need-not-read-requires
-not-read-requires c κs = search needs
-
 returns : tie.Need-returns
 returns c =
     let test = c .before .before in
@@ -54,18 +48,12 @@ same-codes : (c : tie.Else1) → let args = c .before .before .before .before .b
     same (now (args .codes)) (take (args .stated .n) (args .stated .codes)) ≡ true
 same-codes c = sym (c .before .same-codes .ensures) ∙ not-false _ (c .if1 .left)
 
-not-read-requires-2 : tie.Need-not-read-requires-2
-not-read-requires-2 c κs = search needs
-
 returns-2 : tie.Need-returns-2
 returns-2 c =
     let test = c .before .before in
     let args = test .before .before .before .before .before .before .before .args in
     c .not-read2 .ensures
     ∙ radius-below total rowLimit (now (args .rows)) (args .m) (now (args .codes)) (args .stated) (radius-fits test) (c .before .if2 .taken)
-
-not-read-requires-3 : tie.Need-not-read-requires-3
-not-read-requires-3 c κs = search needs
 
 returns-3 : tie.Need-returns-3
 returns-3 c =
@@ -98,17 +86,11 @@ cast-scaled-lower-bound c =
     let s = signs (c .before .before .before .before) in
     sign-cast _ (s .floor-fits) (s .floor-not)
 
-filled-ball-requires : tie.Need-filled-ball-requires
-filled-ball-requires c κs = search needs
-
 slice-aggregate-agrees : tie.Need-slice-aggregate-agrees
 slice-aggregate-agrees c = sym (weight-places (start-of (c .before .before .before .before .before .before .before .before)))
 
 agrees-requires : tie.Need-agrees-requires
 agrees-requires c κs = start-of (c .before .before .before .before .before .before .before .before) .pre .within
-
-not-read-requires-4 : tie.Need-not-read-requires-4
-not-read-requires-4 c κs = search needs
 
 returns-4 : tie.Need-returns-4
 returns-4 c =
@@ -119,12 +101,6 @@ returns-4 c =
     ∙ disagreeing total rowLimit (now (start .args .rows)) (start .args .m) (now (start .args .codes)) (start .args .stated) (signs past-signs)
     (start .args .n) (start .pre .count) (same-codes (past-signs .before .before .before .before .before .before))
     (test .before .before .before .filled-ball .ensures) (sym (test .agrees .ensures) ∙ not-true _ (c .before .if4 .taken))
-
-filled-figures-requires : tie.Need-filled-figures-requires
-filled-figures-requires c κs = search needs
-
-filled-envelope-requires : tie.Need-filled-envelope-requires
-filled-envelope-requires c κs = search needs
 
 returns-5 : tie.Need-returns-5
 returns-5 c =
@@ -143,20 +119,20 @@ agreed-spec =
     (tie.spec
     array-share-prefix-stated-codes
     slice-aggregate-same-codes
-    same-codes-requires
-    not-read-requires
+    (λ c κs. search needs)
+    (λ c κs. search needs)
     returns
-    not-read-requires-2
+    (λ c κs. search needs)
     returns-2
-    not-read-requires-3
+    (λ c κs. search needs)
     returns-3
     cast-scaled-squared-radius
     cast-scaled-lower-bound
-    filled-ball-requires
+    (λ c κs. search needs)
     slice-aggregate-agrees
     agrees-requires
-    not-read-requires-4
+    (λ c κs. search needs)
     returns-4
-    filled-figures-requires
-    filled-envelope-requires
+    (λ c κs. search needs)
+    (λ c κs. search needs)
     returns-5)

@@ -43,12 +43,6 @@ agreeing : (c : tie.Else3) → let args = start-of (c .before .before .before .b
     agrees total rowLimit (now (args .rows)) (args .m) (args .envelope .figures .n) (args .envelope .figures .ball) (args .envelope .weights) ≡ true
 agreeing c = sym (c .before .agrees .ensures) ∙ not-false _ (c .if3 .left)
 
-figures-known-requires : tie.Need-figures-known-requires
-figures-known-requires c κs = search needs
-
-not-written-requires : tie.Need-not-written-requires
-not-written-requires c κs = search needs
-
 returns : tie.Need-returns
 returns c =
     let test = c .before .before in
@@ -59,12 +53,6 @@ returns c =
           (sym (test .figures-known .ensures) ∙ not-true _ (c .before .if1 .taken))),
       buffer-left (c .not-written .result) 7 (recordText channelTypes (args .envelope)) (now (args .buffer)) e,
     )
-
-rows-within-requires : tie.Need-rows-within-requires
-rows-within-requires c κs = search needs
-
-not-written-requires-2 : tie.Need-not-written-requires-2
-not-written-requires-2 c κs = search needs
 
 returns-2 : tie.Need-returns-2
 returns-2 c =
@@ -77,14 +65,8 @@ returns-2 c =
       buffer-left (c .not-written2 .result) 7 (recordText channelTypes (args .envelope)) (now (args .buffer)) e,
     )
 
-slice-aggregate-agrees : tie.Need-slice-aggregate-agrees
-slice-aggregate-agrees c = search needs
-
 agrees-requires : tie.Need-agrees-requires
 agrees-requires c κs = within (c .before)
-
-not-written-requires-3 : tie.Need-not-written-requires-3
-not-written-requires-3 c κs = search needs
 
 returns-3 : tie.Need-returns-3
 returns-3 c =
@@ -103,12 +85,6 @@ returns-3 c =
 weight-places : (c : tie.Start) → length (c .args .envelope .weights) ≡ rowLimit
 weight-places c = search needs
 
-slice-aggregate-print-record : tie.Need-slice-aggregate-print-record
-slice-aggregate-print-record c = search needs
-
-slice-aggregate-print-record-2 : tie.Need-slice-aggregate-print-record-2
-slice-aggregate-print-record-2 c = search needs
-
 print-record-requires : tie.Need-print-record-requires
 print-record-requires c κs =
     let past-figures = c .before .before .before .before .before .before .before in
@@ -126,12 +102,6 @@ array-share-prefix-text c =
 
 slice-aggregate-hand-out : tie.Need-slice-aggregate-hand-out
 slice-aggregate-hand-out c = sym (length-take-le _ _ (array-share-prefix-text (c .before)))
-
-hand-out-requires : tie.Need-hand-out-requires
-hand-out-requires c κs = search needs
-
-same-length : tie.Need-same-length
-same-length c = search needs
 
 returns-4 : tie.Need-returns-4
 returns-4 c =
@@ -154,21 +124,21 @@ pub write-spec : {M : Type 1} → statement M
 write-spec =
     tie.close
     (tie.spec
-    figures-known-requires
-    not-written-requires
+    (λ c κs. search needs)
+    (λ c κs. search needs)
     returns
-    rows-within-requires
-    not-written-requires-2
+    (λ c κs. search needs)
+    (λ c κs. search needs)
     returns-2
-    slice-aggregate-agrees
+    (λ c. search needs)
     agrees-requires
-    not-written-requires-3
+    (λ c κs. search needs)
     returns-3
-    slice-aggregate-print-record
-    slice-aggregate-print-record-2
+    (λ c. search needs)
+    (λ c. search needs)
     print-record-requires
     array-share-prefix-text
     slice-aggregate-hand-out
-    hand-out-requires
-    same-length
+    (λ c κs. search needs)
+    (λ c. search needs)
     returns-4)

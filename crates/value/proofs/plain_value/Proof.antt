@@ -33,15 +33,6 @@ module _ (n : ℕ) (small : n ≤ coordinateLimit) where
   positive-is : (negative : Bool) (whole : ℕ) → negative ≡ false → whole ≡ n → toZ w32 whole ≡ signed negative n
   positive-is negative whole t e = ap (toZ w32) e ∙ toZ-pos w32 (omega arith) ∙ sym (ap (λ b. signed b n) t)
 
-enum-told : tie.Need-enum-told
-enum-told c = search needs
-
-enum-known-number : tie.Need-enum-known-number
-enum-known-number c = search needs
-
-cast-if1 : tie.Need-cast-if1
-cast-if1 c = search needs
-
 returns : tie.Need-returns
 returns c =
     let start = c .before .before .before .before in
@@ -51,17 +42,8 @@ returns c =
     sym (ap (plainUnder range) (given .1)
     ∙ far-away range (start .pre) z (Reads z) (omega (arith, signed-abs (given .0 .0) (given .0 .1 .0))))
 
-cast-size : tie.Need-cast-size
-cast-size c = search needs
-
 sub-whole : tie.Need-sub-whole
 sub-whole c = opposite-fits (c .before .before .before .number .given .0 .1 .0) (omega arith)
-
-in-range-requires : tie.Need-in-range-requires
-in-range-requires c κs = search needs
-
-returns-2 : tie.Need-returns-2
-returns-2 c = search needs
 
 -- the number, and what is answered by the test
 module _ (c : tie.After-in-range) where
@@ -90,13 +72,13 @@ pub plain-value-spec : {M : Type 1} → statement M
 plain-value-spec =
     tie.close
     (tie.spec
-    enum-told
-    enum-known-number
-    cast-if1
+    (λ c. search needs)
+    (λ c. search needs)
+    (λ c. search needs)
     returns
-    cast-size
+    (λ c. search needs)
     sub-whole
-    in-range-requires
-    returns-2
+    (λ c κs. search needs)
+    (λ c. search needs)
     returns-3
     returns-4)

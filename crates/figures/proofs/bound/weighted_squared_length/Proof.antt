@@ -43,19 +43,24 @@ cast-sum c = omega (arith, c .shared-slice-known2 .given (c .before .before .loo
 squared-length-requires : tie.Need-squared-length-requires Inv-loop μ-loop
 squared-length-requires c κs = table-row (c .before .before .before .before .pre .0) (c .before .before .loop .i) (omega arith)
 
+abbrev start-of : tie.After-squared-length Inv-loop μ-loop → tie.Start Inv-loop μ-loop
+start-of c =
+    let at-loop = c .before .before .before in
+    at-loop .before .before
+
 mul-sum-2 : tie.Need-mul-sum-2 Inv-loop μ-loop
 mul-sum-2 c =
     let l = c .before .before .before .loop in
-    omega (arith, sum-most (c .before .before .before .before .before .pre .1) (l .i) (omega arith) (c .squared-length .ensures))
+    omega (arith, sum-most (start-of c .pre .1) (l .i) (omega arith) (c .squared-length .ensures))
 
 add-sum : tie.Need-add-sum Inv-loop μ-loop
 add-sum c =
     let l = c .before .before .before .loop in
-    omega (arith, sum-most (c .before .before .before .before .before .pre .1) (l .i) (omega arith) (c .squared-length .ensures))
+    omega (arith, sum-most (start-of c .pre .1) (l .i) (omega arith) (c .squared-length .ensures))
 
 loop-again : tie.Need-loop-again Inv-loop μ-loop
 loop-again c =
-    let s = c .before .before .before .before .before in
+    let s = start-of c in
     let l = c .before .before .before .loop in
     rw (sumℕ-next (weightOf (s .args .weights .now)) (l .i))
     (partial-more (weightOf (s .args .weights .now) (l .i)) (l .inv) (omega arith)

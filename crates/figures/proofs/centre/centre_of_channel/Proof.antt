@@ -83,27 +83,32 @@ mul-weighted-2 c = omega (arith, table-row (c .before .before .before .before .p
 shared-slice-copy-out-weighted : tie.Need-shared-slice-copy-out-weighted Inv-loop μ-loop
 shared-slice-copy-out-weighted c = omega (arith, table-row (c .before .before .before .before .pre .0) (c .before .before .loop .i) (omega arith) .places)
 
+abbrev start-of : tie.After-weighted-arg Inv-loop μ-loop → tie.Start Inv-loop μ-loop
+start-of c =
+    let at-loop = c .before .before .before in
+    at-loop .before .before
+
 weighted-requires : tie.Need-weighted-requires Inv-loop μ-loop
 weighted-requires c κs =
-    let s = c .before .before .before .before .before .pre in
+    let s = start-of c .pre in
     let l = c .before .before .before .loop in
     (weight-most (s .1 .0) (l .i) (omega arith), passed (element (s .0) (s .1 .0) (s .1 .1) (l .inv) (omega arith)))
 
 add-sum : tie.Need-add-sum Inv-loop μ-loop
 add-sum c =
-    let s = c .before .before .before .before .before .before .pre in
+    let s = start-of (c .before) .pre in
     let l = c .before .before .before .before .loop in
     fits (next (s .0) (s .1 .0) (s .1 .1) (l .inv) (omega arith) (c .weighted .ensures))
     (small (s .0) (s .1 .0) (s .1 .1) (l .inv) (omega arith) (c .weighted .ensures))
 
 add-at : tie.Need-add-at Inv-loop μ-loop
 add-at c =
-    let s = c .before .before .before .before .before .before .pre in
+    let s = start-of (c .before) .pre in
     omega (arith, table-row (s .0) (c .before .before .before .before .loop .i) (omega arith) .places)
 
 loop-again : tie.Need-loop-again Inv-loop μ-loop
 loop-again c =
-    let s = c .before .before .before .before .before .before .pre in
+    let s = start-of (c .before) .pre in
     passed-more (s .0) (s .1 .0) (s .1 .1) (c .before .before .before .before .loop .inv) (omega arith) (c .weighted .ensures)
 
 returns : tie.Need-returns Inv-loop μ-loop

@@ -26,15 +26,17 @@ loop-holds c = partial-none
 
 scaled-square-requires : tie.Need-scaled-square-requires Inv-loop μ-loop
 scaled-square-requires c κs =
-    let s = c .before .before .before .before .before in
-    let k = c .before .before .before .loop .k in
+    let at-loop = c .before .before .before in
+    let s = at-loop .before .before in
+    let k = at-loop .loop .k in
     (passed (row-held (s .pre .0) k (omega arith)), passed (centre-held (s .pre .1) k (omega arith)))
 
 loop-again : tie.Need-loop-again Inv-loop μ-loop
 loop-again c =
-    let s = c .before .before .before .before .before .before in
-    let k = c .before .before .before .before .loop .k in
-    partial-more 1 (c .before .before .before .before .loop .inv) (omega arith)
+    let at-loop = c .before .before .before .before in
+    let s = at-loop .before .before in
+    let k = at-loop .loop .k in
+    partial-more 1 (at-loop .loop .inv) (omega arith)
     (given₂ (row-held (s .pre .0) k (omega arith)) (λ a x. square (pos total *ℤ a -ℤ x)) (centre-held (s .pre .1) k (omega arith)) (c .scaled-square .ensures))
 
 returns : tie.Need-returns Inv-loop μ-loop

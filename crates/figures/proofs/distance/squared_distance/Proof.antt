@@ -25,15 +25,17 @@ loop-holds c = partial-none
 
 square-of-difference-requires : tie.Need-square-of-difference-requires Inv-loop μ-loop
 square-of-difference-requires c κs =
-    let s = c .before .before .before .before .before in
-    let k = c .before .before .before .loop .k in
+    let at-loop = c .before .before .before in
+    let s = at-loop .before .before in
+    let k = at-loop .loop .k in
     (passed (row-held (s .pre .0) k (omega arith)), passed (row-held (s .pre .1) k (omega arith)))
 
 loop-again : tie.Need-loop-again Inv-loop μ-loop
 loop-again c =
-    let s = c .before .before .before .before .before .before in
-    let k = c .before .before .before .before .loop .k in
-    partial-more 1 (c .before .before .before .before .loop .inv) (omega arith)
+    let at-loop = c .before .before .before .before in
+    let s = at-loop .before .before in
+    let k = at-loop .loop .k in
+    partial-more 1 (at-loop .loop .inv) (omega arith)
     (given₂ (row-held (s .pre .0) k (omega arith)) (λ a b. square (a -ℤ b)) (row-held (s .pre .1) k (omega arith)) (c .square-of-difference .ensures))
 
 returns : tie.Need-returns Inv-loop μ-loop

@@ -20,16 +20,18 @@ loop-holds c = places-none coordinateLimit (c .args .rows .now) (c .args .count)
 
 returns : tie.Need-returns Inv-loop μ-loop
 returns c =
-    let s = c .before .before .before .before .before .args in
-    let l = c .before .before .before .before .loop in
+    let at-loop = c .before .before .before .before in
+    let s = at-loop .before .args in
+    let l = at-loop .loop in
     let t = c .before .coordinate-within in
     places-fail coordinateLimit (s .rows .now) (s .count) w32 (l .i)
     (omega arith) (sfits-of (c .before .before .coordinate .given)) (t .result) (t .ensures) (c .if1 .taken)
 
 loop-again : tie.Need-loop-again Inv-loop μ-loop
 loop-again c =
-    let s = c .before .before .before .before .before .args in
-    let l = c .before .before .before .before .loop in
+    let at-loop = c .before .before .before .before in
+    let s = at-loop .before .args in
+    let l = at-loop .loop in
     let t = c .before .coordinate-within in
     places-next coordinateLimit (s .rows .now) (s .count) w32 (l .i)
     (omega arith) (sfits-of (c .before .before .coordinate .given)) (t .result) (t .ensures) (l .inv) (c .if1 .left)
