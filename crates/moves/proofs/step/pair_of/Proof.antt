@@ -92,12 +92,6 @@ sub-gap c =
     let p = c .before .before .before .before .before .pre in
     near-most (le-refl total) (p .0) (p .1 .0) (p .1 .1) (c .before .before .before .farthest-row .ensures) (c .before .before .nearest-row .ensures)
 
-cast-difference : tie.Need-cast-difference
-cast-difference c = search needs
-
-div-difference : tie.Need-div-difference
-div-difference c = search needs
-
 squared-distance-requires : tie.Need-squared-distance-requires
 squared-distance-requires c κs =
     let t = c .before .before .before .before .before .pre .0 in
@@ -118,7 +112,7 @@ pair-of-spec =
     farthest-row-requires
     nearest-row-requires
     sub-gap
-    cast-difference
-    div-difference
+    (λ c. search needs)
+    (λ c. search needs)
     squared-distance-requires
     returns)
