@@ -24,7 +24,9 @@ slice-aggregate-check-weights : tie.Need-slice-aggregate-check-weights
 slice-aggregate-check-weights c = sym (length-take-le _ _ (omega arith))
 
 ball-agrees-requires : tie.Need-ball-agrees-requires
-ball-agrees-requires c κs = within-table _ _ _ (c .before .before .before .before .before .before .pre) .channels
+ball-agrees-requires c κs =
+    let at-none-past = c .before .before .before in
+    within-table _ _ _ (at-none-past .before .before .before .pre) .channels
 
 returns-3 : tie.Need-returns-3
 returns-3 c =

@@ -41,8 +41,9 @@ loop-holds c = (omega arith, λ j b. absurd (omega arith))
 returns : tie.Need-returns Inv-loop μ-loop
 returns c =
     let t = c .before in
-    let l = t .before .before .before .before .loop in
-    let s = t .before .before .before .before .before .args in
+    let at-loop = t .before .before .before .before in
+    let l = at-loop .loop in
+    let s = at-loop .before .args in
     refuted _ (λ h.
     apart (sfits-of (t .before .before .x .given)) (sfits-of (t .before .same-integer-arg .given)) (t .same-integer .ensures) (c .if1 .taken)
     (samePlaces-at (s .a .now) (s .b .now) (s .n) h (l .k) (omega arith)))
@@ -50,8 +51,9 @@ returns c =
 loop-again : tie.Need-loop-again Inv-loop μ-loop
 loop-again c =
     let t = c .before in
-    let l = t .before .before .before .before .loop in
-    let s = t .before .before .before .before .before .args in (
+    let at-loop = t .before .before .before .before in
+    let l = at-loop .loop in
+    let s = at-loop .before .args in (
       omega arith,
       below-more (λ j. centreOf (s .a .now) j ≡ centreOf (s .b .now) j) (l .k) (l .inv .1)
           (same (sfits-of (t .before .before .x .given)) (sfits-of (t .before .same-integer-arg .given)) (t .same-integer .ensures) (c .if1 .left)),

@@ -31,8 +31,9 @@ module _ {rows : List ℤ} {m n : ℕ} where
 
 returns : tie.Need-returns
 returns c =
-    let asked = c .before .before .before .before .before .pre in
-    gathered (asked .0) (asked .1 .1 .0) (asked .1 .1 .1) (c .before .before .scaled-lower-bound .ensures) (c .filled-ball .ensures)
+    let at-scaled-lower-bound = c .before .before in
+    let asked = at-scaled-lower-bound .before .before .before .pre in
+    gathered (asked .0) (asked .1 .1 .0) (asked .1 .1 .1) (at-scaled-lower-bound .scaled-lower-bound .ensures) (c .filled-ball .ensures)
 
 pub ball-of-spec : {M : Type 1} → statement M
 ball-of-spec = tie.close (tie.spec (λ c κs. search needs) (λ c κs. search needs) returns)

@@ -24,14 +24,16 @@ loop-holds c = (omega arith, refl)
 
 returns : tie.Need-returns Inv-loop μ-loop
 returns c =
-    let s = c .before .before .before .before .before .before .args in
-    codes-fail channelTypes (s .codes .now) (s .n) (c .before .before .before .before .loop .i) (omega arith) (omega arith)
+    let at-loop = c .before .before .before .before in
+    let s = at-loop .before .before .args in
+    codes-fail channelTypes (s .codes .now) (s .n) (at-loop .loop .i) (omega arith) (omega arith)
     (sym (c .before .is-known .ensures) ∙ not-true _ (c .if1 .taken))
 
 loop-again : tie.Need-loop-again Inv-loop μ-loop
 loop-again c =
-    let s = c .before .before .before .before .before .before .args in
-    let l = c .before .before .before .before .loop in (
+    let at-loop = c .before .before .before .before in
+    let s = at-loop .before .before .args in
+    let l = at-loop .loop in (
       omega arith,
       codes-next channelTypes (s .codes .now) (l .i) (omega arith) (l .inv .1) (sym (c .before .is-known .ensures) ∙ not-false _ (c .if1 .left)),
     )

@@ -15,7 +15,8 @@ copy-requires c κs = omega (arith, c .before .before .before .before .pre, leng
 
 returns : tie.Need-returns
 returns c =
-    let start = c .before .before .before .before .before .before .before in
+    let at-copy-arg2 = c .before .before .before in
+    let start = at-copy-arg2 .before .before .before .before in
     c .before .before .copy .ensures .1 ∙ part-copied (start .args .count) (start .args .source .now) (start .args .lent .now) (start .pre .1)
 
 pub fill-codes-spec : {M : Type 1} → statement M

@@ -34,13 +34,15 @@ has-bytes-requires : tie.Need-has-bytes-requires Inv-loop μ-loop
 has-bytes-requires c κs = tag-within (c .tag-at .result) _ (c .tag-at .ensures) (house-tag (c .before .before .loop .at))
 
 -- what the code of the field is, by what the test gives
-decided : (c : tie.After-has-bytes Inv-loop μ-loop) (b : Bool) → c .has-bytes .result ≡ b
-    → codeIn houseTypes (c .before .before .before .before .before .args .field .now)
-    ≡ cond b (getD houseTypes (c .before .before .before .loop .at) noType .code)
-    (codeIn (drop (c .before .before .before .loop .at + 1) houseTypes) (c .before .before .before .before .before .args .field .now))
+decided : (c : tie.After-has-bytes Inv-loop μ-loop) (b : Bool) → let at-loop = c .before .before .before in
+    c .has-bytes .result ≡ b
+    → codeIn houseTypes (at-loop .before .before .args .field .now)
+    ≡ cond b (getD houseTypes (at-loop .loop .at) noType .code)
+    (codeIn (drop (at-loop .loop .at + 1) houseTypes) (at-loop .before .before .args .field .now))
 decided c b e =
-    let field = c .before .before .before .before .before .args .field .now in
-    let at = c .before .before .before .loop in
+    let at-loop = c .before .before .before in
+    let field = at-loop .before .before .args .field .now in
+    let at = at-loop .loop in
     let tag-at = c .before .tag-at in
     found field (at .at) (omega arith) (at .inv .1) b
     (ap (λ l. same l field) (sym (tag-taken (tag-at .result) _ (tag-at .ensures) (house-tag (at .at)))) ∙ sym (c .has-bytes .ensures) ∙ e)

@@ -41,18 +41,22 @@ returns-2 c =
 returns-3 : tie.Need-returns-3
 returns-3 c =
     let test = c .before .before in
-    let start = test .before .before .before .before .before .before in
+    let at-channel-within = test .before .before in
+    let start = at-channel-within .before .before .before .before in
     c .refused-mark3 .ensures
     ∙ sym (refuses-vertical total channelTypes (figures start) (start .args .horizontal) (start .args .vertical)
     (sym (test .channel-within2 .ensures) ∙ not-true _ (c .before .if3 .taken)))
 
 -- past the tests
 module _ (c : tie.Else3) where
+  abbrev at-else1 : tie.Else1
+  at-else1 = c .before .before .before .before
+
   abbrev start : tie.Start
-  start = c .before .before .before .before .before .before .before
+  start = at-else1 .before .before .before
 
   figures-pass : figuresKnown total channelTypes (figures start) ≡ true
-  figures-pass = sym (c .before .before .before .before .before .figures-known-lent .ensures) ∙ not-false _ (c .before .before .before .before .if1 .left)
+  figures-pass = sym (at-else1 .before .figures-known-lent .ensures) ∙ not-false _ (at-else1 .if1 .left)
 
   horizontal-passes : channelWithin (start .args .scalars .n) (start .args .horizontal) ≡ true
   horizontal-passes = sym (c .before .before .before .channel-within .ensures) ∙ not-false _ (c .before .before .if2 .left)

@@ -5,7 +5,9 @@ use Rattle.drawing.proofs.drawn_within.Statement.{statement}
 use Rattle.drawing.proofs.drawn_within.Tie as tie
 
 returns : tie.Need-returns
-returns c = drew (c .before .before .before .before .before .run .ensures) (c .ball-of .ensures)
+returns c =
+    let at-weights2 = c .before in
+    drew (at-weights2 .before .before .before .before .run .ensures) (c .ball-of .ensures)
 
 pub drawn-within-spec : {M : Type 1} → statement M
 drawn-within-spec =

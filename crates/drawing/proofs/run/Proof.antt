@@ -21,7 +21,10 @@ abbrev μ-loop : tie.MeasureT-loop
 
 -- seen from the body of the loop: the function's entry, the loop's head, and that the test holds
 abbrev entry : tie.Then1 Inv-loop μ-loop → tie.Start Inv-loop μ-loop
-entry c = c .before .before .before .before .before .before .before .before .before
+entry c =
+    let at-loop = c .before .before in
+    let at-scaled-centre = at-loop .before .before .before .before in
+    at-scaled-centre .before .before .before
 
 abbrev head : tie.Then1 Inv-loop μ-loop → tie.At-loop Inv-loop μ-loop
 head c = c .before .before
@@ -36,12 +39,14 @@ scaled-centre-requires c κs =
 
 pair-of-requires : tie.Need-pair-of-requires Inv-loop μ-loop
 pair-of-requires c κs =
-    let table = c .before .before .before .before .before .pre in
-    (table, (start-good table (c .before .before .before .before .all-on-first .ensures), c .before .before .scaled-centre .ensures))
+    let at-scaled-centre = c .before .before in
+    let table = at-scaled-centre .before .before .before .pre in
+    (table, (start-good table (at-scaled-centre .before .before .all-on-first .ensures), at-scaled-centre .scaled-centre .ensures))
 
 loop-holds : tie.Need-loop-holds Inv-loop μ-loop
 loop-holds c =
-    let first = c .before .before .before .before .before in
+    let at-scaled-centre2 = c .before in
+    let first = at-scaled-centre2 .before .before .before .before in
     begins (first .before .pre) (first .all-on-first .ensures) (lit≤ tt) (le-refl total) (c .before .before .before .scaled-centre .ensures) (c .pair-of .ensures)
 
 mul-transfer-of : tie.Need-mul-transfer-of Inv-loop μ-loop
@@ -71,12 +76,13 @@ shift-centre-requires c κs =
 
 pair-of-requires-2 : tie.Need-pair-of-requires-2 Inv-loop μ-loop
 pair-of-requires-2 c κs =
-    let turn = c .before .before .before .before .before in
+    let at-shift-centre = c .before .before in
+    let turn = at-shift-centre .before .before .before in
     let table = entry turn .pre in
     let here = head turn .loop .inv in
-    let stepped = c .before .before .before .before .transfer-of .ensures in
-    let move = c .before .before .before .one-move .ensures in
-    let shift = c .before .before .shift-centre .ensures in (
+    let stepped = at-shift-centre .before .before .transfer-of .ensures in
+    let move = at-shift-centre .before .one-move .ensures in
+    let shift = at-shift-centre .shift-centre .ensures in (
       table,
       (
         moved-good table here (goes turn) stepped (omega (arith, here .paired)) _ move (omega (arith, here .paired)),
@@ -86,25 +92,31 @@ pair-of-requires-2 c κs =
 
 add-moves : tie.Need-add-moves Inv-loop μ-loop
 add-moves c =
-    let turn = c .before .before .before .before .before .before in
+    let at-shift-centre = c .before .before .before in
+    let turn = at-shift-centre .before .before .before in
     omega (arith, more (entry turn .pre) (head turn .loop .inv) (goes turn), entry turn .fits .budget)
 
 loop-less : tie.Need-loop-less Inv-loop μ-loop
 loop-less c =
-    let turn = c .before .before .before .before .before .before in
+    let at-shift-centre = c .before .before .before in
+    let turn = at-shift-centre .before .before .before in
     omega (arith, more (entry turn .pre) (head turn .loop .inv) (goes turn))
 
 loop-again : tie.Need-loop-again Inv-loop μ-loop
 loop-again c =
-    let turn = c .before .before .before .before .before .before in
-    let stepped = c .before .before .before .before .before .transfer-of .ensures in
-    let move = c .before .before .before .before .one-move .ensures in
-    let shift = c .before .before .before .shift-centre .ensures in
+    let at-shift-centre = c .before .before .before in
+    let turn = at-shift-centre .before .before .before in
+    let stepped = at-shift-centre .before .before .transfer-of .ensures in
+    let move = at-shift-centre .before .one-move .ensures in
+    let shift = at-shift-centre .shift-centre .ensures in
     let here = head turn .loop .inv in
     again (entry turn .pre) here (goes turn) stepped (omega (arith, here .paired)) _ move (omega (arith, here .paired)) shift refl refl (c .pair-of2 .ensures)
 
 returns : tie.Need-returns Inv-loop μ-loop
-returns c = ends (c .before .before .before .before .before .before .before .before .before .pre) (c .before .before .loop .inv) (c .before .goes-on .ensures) (c .if1 .left)
+returns c =
+    let at-loop = c .before .before in
+    let at-scaled-centre = at-loop .before .before .before .before in
+    ends (at-scaled-centre .before .before .before .pre) (at-loop .loop .inv) (c .before .goes-on .ensures) (c .if1 .left)
 
 pub run-spec : {M : Type 1} → statement M
 run-spec =

@@ -20,16 +20,18 @@ loop-holds c = places-none (centreLimit total) (c .args .scaled-centre .now) (c 
 
 returns : tie.Need-returns Inv-loop μ-loop
 returns c =
-    let s = c .before .before .before .before .before .args in
-    let l = c .before .before .before .before .loop in
+    let at-loop = c .before .before .before .before in
+    let s = at-loop .before .args in
+    let l = at-loop .loop in
     let t = c .before .place-within in
     places-fail (centreLimit total) (s .scaled-centre .now) (s .n) w64 (l .k)
     (omega arith) (sfits-of (c .before .before .x .given)) (t .result) (t .ensures) (c .if1 .taken)
 
 loop-again : tie.Need-loop-again Inv-loop μ-loop
 loop-again c =
-    let s = c .before .before .before .before .before .args in
-    let l = c .before .before .before .before .loop in
+    let at-loop = c .before .before .before .before in
+    let s = at-loop .before .args in
+    let l = at-loop .loop in
     let t = c .before .place-within in
     places-next (centreLimit total) (s .scaled-centre .now) (s .n) w64 (l .k)
     (omega arith) (sfits-of (c .before .before .x .given)) (t .result) (t .ensures) (l .inv) (c .if1 .left)

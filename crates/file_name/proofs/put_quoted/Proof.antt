@@ -9,7 +9,8 @@ use Rattle.file_name.proofs.put_quoted.Tie as tie
 returns : tie.Need-returns
 returns c =
     let at-second = c .before .before in
-    let at-start = at-second .before .before .before .before .before in
+    let at-out2 = at-second .before .before .before .before in
+    let at-start = at-out2 .before in
     let at-first = at-start .before .before .before .before in
     put-within (put-then (put-then (at-first .put-bytes .ensures) (at-start .put-start .ensures .put)) (at-second .put-bytes2 .ensures)) (omega arith)
     (omega arith)

@@ -29,10 +29,11 @@ loop-holds c = (omega arith, omega arith, put-as (put-none _ _) (sym escaped-non
 
 loop-again : tie.Need-loop-again Inv-loop μ-loop
 loop-again c =
-    let at-loop = c .before .before .before .before .before .before in
+    let at-put-escaped-byte = c .before .before in
+    let at-loop = at-put-escaped-byte .before .before .before .before in
     let name = at-loop .before .before .before .before .args .name .now in
     let more = byte-more name (at-loop .loop .i) (omega arith) in
-    let printed = c .before .before .put-escaped-byte .ensures in
+    let printed = at-put-escaped-byte .put-escaped-byte .ensures in
     (omega arith, omega arith, put-as (put-then (at-loop .loop .inv .2) (printed .put)) more refl)
 
 returns : tie.Need-returns Inv-loop μ-loop

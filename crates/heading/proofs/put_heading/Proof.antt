@@ -55,14 +55,19 @@ tag-more codes i h {out} {from = from} within f p = (
 cast-t9 : tie.Need-cast-t9 Inv-loop μ-loop
 cast-t9 c = fits64 (pos (c .before .before .before .args .n)) (omega arith)
 
+abbrev start-of : tie.After-count Inv-loop μ-loop → tie.Start Inv-loop μ-loop
+start-of c =
+    let at-put-numbers-arg = c .before in
+    at-put-numbers-arg .before .before .before .before
+
 put-numbers-requires : tie.Need-put-numbers-requires Inv-loop μ-loop
 put-numbers-requires c κs =
-    let n = c .before .before .before .before .before .args .n in
+    let n = start-of c .args .n in
     (omega arith, (held-below (n ∷ []) (alone (2 ^ 63) n (omega arith)), omega arith))
 
 loop-holds : tie.Need-loop-holds Inv-loop μ-loop
 loop-holds c =
-    let start = c .before .before .before .before .before .before .before .before in
+    let start = start-of (c .before .before .before) in
     let first = counted (start .args .n) (omega arith) (start .args .word .now) (c .before .before .put-numbers .ensures) in
     (omega arith, omega arith, put-as (put-none _ _) (sym (tags-first channelTypes)) refl)
 
@@ -73,15 +78,16 @@ put-tag-requires c κs =
 
 loop-again : tie.Need-loop-again Inv-loop μ-loop
 loop-again c =
-    let at-loop = c .before .before .before .before .before .before in
-    let start = at-loop .before .before .before .before .before .before .before .before .before in
-    let more = tag-more (start .args .codes .now) (at-loop .loop .i) (omega arith) (omega arith) (at-loop .loop .inv .2) (c .before .before .put-tag .ensures) in
+    let at-put-tag = c .before .before in
+    let at-loop = at-put-tag .before .before .before .before in
+    let start = start-of (at-loop .before .before .before .before) in
+    let more = tag-more (start .args .codes .now) (at-loop .loop .i) (omega arith) (omega arith) (at-loop .loop .inv .2) (at-put-tag .put-tag .ensures) in
     (omega arith, omega arith, more .1)
 
 returns : tie.Need-returns Inv-loop μ-loop
 returns c =
     let at-loop = c .before in
-    let start = at-loop .before .before .before .before .before .before .before .before .before in
+    let start = start-of (at-loop .before .before .before .before) in
     let all : at-loop .loop .i ≡ start .args .n = omega arith in
     let codes = take (start .args .n) (start .args .codes .now) in
     let n : start .args .n ≡ length codes = sym (length-take-le _ _ (omega arith)) in

@@ -35,8 +35,9 @@ put-bytes-requires c κs =
 
 returns : tie.Need-returns
 returns c =
-    let at-tag = c .before .before .before .before .before .before in
-    put-as (c .before .before .put-bytes .ensures) (tag-taken (at-tag .tag-of .result) _ (at-tag .tag-of .ensures) (short _)) refl
+    let at-put-bytes = c .before .before in
+    let at-tag = at-put-bytes .before .before .before .before in
+    put-as (at-put-bytes .put-bytes .ensures) (tag-taken (at-tag .tag-of .result) _ (at-tag .tag-of .ensures) (short _)) refl
 
 pub put-tag-spec : {M : Type 1} → statement M
 put-tag-spec =

@@ -35,7 +35,8 @@ returns c =
 
 returns-2 : tie.Need-returns-2
 returns-2 c =
-    let at-end = c .before .before .before .before .before in
+    let at-same-bytes = c .before .before .before in
+    let at-end = at-same-bytes .before .before in
     let line = now (at-end .before .before .before .args .line) in
     let end = at-end .field-end .result in
     c .no-heading2 .ensures
@@ -43,13 +44,15 @@ returns-2 c =
     (first at-end ∙ ap (λ l. take end line ∷ l) (parts-none comma line (end + 1) (c .before .if2 .taken)))))
 
 fields : (c : tie.After-field-end2)
-    → let at-end = c .before .before .before .before .before in
+    → let at-same-bytes = c .before .before .before in
+    let at-end = at-same-bytes .before .before in
     let line = now (at-end .before .before .before .args .line) in
     let at = at-end .field-end .result + 1 in
     let end = c .field-end2 .result in
     cut comma line ≡ take (at-end .field-end .result) line ∷ take (end - at) (drop at line) ∷ partsFrom comma line (end + 1)
 fields c =
-    let at-end = c .before .before .before .before .before in
+    let at-same-bytes = c .before .before .before in
+    let at-end = at-same-bytes .before .before in
     let line = now (at-end .before .before .before .args .line) in
     first at-end
     ∙ ap (λ l. take (at-end .field-end .result) line ∷ l)
@@ -59,8 +62,9 @@ returns-3 : tie.Need-returns-3
 returns-3 c =
     let at-count = c .before .before in
     let at-second = at-count .before .before in
+    let at-same-bytes-arg = at-second .before .before .before .before in
     c .no-heading3 .ensures
-    ∙ sym (ap headingRead (heading-no-count (now (at-second .before .before .before .before .before .before .before .before .args .word)) channelLimit channelTypes _ (fields at-second)
+    ∙ sym (ap headingRead (heading-no-count (now (at-same-bytes-arg .before .before .before .before .args .word)) channelLimit channelTypes _ (fields at-second)
     (sym (at-count .stated-count .ensures) ∙ c .before .if3 .taken)))
 
 read-tags-requires : tie.Need-read-tags-requires
@@ -71,10 +75,11 @@ returns-4 c =
     let at-count = c .before .before in
     let at-second = at-count .before .before in
     let at-same = at-second .before .before .before in
-    let line = now (at-same .before .before .before .before .before .args .line) in
+    let at-field-end = at-same .before .before in
+    let line = now (at-field-end .before .before .before .args .line) in
     c .read-tags .ensures
     ∙ ap (λ n. tagsRead channelTypes n (partsFrom comma line (at-second .field-end2 .result + 1))) (at-count .stated-count .ensures)
-    ∙ sym (heading-tags (now (at-same .before .before .before .before .before .args .word)) channelLimit channelTypes _ (fields at-second)
+    ∙ sym (heading-tags (now (at-field-end .before .before .before .args .word)) channelLimit channelTypes _ (fields at-second)
     (sym (at-same .same-bytes .ensures) ∙ not-false _ (at-second .before .before .if1 .left))
     (λ z. c .before .if3 .left (at-count .stated-count .ensures ∙ z)))
 

@@ -22,7 +22,8 @@ returns-2 c =
 
 returns-3 : tie.Need-returns-3
 returns-3 c =
-    let b = c .before .before .before .before .before .args .byte in
+    let at-else3 = c .before in
+    let b = at-else3 .before .before .before .before .args .byte in
     sym (digit-at b (range-in 65 90 b (omega arith) (omega arith)) refl refl)
 
 returns-4 : tie.Need-returns-4
@@ -37,7 +38,8 @@ returns-5 c =
 
 returns-6 : tie.Need-returns-6
 returns-6 c =
-    let b = c .before .before .before .before .before .args .byte in
+    let at-else3 = c .before in
+    let b = at-else3 .before .before .before .before .args .byte in
     sym (digit-at b (range-over 65 90 b (omega arith)) (range-over 48 57 b (omega arith)) (ne-eqb b hyphen (omega arith)))
 
 pub label-digit-spec : {M : Type 1} → statement M

@@ -33,8 +33,9 @@ loop-holds c = near-start
 
 scaled-squared-distance-requires : tie.Need-scaled-squared-distance-requires Inv-loop μ-loop
 scaled-squared-distance-requires c κs =
-    let p = c .before .before .before .before .before .pre in
-    (table-row (p .0) (c .before .before .before .loop .i) (c .before .before .loop-test .taken), p .1 .0)
+    let at-loop = c .before .before .before in
+    let p = at-loop .before .before .pre in
+    (table-row (p .0) (at-loop .loop .i) (c .before .before .loop-test .taken), p .1 .0)
 
 loop-again : tie.Need-loop-again Inv-loop μ-loop
 loop-again c =

@@ -34,16 +34,18 @@ loop-holds c = (omega arith, refl)
 
 shifted-requires : tie.Need-shifted-requires Inv-loop μ-loop
 shifted-requires c κs =
-    let p = c .before .before .before .before .before .before .pre in
-    let k = c .before .before .before .before .loop .k in
-    let l : k < c .before .before .before .before .before .before .args .n = omega arith in
+    let at-loop = c .before .before .before .before in
+    let p = at-loop .before .before .pre in
+    let k = at-loop .loop .k in
+    let l : k < at-loop .before .before .args .n = omega arith in
     (passed (centre-held (p .1 .1 .0) k l), (p .1 .1 .1, (passed (row-held (p .1 .0) k l), passed (row-held (p .0) k l))))
 
 loop-again : tie.Need-loop-again Inv-loop μ-loop
 loop-again c =
-    let p = c .before .before .before .before .before .before .before .pre in
-    let f = c .before .before .before .before .before .loop in
-    let a = c .before .before .before .before .before .before .before .args in
+    let in-loop = c .before .before .before .before in
+    let p = in-loop .before .before .before .pre in
+    let f = in-loop .before .loop in
+    let a = in-loop .before .before .before .args in
     let l : f .k < a .n = omega arith in
     let X = place (a .rows .now) (a .n) (a .from) (a .to) (a .t) (a .t1) in
     let e : c .shifted .result ≡ X (f .k) =
