@@ -14,14 +14,17 @@ use Rattle.message.proofs.put_argument.Tie as tie
 
 put-number-requires : tie.Need-put-number-requires
 put-number-requires c κs =
-    let index = c .before .before .before .before .before .before .before .before .before .before .before .before .args .index in
+    let at-put-bytes-arg2 = c .before .before .before .before in
+    let at-put-program = at-put-bytes-arg2 .before .before .before .before in
+    let index = at-put-program .before .before .before .before .args .index in
     (omega (arith, ap natAbs (back64 (pos index) (omega arith))), omega arith)
 
 returns : tie.Need-returns
 returns c =
     let at-number = c .before .before in
     let at-word = at-number .before .before .before .before in
-    let at-program = at-word .before .before .before .before .before in
+    let at-out = at-word .before .before .before .before in
+    let at-program = at-out .before in
     let index = at-program .before .before .before .before .args .index in
     let number : Put (print (pos index)) _ _ _ _ = put-as (at-number .put-number .ensures) (ap print (back64 (pos index) (omega arith))) refl in
     let short = print-short numberDigits (pos index) (omega arith) (omega arith) in

@@ -10,7 +10,8 @@ returns : tie.Need-returns
 returns c =
     let at-name = c .before .before in
     let at-blank = at-name .before .before .before .before in
-    let at-argument = at-blank .before .before .before .before .before in
+    let at-out = at-blank .before .before .before .before in
+    let at-argument = at-out .before in
     put-within (put-then (put-then (at-argument .put-argument .ensures .put) (at-blank .put-bytes .ensures)) (at-name .put-name .ensures .put)) (omega arith)
     (omega arith)
 

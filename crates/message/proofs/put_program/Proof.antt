@@ -9,7 +9,8 @@ use Rattle.message.proofs.put_program.Tie as tie
 returns : tie.Need-returns
 returns c =
     let at-second = c .before .before in
-    let at-first = at-second .before .before .before .before .before in
+    let at-out = at-second .before .before .before .before in
+    let at-first = at-out .before in
     put-within (put-then (at-first .put-start .ensures .put) (at-second .put-bytes .ensures)) (omega arith) (omega arith)
 
 pub put-program-spec : {M : Type 1} → statement M

@@ -30,19 +30,20 @@ returns-2 c =
     sym (at .loop .inv .2 ∙ digits-other _ _ _ (c .before .before .before .loop-test .taken) (above-digit _ (c .if2 .taken)))
 
 loop-again : tie.Need-loop-again Inv-loop μ-loop
-loop-again c = (
-  omega arith,
-  omega (arith, c .with-digit .ensures),
-  c .before .before .before .before .before .loop .inv .2
-      ∙ digits-more
-      _
-      _
-      _
-      _
-      (c .before .before .before .before .loop-test .taken)
-      (range-digit _ (c .before .before .if1 .left) (c .before .if2 .left))
-      (c .with-digit .ensures),
-)
+loop-again c =
+    let in-loop = c .before .before .before .before in (
+      omega arith,
+      omega (arith, c .with-digit .ensures),
+      in-loop .before .loop .inv .2
+          ∙ digits-more
+          _
+          _
+          _
+          _
+          (in-loop .loop-test .taken)
+          (range-digit _ (c .before .before .if1 .left) (c .before .if2 .left))
+          (c .with-digit .ensures),
+    )
 
 returns-3 : tie.Need-returns-3 Inv-loop μ-loop
 returns-3 c = sym (c .before .loop .inv .2 ∙ digits-end _ _ _ (c .loop-test .left) (c .before .loop .inv .1))

@@ -15,12 +15,15 @@ use Rattle.number.proofs.plain_number.Statement.{statement}
 use Rattle.number.proofs.plain_number.Tie as tie
 
 -- what is read of the whole field, and of its rest after a hyphen
-unsigned-at : (c : tie.After-unsigned) → plainRead (plain (c .before .before .before .before .before .args .field .now)) ≡ unsignedRead (c .unsigned .result)
+unsigned-at : (c : tie.After-unsigned) → let at-else1 = c .before .before .before in
+    plainRead (plain (at-else1 .before .before .args .field .now)) ≡ unsignedRead (c .unsigned .result)
 unsigned-at c = unsigned-read _ (omega arith) (c .before .if2 .taken) ∙ ap unsignedRead (sym (c .unsigned .ensures))
 
-signed-at : (c : tie.After-unsigned2) → plainRead (plain (c .before .before .before .before .before .before .args .field .now)) ≡ signedRead (c .unsigned2 .result)
+signed-at : (c : tie.After-unsigned2) → let at-else1 = c .before .before .before .before in
+    plainRead (plain (at-else1 .before .before .args .field .now)) ≡ signedRead (c .unsigned2 .result)
 signed-at c =
-    let field = c .before .before .before .before .before .before .args .field .now in
+    let at-else1 = c .before .before .before .before in
+    let field = at-else1 .before .before .args .field .now in
     signed-read field (omega arith) (c .before .before .if2 .left)
     ∙ ap (λ (l : List ℕ). signedRead (magnitudeRead (magnitudeOf l))) (sym (part-to-end field 1))
     ∙ ap signedRead (sym (c .unsigned2 .ensures))

@@ -17,7 +17,8 @@ put-line-requires c κs =
 
 returns : tie.Need-returns
 returns c =
-    let start = c .before .before .before .before .before .before .before in
+    let at-numbers = c .before .before .before in
+    let start = at-numbers .before .before .before .before in
     let number = start .args .number in
     let line = start .args .line in
     let put = refusal-put number line (omega arith) (omega arith) (c .before .before .put-line .ensures) in

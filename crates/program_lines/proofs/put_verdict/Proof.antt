@@ -28,15 +28,20 @@ put-line-requires-2 c κs =
     (omega arith, (held-below (excess ∷ []) (one-below excess (small at-verdict)), omega arith))
 
 returns : tie.Need-returns
-returns c = put-as (c .before .before .put-line .ensures) (ap printVerdict (sym (c .before .before .before .before .before .before .enum-told .given .1))) refl
+returns c =
+    let at-put-line = c .before .before in
+    put-as (at-put-line .put-line .ensures) (ap printVerdict (sym (at-put-line .before .before .before .before .enum-told .given .1))) refl
 
 returns-2 : tie.Need-returns-2
 returns-2 c =
-    let at-verdict = c .before .before .before .before .before .before .before in
+    let at-put-line-arg5 = c .before .before .before .before in
+    let at-verdict = at-put-line-arg5 .before .before .before in
     put-as (alarm-put (at-verdict .verdict .given .0 .0) (small at-verdict) (c .before .before .put-line2 .ensures)) (ap printVerdict (sym (at-verdict .verdict .given .1))) refl
 
 returns-3 : tie.Need-returns-3
-returns-3 c = put-as (c .before .before .put-refusal .ensures .1) (ap printVerdict (sym (c .before .before .before .before .before .verdict2 .given .1))) refl
+returns-3 c =
+    let at-put-refusal = c .before .before in
+    put-as (at-put-refusal .put-refusal .ensures .1) (ap printVerdict (sym (at-put-refusal .before .before .before .verdict2 .given .1))) refl
 
 pub put-verdict-spec : {M : Type 1} → statement M
 put-verdict-spec =

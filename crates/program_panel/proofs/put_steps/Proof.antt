@@ -31,7 +31,8 @@ put-step-requires c κs =
 loop-again : tie.Need-loop-again Inv-loop μ-loop
 loop-again c =
     let at-put = c .before .before in
-    let at-loop = at-put .before .before .before .before .before in
+    let in-loop = at-put .before .before .before .before in
+    let at-loop = in-loop .before in
     let start = at-loop .before .before .before in
     let step = toZ-ofZ (sfits-of (at-put .before .put-step-arg2 .given)) in
     steps-next _ _ _ (start .pre .1 .0) (start .pre .1 .1 .0) (omega arith) (at-loop .loop .inv) (at-put .put-step .ensures .0)

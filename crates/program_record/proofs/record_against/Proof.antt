@@ -18,13 +18,17 @@ mul-places : tie.Need-mul-places
 mul-places c = omega (arith, read-of (c .before .before) .places)
 
 array-share-prefix-table : tie.Need-array-share-prefix-table
-array-share-prefix-table c = read-of (c .before .before .before .before .before) .within
+array-share-prefix-table c =
+    let at-table2 = c .before .before .before .before in
+    read-of (at-table2 .before) .within
 
 slice-aggregate-read-2 : tie.Need-slice-aggregate-read-2
 slice-aggregate-read-2 c = sym (length-take-le _ _ (array-share-prefix-table (c .before)))
 
 array-share-prefix-codes : tie.Need-array-share-prefix-codes
-array-share-prefix-codes c = read-of (c .before .before .before .before .before .before) .typed
+array-share-prefix-codes c =
+    let at-codes = c .before .before .before in
+    read-of (at-codes .before .before .before) .typed
 
 slice-aggregate-read-3 : tie.Need-slice-aggregate-read-3
 slice-aggregate-read-3 c = sym (length-take-le _ _ (array-share-prefix-codes (c .before)))
@@ -32,14 +36,16 @@ slice-aggregate-read-3 c = sym (length-take-le _ _ (array-share-prefix-codes (c 
 returns : tie.Need-returns
 returns c =
     let told = c .before .before .before in
-    let at-read = told .before .before .before .before .before in
+    let at-table2 = told .before .before .before .before in
+    let at-read = at-table2 .before in
     let t = read-of at-read in
     c .read2 .ensures ∙ record-read (rows-read t (told .enum-told .given .1)) (now (at-read .before .before .before .before .args .record-text))
 
 returns-2 : tie.Need-returns-2
 returns-2 c =
     let told = c .before .before in
-    let at-read = told .before .before .before .before .before in
+    let at-table2 = told .before .before .before .before in
+    let at-read = at-table2 .before in
     let start = at-read .before .before .before .before in
     let refusal = told .outcome .given .0 .0 in
     c .not-read .ensures

@@ -12,7 +12,9 @@ slice-aggregate-hand-out : tie.Need-slice-aggregate-hand-out
 slice-aggregate-hand-out c = printed-part (c .before .before .put-output .ensures) .taken
 
 returns : tie.Need-returns
-returns c = handed (c .before .before .before .before .before .before .put-output .ensures) _ _ _ (c .before .before .hand-out .ensures)
+returns c =
+    let at-hand-out = c .before .before in
+    handed (at-hand-out .before .before .before .before .put-output .ensures) _ _ _ (at-hand-out .hand-out .ensures)
 
 pub verify-spec : {M : Type 1} → statement M
 verify-spec =

@@ -31,9 +31,14 @@ returns c =
     (fields-no-label channelTypes (take (args .n) (now (args .codes))) (now (args .line)) _ (first-part-from comma _ _ (at-end .field-end .ensures))
     (sym (at-label .is-label .ensures) ∙ not-true _ (c .if1 .taken)))
 
+abbrev start-of : tie.After-read-pairs → tie.Start
+start-of c =
+    let at-is-label-arg = c .before .before .before .before in
+    at-is-label-arg .before .before .before .before
+
 -- what the fields say, by what the pairs are told to be
 fields : (c : tie.After-read-pairs) (told : Line) → c .read-pairs .result ≡ told
-    → let args = c .before .before .before .before .before .before .before .before .args in
+    → let args = start-of c .args in
     FieldsRead channelTypes (take (args .n) (now (args .codes))) (now (args .line)) (now (args .places)) (c .read-pairs .last .1 .1 .1 .1 .0) told
 fields c told is =
     let past-label = c .before .before in
@@ -66,14 +71,14 @@ returns-4 c =
 returns-5 : tie.Need-returns-5
 returns-5 c =
     let at-pairs = c .before .before .before in
-    let start = at-pairs .before .before .before .before .before .before .before .before in
+    let start = start-of at-pairs in
     line-agreed channelTypes _ _ (fields at-pairs OutOfRange (c .enum-told3 .given .1)) house-sound (start .pre .0) (λ e. impossible (cc))
     (λ e. impossible (cc))
 
 returns-6 : tie.Need-returns-6
 returns-6 c =
     let at-pairs = c .before .before .before in
-    let start = at-pairs .before .before .before .before .before .before .before .before in
+    let start = start-of at-pairs in
     line-agreed channelTypes _ _ (fields at-pairs Within (c .enum-told4 .given .1)) house-sound (start .pre .0) (λ e. impossible (cc))
     (λ e. impossible (cc))
 

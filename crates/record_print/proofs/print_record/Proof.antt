@@ -19,10 +19,15 @@ use Rattle.record_print.proofs.print_record.Tie as tie
 
 -- the place of the heading, and where the function starts
 abbrev start : tie.After-put-heading → tie.Start
-start c = c .before .before .before .before .before .before .before .before .before
+start c =
+    let at-scaled-centre = c .before .before .before .before in
+    let at-codes = at-scaled-centre .before .before in
+    at-codes .before .before .before
 
 abbrev at-heading : tie.After-put-centre → tie.After-put-heading
-at-heading c = c .before .before .before .before .before
+at-heading c =
+    let at-out = c .before .before .before .before in
+    at-out .before
 
 abbrev at-centre : tie.After-put-result → tie.After-put-centre
 at-centre c = c .before .before .before .before

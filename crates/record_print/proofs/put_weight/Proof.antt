@@ -16,7 +16,8 @@ put-line-requires c κs =
 
 returns : tie.Need-returns
 returns c =
-    let start = c .before .before .before .before .before .before .before in
+    let at-numbers = c .before .before .before in
+    let start = at-numbers .before .before .before .before in
     weight-put (start .args .row) (start .args .weight) (weight-below (start .args .row) (start .args .weight) (omega arith) (omega arith)) (c .before .before .put-line .ensures)
 
 pub put-weight-spec : {M : Type 1} → statement M

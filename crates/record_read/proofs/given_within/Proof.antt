@@ -33,7 +33,8 @@ returns-2 c =
 
 returns-3 : tie.Need-returns-3
 returns-3 c =
-    let start = c .before .before .before .before .before in
+    let at-rows-within = c .before .before .before in
+    let start = at-rows-within .before .before in
     c .codes-known .ensures
     ∙ ap₂ (answer start) (sym (within (c .before .before))) (sym (le-leb (start .args .n) (length (now (start .args .codes))) (c .before .if2 .left)))
 

@@ -34,13 +34,15 @@ within c = sym (c .before .given-within .ensures) ∙ not-false _ (c .if1 .left)
 returns-2 : tie.Need-returns-2
 returns-2 c =
     let test = c .before .before in
-    let args = test .before .before .before .before .before .args in
+    let at-given-within = test .before .before in
+    let args = at-given-within .before .before .before .args in
     c .not-read2 .ensures
     ∙ sym (read-length total rowLimit channelTypes (now (args .rows)) (args .m) (args .n) (now (args .codes)) (now (args .text)) (within (test .before))
     (sym (test .text-within .ensures) ∙ not-true _ (c .before .if2 .taken)))
 
 -- past the second test so is the text
-fitting : (c : tie.Else2) → textWithin (now (c .before .before .before .before .before .before .args .text)) ≡ true
+fitting : (c : tie.Else2) → let at-given-within = c .before .before .before in
+    textWithin (now (at-given-within .before .before .before .args .text)) ≡ true
 fitting c = sym (c .before .text-within .ensures) ∙ not-false _ (c .if2 .left)
 
 returns-3 : tie.Need-returns-3
@@ -62,7 +64,9 @@ count c =
     (given-within rowLimit channelTypes (now (args .rows)) (args .m) (args .n) (now (args .codes)) (within c) .1)
 
 slice-aggregate-agreed : tie.Need-slice-aggregate-agreed
-slice-aggregate-agreed c = sym (count (c .before .before .before .before .before .before))
+slice-aggregate-agreed c =
+    let at-read-form = c .before .before .before in
+    sym (count (at-read-form .before .before .before))
 
 agreed-requires : tie.Need-agreed-requires
 agreed-requires c κs =

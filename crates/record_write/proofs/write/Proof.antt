@@ -26,7 +26,9 @@ use Rattle.record_write.proofs.write.Statement.{statement}
 use Rattle.record_write.proofs.write.Tie as tie
 
 abbrev start-of : tie.After-figures-known → tie.Start
-start-of c = c .before .before .before .before .before
+start-of c =
+    let at-figures = c .before .before .before in
+    at-figures .before .before
 
 -- past the first test the figures are within their limits
 figures : (c : tie.Else1) → figuresKnown total channelTypes (start-of (c .before) .args .envelope .figures) ≡ true
@@ -39,7 +41,8 @@ within : (c : tie.Else2) → let args = start-of (c .before .before .before) .ar
 within c = sym (c .before .rows-within .ensures) ∙ not-false _ (c .if2 .left)
 
 -- past the third test they agree
-agreeing : (c : tie.Else3) → let args = start-of (c .before .before .before .before .before .before) .args in
+agreeing : (c : tie.Else3) → let at-rows-within = c .before .before .before .before in
+    let args = start-of (at-rows-within .before .before) .args in
     agrees total rowLimit (now (args .rows)) (args .m) (args .envelope .figures .n) (args .envelope .figures .ball) (args .envelope .weights) ≡ true
 agreeing c = sym (c .before .agrees .ensures) ∙ not-false _ (c .if3 .left)
 
@@ -87,7 +90,8 @@ weight-places c = search needs
 
 print-record-requires : tie.Need-print-record-requires
 print-record-requires c κs =
-    let past-figures = c .before .before .before .before .before .before .before in
+    let at-agrees = c .before .before .before in
+    let past-figures = at-agrees .before .before .before .before in
     let start = start-of (past-figures .before) in
     let count = weight-places start in (
       within-printing channelTypes (start .args .envelope .figures) (start .args .envelope .weights) (figures past-figures) count,
@@ -97,7 +101,9 @@ print-record-requires c κs =
 array-share-prefix-text : tie.Need-array-share-prefix-text
 array-share-prefix-text c =
     let at-print = c .before in
-    printed-fits channelTypes (start-of (at-print .before .before .before .before .before .before .before .before .before) .args .envelope) _ _ _
+    let at-agrees = at-print .before .before .before .before in
+    let at-rows-within = at-agrees .before .before .before in
+    printed-fits channelTypes (start-of (at-rows-within .before .before) .args .envelope) _ _ _
     (at-print .print-record .ensures)
 
 slice-aggregate-hand-out : tie.Need-slice-aggregate-hand-out
@@ -105,14 +111,15 @@ slice-aggregate-hand-out c = sym (length-take-le _ _ (array-share-prefix-text (c
 
 returns-4 : tie.Need-returns-4
 returns-4 c =
-    let at-print = c .before .before .before .before .before .before in
+    let at-hand-out = c .before .before in
+    let at-print = at-hand-out .before .before .before .before in
     let past-agreement = at-print .before .before .before in
     let past-rows = past-agreement .before .before .before in
     let past-figures = past-rows .before .before in
     let args = start-of (past-figures .before) .args in
     let text = printed-text channelTypes (args .envelope) _ _ _ (at-print .print-record .ensures) in
-    let handed = c .before .before .hand-out .ensures in
-    let answer = c .before .before .hand-out .result in
+    let handed = at-hand-out .hand-out .ensures in
+    let answer = at-hand-out .hand-out .result in
     let places = length (now (args .buffer)) in (
       handed .0 ∙ ap (λ (l : List ℕ). textWritten l places) text
           ∙ sym (writing-agreed total rowLimit channelTypes (now (args .rows)) (args .m) (args .envelope) places

@@ -10,7 +10,8 @@ use Rattle.reference_cases.proofs.run_case.Tie as tie
 
 slice-aggregate-run-text : tie.Need-slice-aggregate-run-text
 slice-aggregate-run-text c =
-    let start = c .before .before .before .before .before .before .before .before in
+    let at-two-bytes2 = c .before .before .before .before in
+    let start = at-two-bytes2 .before .before .before .before in
     let l : c .before .least .result
     ≤ length (take (length (start .args .input .now) - (start .args .at + 5)) (drop (start .args .at + 5) (start .args .input .now))) =
     simp (length-take, length-drop) (omega arith) in

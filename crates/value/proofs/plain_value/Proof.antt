@@ -47,20 +47,23 @@ sub-whole c = opposite-fits (c .before .before .before .number .given .0 .1 .0) 
 
 -- the number, and what is answered by the test
 module _ (c : tie.After-in-range) where
-  whole-is : toZ w32 (c .before .if2 .whole) ≡ signed (c .before .before .before .before .number .given .0 .0) (c .before .before .before .before .number .given .0 .1 .0)
+  abbrev at-number : tie.After-number
+  at-number = c .before .before .before .before
+
+  whole-is : toZ w32 (c .before .if2 .whole) ≡ signed (at-number .number .given .0 .0) (at-number .number .given .0 .1 .0)
   whole-is =
       let joined = c .before .if2 in
-      let given = c .before .before .before .before .number .given in
+      let given = at-number .number .given in
       ⊎-elim (λ w. negative-is (given .0 .1 .0) (omega arith) (given .0 .0) (joined .whole) (w .0 .taken) (w .1))
       (λ w. positive-is (given .0 .1 .0) (omega arith) (given .0 .0) (joined .whole) (w .0 .left) (w .1)) (joined .came)
 
   answered : (b : Bool) → c .in-range .result ≡ b
       → cond b (Reads (toZ w32 (c .before .if2 .whole))) OutOfRange
-      ≡ plainUnder (c .before .before .before .before .before .before .args .range) (c .before .before .before .before .before .before .args .number)
+      ≡ plainUnder (at-number .before .before .args .range) (at-number .before .before .args .number)
   answered b t =
-      let args = c .before .before .before .before .before .before .args in
+      let args = at-number .before .before .args in
       ap₂ (λ t z. cond t (Reads z) OutOfRange) (sym t ∙ c .in-range .ensures ∙ ap (inRange (args .range)) whole-is) whole-is
-      ∙ sym (ap (plainUnder (args .range)) (c .before .before .before .before .number .given .1))
+      ∙ sym (ap (plainUnder (args .range)) (at-number .number .given .1))
 
 returns-3 : tie.Need-returns-3
 returns-3 c = answered (c .before) true (c .if3 .taken)

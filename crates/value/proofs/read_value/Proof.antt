@@ -49,14 +49,16 @@ returns c = empty-read (c .before .before .args .range) (c .before .before .args
 
 returns-2 : tie.Need-returns-2
 returns-2 c =
-    let start = c .before .before .before .before .before .before .before in
+    let at-then2 = c .before .before .before in
+    let start = at-then2 .before .before .before .before in
     c .below-detection .ensures
     ∙ ap (belowUnder (start .args .range)) (c .before .plain-number .ensures ∙ ap (λ l. plainRead (plain l)) (rest (start .args .field .now)))
-    ∙ below-is (start .args .range) (start .pre) (start .args .field .now) (omega arith) (c .before .before .before .if2 .taken)
+    ∙ below-is (start .args .range) (start .pre) (start .args .field .now) (omega arith) (at-then2 .if2 .taken)
 
 returns-3 : tie.Need-returns-3
 returns-3 c =
-    let start = c .before .before .before .before .before .before in
+    let at-else1 = c .before .before .before .before in
+    let start = at-else1 .before .before in
     c .plain-value .ensures
     ∙ ap (plainUnder (start .args .range)) (c .before .plain-number2 .ensures)
     ∙ plain-is (start .args .range) (start .pre) (start .args .field .now) (omega arith) (c .before .before .if2 .left)

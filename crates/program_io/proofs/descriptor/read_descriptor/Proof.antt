@@ -32,8 +32,9 @@ answered c =
     c .after-read .ensures ∙ ap (λ z. afterRead z (at-read .before .before .before .loop .at)) (given at-read)
 
 -- a read that goes on is within the slice
-more : (c : tie.After-after-read Inv-loop μ-loop) (next : ℕ) → c .after-read .result ≡ More next
-    → let at-loop = c .before .before .before .before .before .before in
+more : (c : tie.After-after-read Inv-loop μ-loop) (next : ℕ) → let at-read = c .before .before .before in
+    c .after-read .result ≡ More next
+    → let at-loop = at-read .before .before .before in
     (at-loop .loop .at < next) × (next ≤ length (at-loop .loop .text))
 more c next e =
     let at-read = c .before .before .before in

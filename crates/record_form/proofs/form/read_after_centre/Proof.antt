@@ -18,13 +18,19 @@ use Rattle.record_form.proofs.form.read_after_centre.Tie as tie
 -- ---- past the `R` line
 
 abbrev text : tie.Else2 → List ℕ
-text c = c .before .before .before .before .before .before .before .args .text .now
+text c =
+    let at-else1 = c .before .before .before .before in
+    at-else1 .before .before .before .args .text .now
 
 abbrev at : tie.Else2 → ℕ
-at c = c .before .before .before .before .before .before .before .args .at
+at c =
+    let at-else1 = c .before .before .before .before in
+    at-else1 .before .before .before .args .at
 
 abbrev end : tie.Else2 → ℕ
-end c = c .before .before .before .before .before .line-end .result
+end c =
+    let at-read-result = c .before .before in
+    at-read-result .before .before .before .line-end .result
 
 result : (c : tie.Else2) → (s : Result) × (resultLine (partAt (text c) (at c) (end c)) ≡ some s)
 result c =

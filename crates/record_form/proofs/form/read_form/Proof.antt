@@ -18,10 +18,14 @@ use Rattle.record_form.proofs.form.read_form.Tie as tie
 -- ---- past the heading
 
 abbrev text : tie.Else2 → List ℕ
-text c = c .before .before .before .before .before .before .before .args .text .now
+text c =
+    let at-else1 = c .before .before .before .before in
+    at-else1 .before .before .before .args .text .now
 
 abbrev heading-end : tie.Else2 → ℕ
-heading-end c = c .before .before .before .before .before .line-end .result
+heading-end c =
+    let at-read-heading = c .before in
+    at-read-heading .before .before .before .before .line-end .result
 
 abbrev codes : tie.Else2 → List ℕ
 codes c = codesIn (c .before .read-heading .result)

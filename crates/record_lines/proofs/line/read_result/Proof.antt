@@ -56,14 +56,17 @@ returns-3 c =
 
 returns-4 : tie.Need-returns-4
 returns-4 c =
-    let at-some = c .before .before .before .before .before .before .before .before in
+    let at-same-bytes = c .before .before .before .before in
+    let at-some = at-same-bytes .before .before .before .before in
     let at-numbers = at-some .before .before in
     c .no-result4 .ensures
     ∙ sym (ap resultRead (result-below (at-numbers .read-numbers .ensures) (at-some .if1 .left) (c .before .if5 .taken)))
 
 returns-5 : tie.Need-returns-5
 returns-5 c =
-    let at-some = c .before .before .before .before .before .before .before .before .before in
+    let at-else5 = c .before .before in
+    let at-same-bytes = at-else5 .before .before .before in
+    let at-some = at-same-bytes .before .before .before .before in
     let at-numbers = at-some .before .before in
     c .no-result5 .ensures
     ∙ sym (ap resultRead (result-above (at-numbers .read-numbers .ensures) (at-some .if1 .left) (c .before .if6 .taken)))
@@ -71,7 +74,8 @@ returns-5 c =
 -- what the line states, past every test
 told : (c : tie.Else6)
     → let at-same = c .before .before .before .before in
-    let at-numbers = at-same .before .before .before .before .before .before in
+    let at-else1 = at-same .before .before .before .before in
+    let at-numbers = at-else1 .before .before in
     let lent = at-numbers .read-numbers .last .1 .1 .1 .0 in
     ResultHeld (resultLine (now (at-numbers .before .before .before .before .args .line))) (back w64 (getD lent 0 (pos 0)))
     (back w64 (getD lent 1 (pos 0))) (back w64 (getD lent 2 (pos 0))) (at-same .same-bytes .result)

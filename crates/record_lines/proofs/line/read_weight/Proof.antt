@@ -57,12 +57,14 @@ returns-3 c =
 
 returns-4 : tie.Need-returns-4
 returns-4 c =
+    let at-else2 = c .before .before .before .before in
     c .no-weight4 .ensures
-    ∙ sym (ap weightRead (weight-empty (numbers (c .before .before .before .before .before)) (c .before .if4 .taken)))
+    ∙ sym (ap weightRead (weight-empty (numbers (at-else2 .before)) (c .before .if4 .taken)))
 
 -- what the line states, past every test
 told : (c : tie.Else4)
-    → let at-numbers = c .before .before .before .before .before .before .before in
+    → let at-else2 = c .before .before .before in
+    let at-numbers = at-else2 .before .before .before .before in
     let start = at-numbers .before .before .before .before in
     let lent = at-numbers .read-numbers .last .1 .1 .1 .0 in
     WeightHeld rowLimit (weightLine rowLimit (start .args .last) (now (start .args .line))) (back w64 (getD lent 0 (pos 0)))
