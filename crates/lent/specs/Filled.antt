@@ -23,22 +23,22 @@ pub record Filling {A : Type 0} (lent₀ source : List A) (count : ℕ) (lent : 
   pub so-far : lent ≡ filled 0 i source lent₀
   pub same-length : length lent ≡ length lent₀
 
-module _ {A : Type 0} (lent₀ source : List A) (count : ℕ) where
+next : {A : Type 0} (i : ℕ) (lent source : List A) (z : A) → i < length lent → i < length source
+    → set (take i source ++ drop i lent) i (getD source i z) ≡ take (suc i) source ++ drop (suc i) lent
+next i [] source z h k = absurd (not-suc-le-zero h)
+next i (x ∷ xs) [] z h k = absurd (not-suc-le-zero k)
+next zero (x ∷ xs) (y ∷ ys) z h k = refl
+next (suc i) (x ∷ xs) (y ∷ ys) z h k = ap (λ l. y ∷ l) (next i xs ys z (le-of-suc-le-suc h) (le-of-suc-le-suc k))
+
+module _ {A : Type 0} {lent₀ source : List A} {count : ℕ} where
   pub filling-none : Filling lent₀ source count lent₀ 0
   unfolding filled
   filling-none = record { within = zero-le; so-far = refl; same-length = refl }
 
-  next : (i : ℕ) (lent source : List A) (z : A) → i < length lent → i < length source
-      → set (take i source ++ drop i lent) i (getD source i z) ≡ take (suc i) source ++ drop (suc i) lent
-  next i [] source z h k = absurd (not-suc-le-zero h)
-  next i (x ∷ xs) [] z h k = absurd (not-suc-le-zero k)
-  next zero (x ∷ xs) (y ∷ ys) z h k = refl
-  next (suc i) (x ∷ xs) (y ∷ ys) z h k = ap (λ (l : List A). y ∷ l) (next i xs ys z (le-of-suc-le-suc h) (le-of-suc-le-suc k))
-
-  pub filling-next : (lent : List A) (i : ℕ) (v z : A) → (count ≤ length lent₀) × (count ≤ length source) → i < count
+  pub filling-next : {lent : List A} {i : ℕ} {v : A} (z : A) → (count ≤ length lent₀) × (count ≤ length source) → i < count
       → Filling lent₀ source count lent i → v ≡ getD source i z → Filling lent₀ source count (set lent i v) (i + 1)
   unfolding filled
-  filling-next lent i v z asked h f e =
+  filling-next {lent} {i} {v} z asked h f e =
       record {
         within = omega arith;
         so-far =
@@ -47,8 +47,8 @@ module _ {A : Type 0} (lent₀ source : List A) (count : ℕ) where
         same-length = length-set lent i v ∙ f .same-length;
       }
 
-  pub filling-done : (lent : List A) (i : ℕ) → count ≤ i → Filling lent₀ source count lent i → lent ≡ filled 0 count source lent₀
-  filling-done lent i h f = f .so-far ∙ ap (λ j. filled 0 j source lent₀) (le-antisymm (f .within) h)
+  pub filling-done : {lent : List A} {i : ℕ} → count ≤ i → Filling lent₀ source count lent i → lent ≡ filled 0 count source lent₀
+  filling-done h f = f .so-far ∙ ap (λ j. filled 0 j source lent₀) (le-antisymm (f .within) h)
 
 pub filled-refused : {A : Type 0} (number count : ℕ) (source lent : List A) → (number ≡ 0 → ⊥) → lent ≡ filled number count source lent
 unfolding filled

@@ -15,9 +15,6 @@ use Rattle.agreement.proofs.agrees.Tie as tie
 returns : tie.Need-returns
 returns c = agrees-refused _ _ _ _ _ _ _ (λ a. omega (arith, agreed-length _ _ _ _ _ _ _ a))
 
-none-past-requires : tie.Need-none-past-requires
-none-past-requires c κs = search needs
-
 returns-2 : tie.Need-returns-2
 returns-2 c =
     agrees-refused _ _ _ _ _ _ _ (λ a.
@@ -26,11 +23,10 @@ returns-2 c =
 slice-aggregate-check-weights : tie.Need-slice-aggregate-check-weights
 slice-aggregate-check-weights c = sym (length-take-le _ _ (omega arith))
 
-check-weights-requires : tie.Need-check-weights-requires
-check-weights-requires c κs = search needs
-
 ball-agrees-requires : tie.Need-ball-agrees-requires
-ball-agrees-requires c κs = within-table _ _ _ (c .before .before .before .before .before .before .pre) .channels
+ball-agrees-requires c κs =
+    let at-none-past = c .before .before .before in
+    within-table _ _ _ (at-none-past .before .before .before .pre) .channels
 
 returns-3 : tie.Need-returns-3
 returns-3 c =
@@ -44,9 +40,9 @@ agrees-spec =
     tie.close
     (tie.spec
     returns
-    none-past-requires
+    (λ c κs. search needs)
     returns-2
     slice-aggregate-check-weights
-    check-weights-requires
+    (λ c κs. search needs)
     ball-agrees-requires
     returns-3)

@@ -20,15 +20,17 @@ beq-flag true false = refl
 beq-flag false true = refl
 beq-flag false false = refl
 
+abbrev start-of : tie.After-given-centre2 → tie.Start
+start-of c =
+    let at-stated-centre = c .before .before .before in
+    at-stated-centre .before .before .before .before
+
 -- the ball, and the check that it is held against
 abbrev stated : tie.Else2 → Ball
-stated c = c .before .before .before .before .before .before .before .before .before .args .ball
+stated c = start-of (c .before .before) .args .ball
 
 abbrev given : tie.Else2 → Checked
-given c = c .before .before .before .before .before .before .before .before .before .args .checked
-
-number-of-requires : tie.Need-number-of-requires
-number-of-requires c κs = search needs
+given c = start-of (c .before .before) .args .checked
 
 returns : tie.Need-returns
 returns c = ball-refused _ _ _ (λ s. c .if1 .taken (c .before .number-of .ensures ∙ s .number))
@@ -41,7 +43,7 @@ slice-aggregate-same-places-2 c = search needs
 
 same-places-requires : tie.Need-same-places-requires
 same-places-requires c κs =
-    let figures = c .before .before .before .before .before .before .before .args in
+    let figures = start-of c .args in
     let eight : channelLimit ≡ length (figures .ball .«scaled_centre») = slice-aggregate-same-places (c .before) in
     let given-eight : channelLimit ≡ length (figures .checked .ball .«scaled_centre») = slice-aggregate-same-places-2 c in
     omega arith
@@ -58,7 +60,8 @@ returns-3 c =
 
 returns-4 : tie.Need-returns-4
 returns-4 c =
-    let with-places = c .before .before .before .before .before .before in
+    let at-else3 = c .before .before .before in
+    let with-places = at-else3 .before .before .before in
     ball-refused _ (stated with-places) (given with-places) (λ s. c .if4 .taken (s .floor))
 
 returns-5 : tie.Need-returns-5
@@ -66,7 +69,8 @@ returns-5 c =
     let with-floor = c .before .before in
     let with-radius = with-floor .before .before .before in
     let with-places = with-radius .before .before .before in
-    let with-number = with-places .before .before .before .before .before .before .before in
+    let at-stated-centre2 = with-places .before .before .before in
+    let with-number = at-stated-centre2 .before .before .before .before in
     beq-flag (stated with-places .settled) (given with-places .ball .settled)
     ∙ sym (ball-ending _ (stated with-places) (given with-places) (sym (with-number .before .number-of .ensures) ∙ with-number .if1 .left)
     (samePlaces-at _ _ _ (sym (with-places .before .same-places .ensures) ∙ not-false _ (with-places .if2 .left)))
@@ -76,7 +80,7 @@ pub ball-agrees-spec : {M : Type 1} → statement M
 ball-agrees-spec =
     tie.close
     (tie.spec
-    number-of-requires
+    (λ c κs. search needs)
     returns
     slice-aggregate-same-places
     slice-aggregate-same-places-2

@@ -1,7 +1,7 @@
 -- `agreement::same_places` meets its contract. The loop's invariant: the places passed are the same. A place that is not
 -- decides the answer. The measure is what is left of the places.
 use borrow.Author.Count.{below-more}
-use borrow.Author.Needs.{sfits-of}
+use borrow.Author.Needs.{needs, sfits-of}
 use borrow.Author.Tests.{not-true, not-false}
 use Prim.Native.Nat.{ℕ, _-_, _≤_, _<_}
 use mathlib.Core.Path.{_≡_, sym, ap, ap₂, _∙_}
@@ -38,41 +38,22 @@ module _ {x y : ℤ} (f : SFits w64 x) (g : SFits w64 y) {r : Bool} (e : r ≡ s
 loop-holds : tie.Need-loop-holds Inv-loop μ-loop
 loop-holds c = (omega arith, λ j b. absurd (omega arith))
 
-mul-x : tie.Need-mul-x Inv-loop μ-loop
-mul-x c = omega arith
-
-shared-slice-copy-out-x : tie.Need-shared-slice-copy-out-x Inv-loop μ-loop
-shared-slice-copy-out-x c = omega arith
-
-mul-same-integer : tie.Need-mul-same-integer Inv-loop μ-loop
-mul-same-integer c = omega arith
-
-shared-slice-copy-out-same-integer : tie.Need-shared-slice-copy-out-same-integer Inv-loop μ-loop
-shared-slice-copy-out-same-integer c = omega arith
-
-same-integer-requires : tie.Need-same-integer-requires Inv-loop μ-loop
-same-integer-requires c κs = tt
-
 returns : tie.Need-returns Inv-loop μ-loop
 returns c =
     let t = c .before in
-    let l = t .before .before .before .before .loop in
-    let s = t .before .before .before .before .before .args in
+    let at-loop = t .before .before .before .before in
+    let l = at-loop .loop in
+    let s = at-loop .before .args in
     refuted _ (λ h.
     apart (sfits-of (t .before .before .x .given)) (sfits-of (t .before .same-integer-arg .given)) (t .same-integer .ensures) (c .if1 .taken)
     (samePlaces-at (s .a .now) (s .b .now) (s .n) h (l .k) (omega arith)))
 
-add-k : tie.Need-add-k Inv-loop μ-loop
-add-k c = omega arith
-
-loop-less : tie.Need-loop-less Inv-loop μ-loop
-loop-less c = omega arith
-
 loop-again : tie.Need-loop-again Inv-loop μ-loop
 loop-again c =
     let t = c .before in
-    let l = t .before .before .before .before .loop in
-    let s = t .before .before .before .before .before .args in (
+    let at-loop = t .before .before .before .before in
+    let l = at-loop .loop in
+    let s = at-loop .before .args in (
       omega arith,
       below-more (λ j. centreOf (s .a .now) j ≡ centreOf (s .b .now) j) (l .k) (l .inv .1)
           (same (sfits-of (t .before .before .x .given)) (sfits-of (t .before .same-integer-arg .given)) (t .same-integer .ensures) (c .if1 .left)),
@@ -91,13 +72,13 @@ same-places-spec =
     Inv-loop
     μ-loop
     loop-holds
-    mul-x
-    shared-slice-copy-out-x
-    mul-same-integer
-    shared-slice-copy-out-same-integer
-    same-integer-requires
+    (λ c. search needs)
+    (λ c. search needs)
+    (λ c. search needs)
+    (λ c. search needs)
+    (λ c κs. search needs)
     returns
-    add-k
-    loop-less
+    (λ c. search needs)
+    (λ c. search needs)
     loop-again
     returns-2)

@@ -29,16 +29,11 @@ module _ {rows : List ℤ} {m n : ℕ} where
   unfolding ballOf settled
   gathered {D} {ws} table centres pairs bounds filled = cc (radius-far D m n (coordinate rows n) (weightOf ws) (table .some-row))
 
-scaled-lower-bound-requires : tie.Need-scaled-lower-bound-requires
-scaled-lower-bound-requires c κs = search needs
-
-filled-ball-requires : tie.Need-filled-ball-requires
-filled-ball-requires c κs = search needs
-
 returns : tie.Need-returns
 returns c =
-    let asked = c .before .before .before .before .before .pre in
-    gathered (asked .0) (asked .1 .1 .0) (asked .1 .1 .1) (c .before .before .scaled-lower-bound .ensures) (c .filled-ball .ensures)
+    let at-scaled-lower-bound = c .before .before in
+    let asked = at-scaled-lower-bound .before .before .before .pre in
+    gathered (asked .0) (asked .1 .1 .0) (asked .1 .1 .1) (at-scaled-lower-bound .scaled-lower-bound .ensures) (c .filled-ball .ensures)
 
 pub ball-of-spec : {M : Type 1} → statement M
-ball-of-spec = tie.close (tie.spec scaled-lower-bound-requires filled-ball-requires returns)
+ball-of-spec = tie.close (tie.spec (λ c κs. search needs) (λ c κs. search needs) returns)

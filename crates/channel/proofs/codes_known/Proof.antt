@@ -5,6 +5,7 @@ use Prim.Native.Nat.{_-_, _≤_}
 use mathlib.Core.Path.{_≡_, refl, sym, ap, _∙_}
 use mathlib.Core.Bool.{true}
 use native.Mathlib.Omega.{arith}
+use borrow.Author.Needs.{needs}
 use lib.ListN.{take}
 use Rattle.channel.specs.Channel.{channelTypes, codesKnown}
 use Rattle.channel.specs.CodesLaws.{codes-next, codes-fail}
@@ -21,28 +22,18 @@ loop-holds : tie.Need-loop-holds Inv-loop μ-loop
 unfolding codesKnown
 loop-holds c = (omega arith, refl)
 
-shared-slice-read-is-known : tie.Need-shared-slice-read-is-known Inv-loop μ-loop
-shared-slice-read-is-known c = omega arith
-
-is-known-requires : tie.Need-is-known-requires Inv-loop μ-loop
-is-known-requires c κs = tt
-
 returns : tie.Need-returns Inv-loop μ-loop
 returns c =
-    let s = c .before .before .before .before .before .before .args in
-    codes-fail channelTypes (s .codes .now) (s .n) (c .before .before .before .before .loop .i) (omega arith) (omega arith)
+    let at-loop = c .before .before .before .before in
+    let s = at-loop .before .before .args in
+    codes-fail channelTypes (s .codes .now) (s .n) (at-loop .loop .i) (omega arith) (omega arith)
     (sym (c .before .is-known .ensures) ∙ not-true _ (c .if1 .taken))
-
-add-i : tie.Need-add-i Inv-loop μ-loop
-add-i c = omega arith
-
-loop-less : tie.Need-loop-less Inv-loop μ-loop
-loop-less c = omega arith
 
 loop-again : tie.Need-loop-again Inv-loop μ-loop
 loop-again c =
-    let s = c .before .before .before .before .before .before .args in
-    let l = c .before .before .before .before .loop in (
+    let at-loop = c .before .before .before .before in
+    let s = at-loop .before .before .args in
+    let l = at-loop .loop in (
       omega arith,
       codes-next channelTypes (s .codes .now) (l .i) (omega arith) (l .inv .1) (sym (c .before .is-known .ensures) ∙ not-false _ (c .if1 .left)),
     )
@@ -61,10 +52,10 @@ codes-known-spec =
     Inv-loop
     μ-loop
     loop-holds
-    shared-slice-read-is-known
-    is-known-requires
+    (λ c. search needs)
+    (λ c κs. search needs)
     returns
-    add-i
-    loop-less
+    (λ c. search needs)
+    (λ c. search needs)
     loop-again
     returns-2)

@@ -13,13 +13,11 @@ slice-aggregate-copy c = sym (length-take-le _ _ (c .before .before .before .pre
 copy-requires : tie.Need-copy-requires
 copy-requires c κs = omega (arith, c .before .before .before .before .pre, length-take-le (c .before .before .before .before .args .count) (c .before .before .before .before .args .source .now) (c .before .before .before .before .pre .1))
 
-same-length : tie.Need-same-length
-same-length c = search needs
-
 returns : tie.Need-returns
 returns c =
-    let start = c .before .before .before .before .before .before .before in
+    let at-copy-arg2 = c .before .before .before in
+    let start = at-copy-arg2 .before .before .before .before in
     c .before .before .copy .ensures .1 ∙ part-copied (start .args .count) (start .args .source .now) (start .args .lent .now) (start .pre .1)
 
 pub fill-codes-spec : {M : Type 1} → statement M
-fill-codes-spec = tie.close (tie.spec slice-aggregate-copy copy-requires same-length returns)
+fill-codes-spec = tie.close (tie.spec slice-aggregate-copy copy-requires (λ c. search needs) returns)

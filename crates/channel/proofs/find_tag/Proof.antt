@@ -1,7 +1,7 @@
 -- `channel::find_tag` meets its contract. The loop's invariant: the code of the field is that among the types from `at` on. The type at
 -- `at` has the tag compared there, or the code is among the types after it. The measure is what is left of the types.
 use borrow.Author.Needs.{needs}
-use mathlib.Core.Path.{_≡_, refl, sym, ap, _∙_}
+use mathlib.Core.Path.{_≡_, sym, ap, _∙_}
 use mathlib.Core.Bool.{Bool, true, false, cond}
 use mathlib.Core.List.{List}
 use Prim.Native.Nat.{ℕ, _+_, _-_, _≤_, _<_}
@@ -30,26 +30,19 @@ Inv-loop field at₀ at = (at ≤ houseCount) × (codeIn houseTypes field ≡ co
 abbrev μ-loop : tie.MeasureT-loop
 μ-loop field at₀ at = houseCount - at
 
-loop-holds : tie.Need-loop-holds Inv-loop μ-loop
-loop-holds c = (omega arith, refl)
-
-tag-at-requires : tie.Need-tag-at-requires Inv-loop μ-loop
-tag-at-requires c κs = search needs
-
 has-bytes-requires : tie.Need-has-bytes-requires Inv-loop μ-loop
 has-bytes-requires c κs = tag-within (c .tag-at .result) _ (c .tag-at .ensures) (house-tag (c .before .before .loop .at))
 
-array-read-result : tie.Need-array-read-result Inv-loop μ-loop
-array-read-result c = search needs
-
 -- what the code of the field is, by what the test gives
-decided : (c : tie.After-has-bytes Inv-loop μ-loop) (b : Bool) → c .has-bytes .result ≡ b
-    → codeIn houseTypes (c .before .before .before .before .before .args .field .now)
-    ≡ cond b (getD houseTypes (c .before .before .before .loop .at) noType .code)
-    (codeIn (drop (c .before .before .before .loop .at + 1) houseTypes) (c .before .before .before .before .before .args .field .now))
+decided : (c : tie.After-has-bytes Inv-loop μ-loop) (b : Bool) → let at-loop = c .before .before .before in
+    c .has-bytes .result ≡ b
+    → codeIn houseTypes (at-loop .before .before .args .field .now)
+    ≡ cond b (getD houseTypes (at-loop .loop .at) noType .code)
+    (codeIn (drop (at-loop .loop .at + 1) houseTypes) (at-loop .before .before .args .field .now))
 decided c b e =
-    let field = c .before .before .before .before .before .args .field .now in
-    let at = c .before .before .before .loop in
+    let at-loop = c .before .before .before in
+    let field = at-loop .before .before .args .field .now in
+    let at = at-loop .loop in
     let tag-at = c .before .tag-at in
     found field (at .at) (omega arith) (at .inv .1) b
     (ap (λ l. same l field) (sym (tag-taken (tag-at .result) _ (tag-at .ensures) (house-tag (at .at)))) ∙ sym (c .has-bytes .ensures) ∙ e)
@@ -60,12 +53,6 @@ returns c =
     List·getD-map (λ (t : ChannelType). t .code) houseTypes (c .before .before .before .before .loop .at) noType
     ∙ sym (decided (c .before) true (c .if1 .taken))
     ∙ sym (typesOf-code houseTypes _)
-
-add-at : tie.Need-add-at Inv-loop μ-loop
-add-at c = search needs
-
-loop-less : tie.Need-loop-less Inv-loop μ-loop
-loop-less c = search needs
 
 loop-again : tie.Need-loop-again Inv-loop μ-loop
 loop-again c = (omega arith, decided (c .before) false (c .if1 .left))
@@ -83,12 +70,12 @@ find-tag-spec =
     (tie.spec
     Inv-loop
     μ-loop
-    loop-holds
-    tag-at-requires
+    (λ c. search needs)
+    (λ c κs. search needs)
     has-bytes-requires
-    array-read-result
+    (λ c. search needs)
     returns
-    add-at
-    loop-less
+    (λ c. search needs)
+    (λ c. search needs)
     loop-again
     returns-2)

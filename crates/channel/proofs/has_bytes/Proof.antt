@@ -68,63 +68,47 @@ returns c =
     let tag = c .before .before .before .args .tag in
     sym (same-lengths (tagged tag) _ (λ e. c .if1 .taken (sym e ∙ counts tag (held (c .before .before)))))
 
-long : (c : tie.Else1) → AsLong (c .before .before .before .args .tag) (c .before .before .before .args .field .now)
+abbrev start-of : tie.Else1 → tie.Start
+start-of c = c .before .before .before
+
+abbrev else1-of : tie.Else3 → tie.Else1
+else1-of c = c .before .before .before
+
+long : (c : tie.Else1) → AsLong (start-of c .args .tag) (start-of c .args .field .now)
 long c = record { held = held (c .before .before); lengths = c .if1 .left }
 
 returns-2 : tie.Need-returns-2
 returns-2 c = done (long (c .before)) 0 refl (omega arith)
 
-shared-slice-read-if3 : tie.Need-shared-slice-read-if3
-shared-slice-read-if3 c = search needs
-
-array-read-if3 : tie.Need-array-read-if3
-array-read-if3 c = search needs
-
 returns-3 : tie.Need-returns-3
 returns-3 c = off (long (c .before .before .before)) 0 refl (omega arith) (c .if3 .taken)
 
 -- the first bytes are the same
-first : (c : tie.Else3)
-    → Agree (c .before .before .before .before .before .before .args .tag) (c .before .before .before .before .before .before .args .field .now) 1
-first c = on (long (c .before .before .before)) 0 refl (omega arith) (c .if3 .left)
+first : (c : tie.Else3) → let start = start-of (else1-of c) in Agree (start .args .tag) (start .args .field .now) 1
+first c = on (long (else1-of c)) 0 refl (omega arith) (c .if3 .left)
 
 returns-4 : tie.Need-returns-4
-returns-4 c = done (long (c .before .before .before .before)) 1 (first (c .before)) (omega arith)
-
-shared-slice-read-if5 : tie.Need-shared-slice-read-if5
-shared-slice-read-if5 c = search needs
-
-array-read-if5 : tie.Need-array-read-if5
-array-read-if5 c = search needs
+returns-4 c = done (long (else1-of (c .before))) 1 (first (c .before)) (omega arith)
 
 returns-5 : tie.Need-returns-5
 returns-5 c =
     let one = c .before .before .before in
-    off (long (one .before .before .before)) 1 (first one) (omega arith) (c .if5 .taken)
+    off (long (else1-of one)) 1 (first one) (omega arith) (c .if5 .taken)
 
 -- the first two bytes are the same
-second : (c : tie.Else5)
-    → Agree (c .before .before .before .before .before .before .before .before .before .args .tag)
-    (c .before .before .before .before .before .before .before .before .before .args .field .now)
-    2
+second : (c : tie.Else5) → let start = start-of (else1-of (c .before .before .before)) in Agree (start .args .tag) (start .args .field .now) 2
 second c =
     let one = c .before .before .before in
-    on (long (one .before .before .before)) 1 (first one) (omega arith) (c .if5 .left)
+    on (long (else1-of one)) 1 (first one) (omega arith) (c .if5 .left)
 
 returns-6 : tie.Need-returns-6
-returns-6 c = done (long (c .before .before .before .before .before .before .before)) 2 (second (c .before)) (omega arith)
-
-shared-slice-read-result : tie.Need-shared-slice-read-result
-shared-slice-read-result c = search needs
-
-array-read-result : tie.Need-array-read-result
-array-read-result c = search needs
+returns-6 c = done (long (else1-of (c .before .before .before .before))) 2 (second (c .before)) (omega arith)
 
 returns-7 : tie.Need-returns-7
 returns-7 c =
     let two = c .before .before in
-    let some = two .before .before .before .before .before .before in
-    last (long some) 2 (second two) (omega (arith, some .before .before .before .pre)) _ refl
+    let some = else1-of (two .before .before .before) in
+    last (long some) 2 (second two) (omega (arith, start-of some .pre)) _ refl
 
 pub has-bytes-spec : {M : Type 1} → statement M
 has-bytes-spec =
@@ -132,14 +116,14 @@ has-bytes-spec =
     (tie.spec
     returns
     returns-2
-    shared-slice-read-if3
-    array-read-if3
+    (λ c. search needs)
+    (λ c. search needs)
     returns-3
     returns-4
-    shared-slice-read-if5
-    array-read-if5
+    (λ c. search needs)
+    (λ c. search needs)
     returns-5
     returns-6
-    shared-slice-read-result
-    array-read-result
+    (λ c. search needs)
+    (λ c. search needs)
     returns-7)

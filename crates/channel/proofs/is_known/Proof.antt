@@ -5,11 +5,8 @@ use Rattle.channel.proofs.Laws.{known-place}
 use Rattle.channel.proofs.is_known.Statement.{statement}
 use Rattle.channel.proofs.is_known.Tie as tie
 
-place-requires : tie.Need-place-requires
-place-requires c κs = search needs
-
 returns : tie.Need-returns
 returns c = known-place (c .before .args .code) (c .place .result) (c .place .ensures)
 
 pub is-known-spec : {M : Type 1} → statement M
-is-known-spec = tie.close (tie.spec place-requires returns)
+is-known-spec = tie.close (tie.spec (λ c κs. search needs) returns)

@@ -14,9 +14,6 @@ use Rattle.channel.proofs.is_tag.Tie as tie
 short : (code : ℕ) → length (tagOf channelTypes code) ≤ tagLimit
 short = type-short channelTypes house-short
 
-tag-of-requires : tie.Need-tag-of-requires
-tag-of-requires c κs = search needs
-
 has-bytes-requires : tie.Need-has-bytes-requires
 has-bytes-requires c κs = tag-within (c .tag-of .result) _ (c .tag-of .ensures) (short _)
 
@@ -26,4 +23,4 @@ returns c =
     c .has-bytes .ensures ∙ ap (λ l. same l (c .before .before .before .args .field .now)) (tag-taken (tag-of .result) _ (tag-of .ensures) (short _))
 
 pub is-tag-spec : {M : Type 1} → statement M
-is-tag-spec = tie.close (tie.spec tag-of-requires has-bytes-requires returns)
+is-tag-spec = tie.close (tie.spec (λ c κs. search needs) has-bytes-requires returns)

@@ -20,17 +20,8 @@ returns-2 c =
     let code = c .before .before .args .code in
     type-place code (omega arith) ∙ List·getD-eq-default houseTypes noType {n = code - 1} (omega arith)
 
-cast-if2 : tie.Need-cast-if2
-cast-if2 c = search needs
-
-sub-result : tie.Need-sub-result
-sub-result c = search needs
-
-cast-result : tie.Need-cast-result
-cast-result c = search needs
-
 returns-3 : tie.Need-returns-3
 returns-3 c = type-place (c .before .before .args .code) (omega arith)
 
 pub place-spec : {M : Type 1} → statement M
-place-spec = tie.close (tie.spec returns cast-if2 returns-2 sub-result cast-result returns-3)
+place-spec = tie.close (tie.spec returns (λ c. search needs) returns-2 (λ c. search needs) (λ c. search needs) returns-3)

@@ -14,26 +14,11 @@ use Rattle.channel.proofs.range_of.Tie as tie
 from-to : ℤ → ℤ → Range
 from-to l h = record { low = l; high = h }
 
-place-requires : tie.Need-place-requires
-place-requires c κs = search needs
-
 returns : tie.Need-returns
 unfolding from-to typeOf
 returns c =
     sym (ap (λ t. from-to (t .low) (t .high))
     (type-none (c .before .before .args .code) (c .before .place .result) (c .before .place .ensures) (omega arith)))
-
-mul-t5 : tie.Need-mul-t5
-mul-t5 c = search needs
-
-array-copy-out-t8 : tie.Need-array-copy-out-t8
-array-copy-out-t8 c = search needs
-
-mul-t10 : tie.Need-mul-t10
-mul-t10 c = search needs
-
-array-copy-out-t13 : tie.Need-array-copy-out-t13
-array-copy-out-t13 c = search needs
 
 returns-2 : tie.Need-returns-2
 unfolding houseTypes from-to typeOf
@@ -48,4 +33,4 @@ returns-2 c =
 pub range-of-spec : {M : Type 1} → statement M
 range-of-spec =
     tie.close
-    (tie.spec place-requires returns mul-t5 array-copy-out-t8 mul-t10 array-copy-out-t13 returns-2)
+    (tie.spec (λ c κs. search needs) returns (λ c. search needs) (λ c. search needs) (λ c. search needs) (λ c. search needs) returns-2)

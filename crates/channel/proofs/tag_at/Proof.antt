@@ -20,18 +20,6 @@ read : (f : List ℕ → ℕ) (at : ℕ)
     → getD (map (λ (t : ChannelType). f (t .tag)) houseTypes) at (f (noType .tag)) ≡ f (getD houseTypes at noType .tag)
 read f at = List·getD-map (λ (t : ChannelType). f (t .tag)) houseTypes at noType
 
-array-read-t5 : tie.Need-array-read-t5
-array-read-t5 c = search needs
-
-array-read-t9 : tie.Need-array-read-t9
-array-read-t9 c = search needs
-
-array-read-t13 : tie.Need-array-read-t13
-array-read-t13 c = search needs
-
-array-read-t18 : tie.Need-array-read-t18
-array-read-t18 c = search needs
-
 cast-t19 : tie.Need-cast-t19
 unfolding houseTypes
 cast-t19 c = record { fits = omega (arith, read length (c .args .at), house-tag (c .args .at)) }
@@ -45,4 +33,4 @@ returns c =
 
 pub tag-at-spec : {M : Type 1} → statement M
 tag-at-spec =
-    tie.close (tie.spec array-read-t5 array-read-t9 array-read-t13 array-read-t18 cast-t19 returns)
+    tie.close (tie.spec (λ c. search needs) (λ c. search needs) (λ c. search needs) (λ c. search needs) cast-t19 returns)

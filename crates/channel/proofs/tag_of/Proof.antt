@@ -9,21 +9,15 @@ use Rattle.channel.proofs.Laws.{type-none}
 use Rattle.channel.proofs.tag_of.Statement.{statement}
 use Rattle.channel.proofs.tag_of.Tie as tie
 
-place-requires : tie.Need-place-requires
-place-requires c κs = search needs
-
 returns : tie.Need-returns
 unfolding padded typeOf
 returns c =
     sym (ap (λ t. tagPlaces (t .tag))
     (type-none (c .before .before .args .code) (c .before .place .result) (c .before .place .ensures) (omega arith)))
 
-tag-at-requires : tie.Need-tag-at-requires
-tag-at-requires c κs = search needs
-
 returns-2 : tie.Need-returns-2
 unfolding typeOf
 returns-2 c = c .tag-at .ensures ∙ sym (ap (λ t. tagPlaces (t .tag)) (c .before .before .place .ensures))
 
 pub tag-of-spec : {M : Type 1} → statement M
-tag-of-spec = tie.close (tie.spec place-requires returns tag-at-requires returns-2)
+tag-of-spec = tie.close (tie.spec (λ c κs. search needs) returns (λ c κs. search needs) returns-2)

@@ -10,15 +10,6 @@ use Rattle.chart.specs.Fraction.{fractionOf}
 use Rattle.chart.proofs.centre_fraction.Statement.{statement}
 use Rattle.chart.proofs.centre_fraction.Tie as tie
 
-sub-fraction : tie.Need-sub-fraction
-sub-fraction c = search needs
-
-mul-fraction : tie.Need-mul-fraction
-mul-fraction c = search needs
-
-shared-slice-copy-out-fraction : tie.Need-shared-slice-copy-out-fraction
-shared-slice-copy-out-fraction c = search needs
-
 fraction-requires : tie.Need-fraction-requires
 fraction-requires c κs =
     let s = c .before in
@@ -32,4 +23,4 @@ returns c =
 pub centre-fraction-spec : {M : Type 1} → statement M
 centre-fraction-spec =
     tie.close
-    (tie.spec sub-fraction mul-fraction shared-slice-copy-out-fraction fraction-requires returns)
+    (tie.spec (λ c. search needs) (λ c. search needs) (λ c. search needs) fraction-requires returns)

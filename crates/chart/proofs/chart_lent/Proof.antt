@@ -22,12 +22,6 @@ use Rattle.chart.proofs.chart_lent.Tie as tie
 abbrev figures : tie.Start → Figures
 figures c = lentFigures (c .args .scalars) (now (c .args .codes)) (now (c .args .scaled-centre))
 
-figures-known-lent-requires : tie.Need-figures-known-lent-requires
-figures-known-lent-requires c κs = search needs
-
-refused-mark-requires : tie.Need-refused-mark-requires
-refused-mark-requires c κs = search needs
-
 returns : tie.Need-returns
 returns c =
     let test = c .before .before in
@@ -35,12 +29,6 @@ returns c =
     c .refused-mark .ensures
     ∙ sym (refuses-figures total channelTypes (figures start) (start .args .horizontal) (start .args .vertical)
     (sym (test .figures-known-lent .ensures) ∙ not-true _ (c .before .if1 .taken)))
-
-channel-within-requires : tie.Need-channel-within-requires
-channel-within-requires c κs = search needs
-
-refused-mark-requires-2 : tie.Need-refused-mark-requires-2
-refused-mark-requires-2 c κs = search needs
 
 returns-2 : tie.Need-returns-2
 returns-2 c =
@@ -50,27 +38,25 @@ returns-2 c =
     ∙ sym (refuses-horizontal total channelTypes (figures start) (start .args .horizontal) (start .args .vertical)
     (sym (test .channel-within .ensures) ∙ not-true _ (c .before .if2 .taken)))
 
-channel-within-requires-2 : tie.Need-channel-within-requires-2
-channel-within-requires-2 c κs = search needs
-
-refused-mark-requires-3 : tie.Need-refused-mark-requires-3
-refused-mark-requires-3 c κs = search needs
-
 returns-3 : tie.Need-returns-3
 returns-3 c =
     let test = c .before .before in
-    let start = test .before .before .before .before .before .before in
+    let at-channel-within = test .before .before in
+    let start = at-channel-within .before .before .before .before in
     c .refused-mark3 .ensures
     ∙ sym (refuses-vertical total channelTypes (figures start) (start .args .horizontal) (start .args .vertical)
     (sym (test .channel-within2 .ensures) ∙ not-true _ (c .before .if3 .taken)))
 
 -- past the tests
 module _ (c : tie.Else3) where
+  abbrev at-else1 : tie.Else1
+  at-else1 = c .before .before .before .before
+
   abbrev start : tie.Start
-  start = c .before .before .before .before .before .before .before
+  start = at-else1 .before .before .before
 
   figures-pass : figuresKnown total channelTypes (figures start) ≡ true
-  figures-pass = sym (c .before .before .before .before .before .figures-known-lent .ensures) ∙ not-false _ (c .before .before .before .before .if1 .left)
+  figures-pass = sym (at-else1 .before .figures-known-lent .ensures) ∙ not-false _ (at-else1 .if1 .left)
 
   horizontal-passes : channelWithin (start .args .scalars .n) (start .args .horizontal) ≡ true
   horizontal-passes = sym (c .before .before .before .channel-within .ensures) ∙ not-false _ (c .before .before .if2 .left)
@@ -114,14 +100,14 @@ pub chart-lent-spec : {M : Type 1} → statement M
 chart-lent-spec =
     tie.close
     (tie.spec
-    figures-known-lent-requires
-    refused-mark-requires
+    (λ c κs. search needs)
+    (λ c κs. search needs)
     returns
-    channel-within-requires
-    refused-mark-requires-2
+    (λ c κs. search needs)
+    (λ c κs. search needs)
     returns-2
-    channel-within-requires-2
-    refused-mark-requires-3
+    (λ c κs. search needs)
+    (λ c κs. search needs)
     returns-3
     centre-fraction-requires
     centre-fraction-requires-2

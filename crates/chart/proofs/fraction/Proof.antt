@@ -16,9 +16,6 @@ int-to-float-result c =
     let s = c .before in
     subst (λ (z : ℤ). T (inFloat binary64 z)) (sym (toZ-ofZ w64 (s .args .x) (s .fits .x))) (in-float (s .args .x) (s .pre))
 
-int-to-float-result-2 : tie.Need-int-to-float-result-2
-int-to-float-result-2 c = search needs
-
 returns : tie.Need-returns
 returns c =
     let s = c .before in
@@ -26,4 +23,4 @@ returns c =
     ∙ quotient-fraction total (lit< tt) (lit≤ tt) (s .args .x) (s .pre)
 
 pub fraction-spec : {M : Type 1} → statement M
-fraction-spec = tie.close (tie.spec int-to-float-result int-to-float-result-2 returns)
+fraction-spec = tie.close (tie.spec int-to-float-result (λ c. search needs) returns)

@@ -18,12 +18,6 @@ returns c =
     let s = c .before .args in
     sym (ap (markOf total (s .point)) (c .if1 .taken))
 
-ceiling-root-requires : tie.Need-ceiling-root-requires
-ceiling-root-requires c κs = search needs
-
-cast-fraction : tie.Need-cast-fraction
-cast-fraction c = search needs
-
 fraction-requires : tie.Need-fraction-requires
 fraction-requires c κs = omega (arith, ap natAbs (toZ-pos w64 (c .ceiling-root .result) (omega arith)))
 
@@ -37,4 +31,4 @@ returns-2 c =
 
 pub mark-of-spec : {M : Type 1} → statement M
 mark-of-spec =
-    tie.close (tie.spec returns ceiling-root-requires cast-fraction fraction-requires returns-2)
+    tie.close (tie.spec returns (λ c κs. search needs) (λ c. search needs) fraction-requires returns-2)

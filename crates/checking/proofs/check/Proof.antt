@@ -8,15 +8,6 @@ use Rattle.checking.specs.CheckLaws.{checking-limits}
 use Rattle.checking.proofs.check.Statement.{statement}
 use Rattle.checking.proofs.check.Tie as tie
 
-rows-within-requires : tie.Need-rows-within-requires
-rows-within-requires c κs = search needs
-
-refused-at-requires : tie.Need-refused-at-requires
-refused-at-requires c κs = search needs
-
-not-checked-requires : tie.Need-not-checked-requires
-not-checked-requires c κs = search needs
-
 returns : tie.Need-returns
 returns c =
     let outside = sym (c .before .before .before .rows-within .ensures) ∙ not-true _ (c .before .before .if1 .taken) in
@@ -33,9 +24,9 @@ pub check-spec : {M : Type 1} → statement M
 check-spec =
     tie.close
     (tie.spec
-    rows-within-requires
-    refused-at-requires
-    not-checked-requires
+    (λ c κs. search needs)
+    (λ c κs. search needs)
+    (λ c κs. search needs)
     returns
     check-weights-requires
     returns-2)

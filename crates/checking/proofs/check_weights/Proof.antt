@@ -30,12 +30,6 @@ weighed : (limit : ℕ) (rows : List ℤ) (m n : ℕ) {D : ℕ} {ws : List ℕ} 
     → record { outcome = Accepted; ball = b } ≡ checking D limit rows m n ws
 weighed limit rows m n {D} {ws} within places good balls = cc (checking-checked D limit rows m n ws within places (good .sum))
 
-refused-at-requires : tie.Need-refused-at-requires
-refused-at-requires c κs = search needs
-
-not-checked-requires : tie.Need-not-checked-requires
-not-checked-requires c κs = search needs
-
 returns : tie.Need-returns
 returns c =
     let tested = c .before .before in
@@ -44,15 +38,6 @@ returns c =
 
 weights-total-requires : tie.Need-weights-total-requires
 weights-total-requires c κs = omega (arith, within-table _ _ _ (c .before .before .pre) .rows-most, c .if1 .left)
-
-cast-if2 : tie.Need-cast-if2
-cast-if2 c = search needs
-
-refused-at-requires-2 : tie.Need-refused-at-requires-2
-refused-at-requires-2 c κs = search needs
-
-not-checked-requires-2 : tie.Need-not-checked-requires-2
-not-checked-requires-2 c κs = search needs
 
 returns-2 : tie.Need-returns-2
 returns-2 c =
@@ -68,9 +53,6 @@ good c = record { places = omega (arith, c .before .before .if1 .left); sum = sy
 
 scaled-centre-requires : tie.Need-scaled-centre-requires
 scaled-centre-requires c κs = (within-table _ _ _ (c .before .before .before .before .pre), weights-within (le-refl total) (good c))
-
-slice-aggregate-pair-of : tie.Need-slice-aggregate-pair-of
-slice-aggregate-pair-of c = search needs
 
 pair-of-requires : tie.Need-pair-of-requires
 pair-of-requires c κs =
@@ -91,16 +73,16 @@ pub check-weights-spec : {M : Type 1} → statement M
 check-weights-spec =
     tie.close
     (tie.spec
-    refused-at-requires
-    not-checked-requires
+    (λ c κs. search needs)
+    (λ c κs. search needs)
     returns
     weights-total-requires
-    cast-if2
-    refused-at-requires-2
-    not-checked-requires-2
+    (λ c. search needs)
+    (λ c κs. search needs)
+    (λ c κs. search needs)
     returns-2
     scaled-centre-requires
-    slice-aggregate-pair-of
+    (λ c. search needs)
     pair-of-requires
     ball-of-requires
     returns-3)

@@ -5,12 +5,9 @@ use Rattle.drawing.specs.Draw.{start}
 use Rattle.drawing.proofs.all_on_first.Statement.{statement}
 use Rattle.drawing.proofs.all_on_first.Tie as tie
 
-array-write-weights : tie.Need-array-write-weights
-array-write-weights c = search needs
-
 returns : tie.Need-returns
 unfolding start
 returns c = refl
 
 pub all-on-first-spec : {M : Type 1} → statement M
-all-on-first-spec = tie.close (tie.spec array-write-weights returns)
+all-on-first-spec = tie.close (tie.spec (λ c. search needs) returns)

@@ -16,27 +16,12 @@ use Rattle.drawing.proofs.draw.Tie as tie
 within : (c : tie.Else1) → rowsWithin rowLimit (c .before .before .args .rows .now) (c .before .before .args .m) (c .before .before .args .n) ≡ true
 within c = sym (c .before .rows-within .ensures) ∙ not-false _ (c .if1 .left)
 
-rows-within-requires : tie.Need-rows-within-requires
-rows-within-requires c κs = search needs
-
-refused-at-requires : tie.Need-refused-at-requires
-refused-at-requires c κs = search needs
-
-not-drawn-requires : tie.Need-not-drawn-requires
-not-drawn-requires c κs = search needs
-
 returns : tie.Need-returns
 returns c =
     let outside = sym (c .before .before .before .rows-within .ensures) ∙ not-true _ (c .before .before .if1 .taken) in
     draw-promise _ _ _ _ _
     (c .not-drawn .ensures ∙ ap (notDrawn rowLimit) (c .before .refused-at .ensures) ∙
     sym (drawing-limits _ _ _ _ _ _ outside))
-
-refused-at-requires-2 : tie.Need-refused-at-requires-2
-refused-at-requires-2 c κs = search needs
-
-not-drawn-requires-2 : tie.Need-not-drawn-requires-2
-not-drawn-requires-2 c κs = search needs
 
 returns-2 : tie.Need-returns-2
 returns-2 c =
@@ -57,12 +42,12 @@ pub draw-spec : {M : Type 1} → statement M
 draw-spec =
     tie.close
     (tie.spec
-    rows-within-requires
-    refused-at-requires
-    not-drawn-requires
+    (λ c κs. search needs)
+    (λ c κs. search needs)
+    (λ c κs. search needs)
     returns
-    refused-at-requires-2
-    not-drawn-requires-2
+    (λ c κs. search needs)
+    (λ c κs. search needs)
     returns-2
     drawn-within-requires
     returns-3)

@@ -4,18 +4,11 @@ use Rattle.drawing.proofs.Laws.{drew}
 use Rattle.drawing.proofs.drawn_within.Statement.{statement}
 use Rattle.drawing.proofs.drawn_within.Tie as tie
 
-run-requires : tie.Need-run-requires
-run-requires c κs = search needs
-
-slice-aggregate-ball-of : tie.Need-slice-aggregate-ball-of
-slice-aggregate-ball-of c = search needs
-
-ball-of-requires : tie.Need-ball-of-requires
-ball-of-requires c κs = search needs
-
 returns : tie.Need-returns
-returns c = drew (c .before .before .before .before .before .run .ensures) (c .ball-of .ensures)
+returns c =
+    let at-weights2 = c .before in
+    drew (at-weights2 .before .before .before .before .run .ensures) (c .ball-of .ensures)
 
 pub drawn-within-spec : {M : Type 1} → statement M
 drawn-within-spec =
-    tie.close (tie.spec run-requires slice-aggregate-ball-of ball-of-requires returns)
+    tie.close (tie.spec (λ c κs. search needs) (λ c. search needs) (λ c κs. search needs) returns)

@@ -21,7 +21,10 @@ abbrev μ-loop : tie.MeasureT-loop
 
 -- seen from the body of the loop: the function's entry, the loop's head, and that the test holds
 abbrev entry : tie.Then1 Inv-loop μ-loop → tie.Start Inv-loop μ-loop
-entry c = c .before .before .before .before .before .before .before .before .before
+entry c =
+    let at-loop = c .before .before in
+    let at-scaled-centre = at-loop .before .before .before .before in
+    at-scaled-centre .before .before .before
 
 abbrev head : tie.Then1 Inv-loop μ-loop → tie.At-loop Inv-loop μ-loop
 head c = c .before .before
@@ -29,35 +32,22 @@ head c = c .before .before
 goes : (c : tie.Then1 Inv-loop μ-loop) → (ltb (head c .loop .pair .separation) (head c .loop .pair .difference) && ltb (head c .loop .moves) (entry c .args .budget)) ≡ true
 goes c = sym (c .before .goes-on .ensures) ∙ c .if1 .taken
 
-all-on-first-requires : tie.Need-all-on-first-requires Inv-loop μ-loop
-all-on-first-requires c κs = search needs
-
-slice-aggregate-scaled-centre : tie.Need-slice-aggregate-scaled-centre Inv-loop μ-loop
-slice-aggregate-scaled-centre c = search needs
-
 scaled-centre-requires : tie.Need-scaled-centre-requires Inv-loop μ-loop
 scaled-centre-requires c κs =
     let table = c .before .before .pre in
     (table, weights-within (le-refl total) (start-good table (c .before .all-on-first .ensures)))
 
-slice-aggregate-pair-of : tie.Need-slice-aggregate-pair-of Inv-loop μ-loop
-slice-aggregate-pair-of c = search needs
-
-slice-aggregate-pair-of-2 : tie.Need-slice-aggregate-pair-of-2 Inv-loop μ-loop
-slice-aggregate-pair-of-2 c = search needs
-
 pair-of-requires : tie.Need-pair-of-requires Inv-loop μ-loop
 pair-of-requires c κs =
-    let table = c .before .before .before .before .before .pre in
-    (table, (start-good table (c .before .before .before .before .all-on-first .ensures), c .before .before .scaled-centre .ensures))
+    let at-scaled-centre = c .before .before in
+    let table = at-scaled-centre .before .before .before .pre in
+    (table, (start-good table (at-scaled-centre .before .before .all-on-first .ensures), at-scaled-centre .scaled-centre .ensures))
 
 loop-holds : tie.Need-loop-holds Inv-loop μ-loop
 loop-holds c =
-    let first = c .before .before .before .before .before in
+    let at-scaled-centre2 = c .before in
+    let first = at-scaled-centre2 .before .before .before .before in
     begins (first .before .pre) (first .all-on-first .ensures) (lit≤ tt) (le-refl total) (c .before .before .before .scaled-centre .ensures) (c .pair-of .ensures)
-
-goes-on-requires : tie.Need-goes-on-requires Inv-loop μ-loop
-goes-on-requires c κs = search needs
 
 mul-transfer-of : tie.Need-mul-transfer-of Inv-loop μ-loop
 mul-transfer-of c = omega (arith, head c .loop .inv .paired, entry c .pre .rows-most)
@@ -84,20 +74,15 @@ shift-centre-requires c κs =
     let t-most = transfer-most table here (goes turn) (c .before .transfer-of .ensures) (omega (arith, here .paired)) in
     (table-row table _ (omega (arith, here .paired)), (table-row table _ (omega (arith, here .paired)), (centre-good table here, t-most)))
 
-slice-aggregate-pair-of-3 : tie.Need-slice-aggregate-pair-of-3 Inv-loop μ-loop
-slice-aggregate-pair-of-3 c = search needs
-
-slice-aggregate-pair-of-4 : tie.Need-slice-aggregate-pair-of-4 Inv-loop μ-loop
-slice-aggregate-pair-of-4 c = search needs
-
 pair-of-requires-2 : tie.Need-pair-of-requires-2 Inv-loop μ-loop
 pair-of-requires-2 c κs =
-    let turn = c .before .before .before .before .before in
+    let at-shift-centre = c .before .before in
+    let turn = at-shift-centre .before .before .before in
     let table = entry turn .pre in
     let here = head turn .loop .inv in
-    let stepped = c .before .before .before .before .transfer-of .ensures in
-    let move = c .before .before .before .one-move .ensures in
-    let shift = c .before .before .shift-centre .ensures in (
+    let stepped = at-shift-centre .before .before .transfer-of .ensures in
+    let move = at-shift-centre .before .one-move .ensures in
+    let shift = at-shift-centre .shift-centre .ensures in (
       table,
       (
         moved-good table here (goes turn) stepped (omega (arith, here .paired)) _ move (omega (arith, here .paired)),
@@ -107,25 +92,31 @@ pair-of-requires-2 c κs =
 
 add-moves : tie.Need-add-moves Inv-loop μ-loop
 add-moves c =
-    let turn = c .before .before .before .before .before .before in
+    let at-shift-centre = c .before .before .before in
+    let turn = at-shift-centre .before .before .before in
     omega (arith, more (entry turn .pre) (head turn .loop .inv) (goes turn), entry turn .fits .budget)
 
 loop-less : tie.Need-loop-less Inv-loop μ-loop
 loop-less c =
-    let turn = c .before .before .before .before .before .before in
+    let at-shift-centre = c .before .before .before in
+    let turn = at-shift-centre .before .before .before in
     omega (arith, more (entry turn .pre) (head turn .loop .inv) (goes turn))
 
 loop-again : tie.Need-loop-again Inv-loop μ-loop
 loop-again c =
-    let turn = c .before .before .before .before .before .before in
-    let stepped = c .before .before .before .before .before .transfer-of .ensures in
-    let move = c .before .before .before .before .one-move .ensures in
-    let shift = c .before .before .before .shift-centre .ensures in
+    let at-shift-centre = c .before .before .before in
+    let turn = at-shift-centre .before .before .before in
+    let stepped = at-shift-centre .before .before .transfer-of .ensures in
+    let move = at-shift-centre .before .one-move .ensures in
+    let shift = at-shift-centre .shift-centre .ensures in
     let here = head turn .loop .inv in
     again (entry turn .pre) here (goes turn) stepped (omega (arith, here .paired)) _ move (omega (arith, here .paired)) shift refl refl (c .pair-of2 .ensures)
 
 returns : tie.Need-returns Inv-loop μ-loop
-returns c = ends (c .before .before .before .before .before .before .before .before .before .pre) (c .before .before .loop .inv) (c .before .goes-on .ensures) (c .if1 .left)
+returns c =
+    let at-loop = c .before .before in
+    let at-scaled-centre = at-loop .before .before .before .before in
+    ends (at-scaled-centre .before .before .before .pre) (at-loop .loop .inv) (c .before .goes-on .ensures) (c .if1 .left)
 
 pub run-spec : {M : Type 1} → statement M
 run-spec =
@@ -133,21 +124,21 @@ run-spec =
     (tie.spec
     Inv-loop
     μ-loop
-    all-on-first-requires
-    slice-aggregate-scaled-centre
+    (λ c κs. search needs)
+    (λ c. search needs)
     scaled-centre-requires
-    slice-aggregate-pair-of
-    slice-aggregate-pair-of-2
+    (λ c. search needs)
+    (λ c. search needs)
     pair-of-requires
     loop-holds
-    goes-on-requires
+    (λ c κs. search needs)
     mul-transfer-of
     array-read-transfer-of
     transfer-of-requires
     one-move-requires
     shift-centre-requires
-    slice-aggregate-pair-of-3
-    slice-aggregate-pair-of-4
+    (λ c. search needs)
+    (λ c. search needs)
     pair-of-requires-2
     add-moves
     loop-less

@@ -1,5 +1,5 @@
 -- After each turn the sums are at most a number for each place that was passed, so that neither wraps. The place falls.
-use native.Mathlib.Omega.{arith}
+use borrow.Author.Needs.{needs}
 use Rattle.limits.specs.Limits.{channelLimit}
 use Rattle.case_io.specs.Digest.{Digesting}
 use Rattle.drawing_cases.proofs.centre_digest.Statement.{statement}
@@ -11,49 +11,19 @@ Inv-loop centre sum₀ tail₀ k₀ sum tail k = Digesting channelLimit 42949672
 abbrev μ-loop : tie.MeasureT-loop
 μ-loop centre sum₀ tail₀ k₀ sum tail k = k
 
-loop-holds : tie.Need-loop-holds Inv-loop μ-loop
-loop-holds c = omega arith
-
-sub-k : tie.Need-sub-k Inv-loop μ-loop
-sub-k c = omega arith
-
-mul-raised : tie.Need-mul-raised Inv-loop μ-loop
-mul-raised c = omega arith
-
-array-copy-out-raised : tie.Need-array-copy-out-raised Inv-loop μ-loop
-array-copy-out-raised c = omega arith
-
-raised-requires : tie.Need-raised-requires Inv-loop μ-loop
-raised-requires c κs = omega arith
-
-add-tail : tie.Need-add-tail Inv-loop μ-loop
-add-tail c = omega arith
-
-add-sum : tie.Need-add-sum Inv-loop μ-loop
-add-sum c = omega arith
-
-loop-less : tie.Need-loop-less Inv-loop μ-loop
-loop-less c = omega arith
-
-loop-again : tie.Need-loop-again Inv-loop μ-loop
-loop-again c = omega arith
-
-returns : tie.Need-returns Inv-loop μ-loop
-returns c = tt
-
 pub centre-digest-spec : {M : Type 1} → statement M
 centre-digest-spec =
     tie.close
     (tie.spec
     Inv-loop
     μ-loop
-    loop-holds
-    sub-k
-    mul-raised
-    array-copy-out-raised
-    raised-requires
-    add-tail
-    add-sum
-    loop-less
-    loop-again
-    returns)
+    (λ c. search needs)
+    (λ c. search needs)
+    (λ c. search needs)
+    (λ c. search needs)
+    (λ c κs. search needs)
+    (λ c. search needs)
+    (λ c. search needs)
+    (λ c. search needs)
+    (λ c. search needs)
+    (λ c. search needs))

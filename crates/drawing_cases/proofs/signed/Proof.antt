@@ -11,26 +11,11 @@ use Rattle.integers.specs.Absolute.{abs-sub, fits32}
 use Rattle.drawing_cases.proofs.signed.Statement.{statement}
 use Rattle.drawing_cases.proofs.signed.Tie as tie
 
-cast-result : tie.Need-cast-result
-cast-result c = search needs
-
-sub-result : tie.Need-sub-result
-sub-result c = search needs
-
-cast-result-2 : tie.Need-cast-result-2
-cast-result-2 c = search needs
-
 sub-result-2 : tie.Need-sub-result-2
 sub-result-2 c =
     let n = 65536 - c .before .args .bits in
     fits32 (pos 0 -ℤ toZ w32 n) (omega (arith, abs-sub (pos 0) (toZ w32 n), ap natAbs (toZ-pos w32 n (omega arith))))
 
-returns : tie.Need-returns
-returns c = search needs
-
-returns-2 : tie.Need-returns-2
-returns-2 c = search needs
-
 pub signed-spec : {M : Type 1} → statement M
 signed-spec =
-    tie.close (tie.spec cast-result sub-result cast-result-2 sub-result-2 returns returns-2)
+    tie.close (tie.spec (λ c. search needs) (λ c. search needs) (λ c. search needs) sub-result-2 (λ c. search needs) (λ c. search needs))

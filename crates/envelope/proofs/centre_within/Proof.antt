@@ -1,6 +1,6 @@
 -- `envelope::centre_within` meets its contract. The loop's invariant: the places passed are within the limit. A place
 -- that is not decides the answer. The measure is what is left of the places.
-use borrow.Author.Needs.{sfits-of}
+use borrow.Author.Needs.{needs, sfits-of}
 use Prim.Native.Nat.{_-_}
 use native.Mathlib.Omega.{arith}
 use mir.Syntax.{w64}
@@ -18,33 +18,20 @@ abbrev μ-loop : tie.MeasureT-loop
 loop-holds : tie.Need-loop-holds Inv-loop μ-loop
 loop-holds c = places-none (centreLimit total) (c .args .scaled-centre .now) (c .args .n)
 
-mul-x : tie.Need-mul-x Inv-loop μ-loop
-mul-x c = omega arith
-
-shared-slice-copy-out-x : tie.Need-shared-slice-copy-out-x Inv-loop μ-loop
-shared-slice-copy-out-x c = omega arith
-
-place-within-requires : tie.Need-place-within-requires Inv-loop μ-loop
-place-within-requires c κs = tt
-
 returns : tie.Need-returns Inv-loop μ-loop
 returns c =
-    let s = c .before .before .before .before .before .args in
-    let l = c .before .before .before .before .loop in
+    let at-loop = c .before .before .before .before in
+    let s = at-loop .before .args in
+    let l = at-loop .loop in
     let t = c .before .place-within in
     places-fail (centreLimit total) (s .scaled-centre .now) (s .n) w64 (l .k)
     (omega arith) (sfits-of (c .before .before .x .given)) (t .result) (t .ensures) (c .if1 .taken)
 
-add-k : tie.Need-add-k Inv-loop μ-loop
-add-k c = omega arith
-
-loop-less : tie.Need-loop-less Inv-loop μ-loop
-loop-less c = omega arith
-
 loop-again : tie.Need-loop-again Inv-loop μ-loop
 loop-again c =
-    let s = c .before .before .before .before .before .args in
-    let l = c .before .before .before .before .loop in
+    let at-loop = c .before .before .before .before in
+    let s = at-loop .before .args in
+    let l = at-loop .loop in
     let t = c .before .place-within in
     places-next (centreLimit total) (s .scaled-centre .now) (s .n) w64 (l .k)
     (omega arith) (sfits-of (c .before .before .x .given)) (t .result) (t .ensures) (l .inv) (c .if1 .left)
@@ -62,11 +49,11 @@ centre-within-spec =
     Inv-loop
     μ-loop
     loop-holds
-    mul-x
-    shared-slice-copy-out-x
-    place-within-requires
+    (λ c. search needs)
+    (λ c. search needs)
+    (λ c κs. search needs)
     returns
-    add-k
-    loop-less
+    (λ c. search needs)
+    (λ c. search needs)
     loop-again
     returns-2)

@@ -42,7 +42,8 @@ codes-known-requires c κs = omega (arith, places c .0)
 
 returns-2 : tie.Need-returns-2
 returns-2 c =
-    let f = figures (c .before .before .before .before .before) in
+    let at-codes-known = c .before in
+    let f = figures (at-codes-known .before .before .before .before) in
     refuted _ (λ h. clash (known-coded total channelTypes f h .each-known) (sym (c .before .codes-known .ensures) ∙ not-true _ (c .if2 .taken)))
 
 figures-within-requires : tie.Need-figures-within-requires

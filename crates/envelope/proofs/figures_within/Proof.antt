@@ -48,11 +48,14 @@ returns-4 : tie.Need-returns-4
 returns-4 c codes = figures-refused _ (given (c .before .before .before .before) codes) (λ w. omega (arith, w .radius-limit))
 
 returns-5 : tie.Need-returns-5
-returns-5 c codes = figures-refused _ (given (c .before .before .before .before .before .before) codes) (λ w. omega (arith, w .floor-limit))
+returns-5 c codes =
+    let at-else4 = c .before .before in
+    figures-refused _ (given (at-else4 .before .before .before .before) codes) (λ w. omega (arith, w .floor-limit))
 
 returns-6 : tie.Need-returns-6
 returns-6 c codes =
-    let with-centre = c .before .before .before .before .before in
+    let at-else5 = c .before in
+    let with-centre = at-else5 .before .before .before .before in
     let counted = with-centre .before .before in
     let f = given counted codes in
     let centre = sym (with-centre .before .centre-within .ensures) ∙ not-false _ (with-centre .if3 .left) in

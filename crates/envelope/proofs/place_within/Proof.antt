@@ -7,9 +7,6 @@ use Rattle.limits.specs.Limits.{total, centreLimit}
 use Rattle.envelope.proofs.place_within.Statement.{statement}
 use Rattle.envelope.proofs.place_within.Tie as tie
 
-sub-if1 : tie.Need-sub-if1
-sub-if1 c = search needs
-
 returns : tie.Need-returns
 returns c = low-test w64 (c .before .args .x) (c .before .fits .x) (centreLimit total) (c .if1 .taken)
 
@@ -17,4 +14,4 @@ returns-2 : tie.Need-returns-2
 returns-2 c = high-test w64 (c .before .args .x) (c .before .fits .x) (centreLimit total) (c .if1 .left)
 
 pub place-within-spec : {M : Type 1} → statement M
-place-within-spec = tie.close (tie.spec sub-if1 returns returns-2)
+place-within-spec = tie.close (tie.spec (λ c. search needs) returns returns-2)

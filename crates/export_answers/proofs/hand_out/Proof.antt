@@ -29,10 +29,15 @@ answered c =
     c .with-room .ensures
     ∙ ap (λ (room : Bool). withRoom room (c .before .before .before .before .args .answered)) (c .before .both-fit .ensures)
 
+abbrev start-of : tie.After-number-of → tie.Start
+start-of c =
+    let at-with-room = c .before in
+    at-with-room .before .before .before .before
+
 returns : tie.Need-returns
 returns c =
     let at-number = c .before .before in
-    let args = at-number .before .before .before .before .before .args in
+    let args = start-of at-number .args in
     let e = ap (λ (r : EnvelopeAnswer). r .number) (c .envelope-in-numbers .ensures) ∙ sym (at-number .number-of .ensures) in (
       c .envelope-in-numbers .ensures ∙ ap (λ (o : Outcome). envelopeInNumbers o (args .ball) (args .moves)) (answered (at-number .before)),
       (unwritten e (args .n) _ (now (args .scaled-centre)) (c .before .if1 .taken), unwritten e (args .m) _ (now (args .weights)) (c .before .if1 .taken)),
@@ -40,11 +45,11 @@ returns c =
 
 -- the places of what is copied and of what it is copied to
 abbrev places : (c : tie.Else1)
-    → let args = c .before .before .before .before .before .before .args in
+    → let args = start-of (c .before) .args in
     ((args .n ≤ length (now (args .scaled-centre))) × (args .m ≤ length (now (args .weights))))
     × ((args .n ≤ channelLimit) × (args .m ≤ length (now (args .drawn))))
 places c =
-    let start = c .before .before .before .before .before .before in
+    let start = start-of (c .before) in
     let centre-fits = leb (start .args .n) (length (now (start .args .scaled-centre))) in
     let weights-fit = leb (start .args .m) (length (now (start .args .weights))) in
     let accepted =
@@ -59,13 +64,14 @@ slice-aggregate-fill-centre c = search needs
 fill-centre-requires : tie.Need-fill-centre-requires
 fill-centre-requires c κs =
     let at-else = c .before .before .before in
-    let start = at-else .before .before .before .before .before .before in
+    let start = start-of (at-else .before) in
     let eight : channelLimit ≡ length (start .args .ball .«scaled_centre») = slice-aggregate-fill-centre c in
     (places at-else .0 .0, omega (arith, places at-else .1 .0))
 
 fill-weights-requires : tie.Need-fill-weights-requires
 fill-weights-requires c κs =
-    let at-else = c .before .before .before .before .before .before in
+    let at-fill-centre = c .before .before in
+    let at-else = at-fill-centre .before .before .before .before in
     (places at-else .0 .1, places at-else .1 .1)
 
 returns-2 : tie.Need-returns-2
@@ -74,7 +80,7 @@ returns-2 c =
     let at-fill-centre = at-fill-weights .before .before .before in
     let at-else = at-fill-centre .before .before .before .before in
     let at-number = at-else .before in
-    let args = at-number .before .before .before .before .before .args in
+    let args = start-of at-number .args in
     let e = ap (λ (r : EnvelopeAnswer). r .number) (c .envelope-in-numbers2 .ensures) ∙ sym (at-number .number-of .ensures) in (
       c .envelope-in-numbers2 .ensures ∙ ap (λ (o : Outcome). envelopeInNumbers o (args .ball) (args .moves)) (answered (at-number .before)),
       (

@@ -62,11 +62,12 @@ fill-centre-requires c κs =
 
 returns-2 : tie.Need-returns-2
 returns-2 c =
-    let at-number = c .before .before .before .before .before .before .before in
+    let at-centre2 = c .before .before .before in
+    let at-number = at-centre2 .before .before .before .before in
     let at-check = at-number .before .before in
     let args = at-check .before .before .args in
     let (answer, number) = answered at-number (c .check-in-numbers2 .ensures) in
-    let accepted = c .before .before .before .before .before .before .if1 .left in (
+    let accepted = at-centre2 .before .before .before .if1 .left in (
       answer,
       rewritten number (args .n) _ (now (args .scaled-centre)) accepted (c .before .before .fill-centre .ensures)
           ∙ ap (λ (k : Checked). filled (c .check-in-numbers2 .result .number) (args .n) (k .ball .«scaled_centre») (now (args .scaled-centre)))

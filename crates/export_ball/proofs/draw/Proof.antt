@@ -17,7 +17,8 @@ weights-places c = search needs
 
 hand-out-requires : tie.Need-hand-out-requires
 hand-out-requires c κs =
-    let at-draw = c .before .before .before .before .before in
+    let at-drawn2 = c .before .before in
+    let at-draw = at-drawn2 .before .before .before in
     let args = at-draw .before .before .args in
     accepted-places (now (args .rows)) (args .m) (args .n) (weights-places at-draw) (ap (λ (d : Drawing). d .outcome) (at-draw .draw .ensures .is))
     (drawing-zero total rowLimit (now (args .rows)) (args .m) (args .n) (args .budget))
@@ -26,7 +27,8 @@ hand-out-requires c κs =
 returns : tie.Need-returns
 returns c =
     let at-hand-out = c .before .before .before in
-    let at-draw = at-hand-out .before .before .before .before .before .before in
+    let at-drawn2 = at-hand-out .before .before .before in
+    let at-draw = at-drawn2 .before .before .before in
     let args = at-draw .before .before .args in
     let is = at-draw .draw .ensures .is in
     let number = at-hand-out .hand-out .result .number in

@@ -23,7 +23,8 @@ use Rattle.export_chart.proofs.panel.Statement.{statement}
 use Rattle.export_chart.proofs.panel.Tie as tie
 
 abbrev answered : (c : tie.After-line-of)
-    → let args = c .before .before .before .before .before .before .args in
+    → let at-with-room = c .before .before in
+    let args = at-with-room .before .before .before .before .args in
     _≡_ {A = PanelAnswer} (record { number = c .before .number-of .result; line = c .line-of .result })
     (panelAnswer (panelGiven total channelTypes (args .figures) (now (args .codes)) (now (args .scaled-centre))) (args .figures .n) (length (now (args .steps))))
 answered c =
@@ -35,7 +36,8 @@ answered c =
 
 returns : tie.Need-returns
 returns c =
-    let args = c .before .before .before .before .before .before .before .before .args in
+    let at-with-room = c .before .before .before .before in
+    let args = at-with-room .before .before .before .before .args in
     (answered (c .before .before), unwritten refl (args .figures .n) _ (now (args .steps)) (c .if1 .taken))
 
 slice-aggregate-fill-table : tie.Need-slice-aggregate-fill-table
@@ -43,7 +45,8 @@ slice-aggregate-fill-table c = search needs
 
 fill-table-requires : tie.Need-fill-table-requires
 fill-table-requires c κs =
-    let at-number = c .before .before .before .before .before .before in
+    let at-else1 = c .before .before .before in
+    let at-number = at-else1 .before .before .before in
     let at-panel = at-number .before .before .before in
     let args = at-panel .before .before .args in
     let fits = leb (args .figures .n) (length (now (args .steps))) in
@@ -51,13 +54,14 @@ fill-table-requires c κs =
     room-accepted fits (at-panel .panel-given .result .outcome)
     (subst (λ (shown : PanelShown). numberOf (shown .outcome) ≡ 0 → (shown .outcome ≡ Accepted) × (args .figures .n ≤ channelLimit))
     (sym (at-panel .panel-given .ensures)) (panel-accepted total channelTypes (args .figures) (now (args .codes)) (now (args .scaled-centre))))
-    (ap numberOf (sym (at-number .before .with-room .ensures)) ∙ sym (at-number .number-of .ensures) ∙ c .before .before .before .if1 .left) in
+    (ap numberOf (sym (at-number .before .with-room .ensures)) ∙ sym (at-number .number-of .ensures) ∙ at-else1 .if1 .left) in
     let eight : channelLimit ≡ length (at-panel .panel-given .result .steps) = slice-aggregate-fill-table c in
     (omega (arith, leb-true (args .figures .n) (length (now (args .steps))) (places .0)), omega (arith, places .1))
 
 returns-2 : tie.Need-returns-2
 returns-2 c =
-    let at-else = c .before .before .before .before .before in
+    let at-fill-table = c .before in
+    let at-else = at-fill-table .before .before .before .before in
     let at-line = at-else .before .before in
     let at-panel = at-line .before .before .before .before in
     let args = at-panel .before .before .args in (

@@ -30,11 +30,16 @@ tests c {ending} {counted} {placed} {enough} a b p e =
 ending : (c : tie.Else1) → endingKnown (c .before .before .before .before .args .given) ≡ true
 ending c = sym (c .before .ending-known .ensures) ∙ not-false _ (c .if1 .left)
 
-counted : (c : tie.Else2) → leb (c .before .before .before .before .before .before .args .given .n) channelLimit ≡ true
-counted c = le-leb (c .before .before .before .before .before .before .args .given .n) channelLimit (c .if2 .left)
+abbrev start-of : tie.Else2 → tie.Start
+start-of c =
+    let at-ending-known = c .before .before .before in
+    at-ending-known .before .before .before
+
+counted : (c : tie.Else2) → leb (start-of c .args .given .n) channelLimit ≡ true
+counted c = le-leb (start-of c .args .given .n) channelLimit (c .if2 .left)
 
 placed : (c : tie.Else3)
-    → let args = c .before .before .before .before .before .before .before .before .args in
+    → let args = start-of (c .before .before) .args in
     placesLent (args .given .n) (now (args .codes)) (now (args .scaled-centre)) ≡ true
 placed c = sym (c .before .places-lent .ensures) ∙ not-false _ (c .if3 .left)
 
@@ -56,7 +61,7 @@ returns-3 c =
 
 -- past the tests of the figures, by the test of as many weights as rows
 enough : (c : tie.Else3) {t : Bool}
-    → let args = c .before .before .before .before .before .before .before .before .args in
+    → let args = start-of (c .before .before) .args in
     leb (args .m) (length (now (args .weights))) ≡ t
     → (t && leb (length (now (args .weights))) rowLimit)
     ≡ envelopeWhole rowLimit (args .given) (now (args .codes)) (now (args .scaled-centre)) (now (args .weights)) (args .m)
@@ -67,12 +72,12 @@ enough c =
 
 returns-4 : tie.Need-returns-4
 returns-4 c =
-    let args = c .before .before .before .before .before .before .before .before .before .args in
+    let args = start-of (c .before .before .before) .args in
     enough (c .before) (lt-leb (args .m) (length (now (args .weights))) (c .if4 .taken))
 
 returns-5 : tie.Need-returns-5
 returns-5 c =
-    let args = c .before .before .before .before .before .before .before .before .before .args in
+    let args = start-of (c .before .before .before) .args in
     enough (c .before) (le-leb (args .m) (length (now (args .weights))) (c .if4 .left))
 
 pub envelope-whole-spec : {M : Type 1} → statement M

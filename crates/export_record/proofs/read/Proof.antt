@@ -18,7 +18,8 @@ weights-places c = search needs
 
 hand-out-requires : tie.Need-hand-out-requires
 hand-out-requires c κs =
-    let at-read = c .before .before .before .before .before .before .before in
+    let at-stated = c .before .before .before in
+    let at-read = at-stated .before .before .before .before in
     let args = at-read .before .before .before .before .args in
     accepted-places (now (args .rows)) (args .m) (args .n) (weights-places at-read) (ap (λ (a : EnvelopeRead). a .outcome) (at-read .read .ensures))
     (read-zero total rowLimit channelTypes (now (args .rows)) (args .m) (args .n) (now (args .codes)) (now (args .text)))
@@ -28,7 +29,8 @@ hand-out-requires c κs =
 returns : tie.Need-returns
 returns c =
     let at-hand-out = c .before .before .before in
-    let at-read = at-hand-out .before .before .before .before .before .before .before .before in
+    let at-stated = at-hand-out .before .before .before .before in
+    let at-read = at-stated .before .before .before .before in
     let args = at-read .before .before .before .before .args in
     let is = at-read .read .ensures in
     let number = at-hand-out .hand-out .result .number in

@@ -36,7 +36,8 @@ returns c =
 
 envelope-given-requires : tie.Need-envelope-given-requires
 envelope-given-requires c κs =
-    let args = c .before .before .before .before .before .args in
+    let at-envelope-whole = c .before in
+    let args = at-envelope-whole .before .before .before .before .args in
     whole-places rowLimit (args .figures) (now (args .codes)) (now (args .scaled-centre)) (now (args .weights)) (args .m)
     (sym (c .before .envelope-whole .ensures) ∙ not-false _ (c .if1 .left))
 

@@ -63,28 +63,33 @@ slice-aggregate-fill-table c = search needs
 
 fill-table-requires : tie.Need-fill-table-requires
 fill-table-requires c κs =
-    let at-read = c .before .before .before .before .before in
-    (omega (arith, c .before .before .before .if1 .left), omega (arith, places at-read, slice-aggregate-fill-table c))
+    let at-else2 = c .before .before in
+    let at-read = at-else2 .before .before .before in
+    (omega (arith, at-else2 .before .if1 .left), omega (arith, places at-read, slice-aggregate-fill-table c))
 
 fill-codes-requires : tie.Need-fill-codes-requires
 fill-codes-requires c κs =
-    let at-else2 = c .before .before .before .before .before .before .before in
+    let at-fill-table = c .before .before .before .before in
+    let at-else2 = at-fill-table .before .before .before in
     (at-else2 .if2 .left, channels (at-else2 .before .before .before))
 
 returns-3 : tie.Need-returns-3
 returns-3 c =
-    let at-read = c .before .before .before .before .before .before .before .before .before .before .before .before .before .before .before in
+    let at-fill-codes = c .before .before .before .before in
+    let at-table = at-fill-codes .before .before .before .before in
+    let at-else2 = at-table .before .before .before .before in
+    let at-read = at-else2 .before .before .before in
     let args = at-read .before .before .before .before .args in
     let r = at-read .read .result in
     let is = read-is at-read in
-    let h = c .before .before .before .before .before .before .before .before .before .before .before .before .before .if1 .left in
-    let k = c .before .before .before .before .before .before .before .before .before .before .before .before .if2 .left in (
+    let h = at-else2 .before .if1 .left in
+    let k = at-else2 .if2 .left in (
       answered (now (args .text)) r is (length (now (args .table))) (length (now (args .codes))) h k _ _ (c .before .number-of .ensures) (c .line-of .ensures),
       (
-        c .before .before .before .before .before .before .before .before .before .fill-table .ensures
+        at-table .before .fill-table .ensures
             ∙ table-filled (now (args .text)) r is (length (now (args .table))) (length (now (args .codes))) h k _ _ (c .before .number-of .ensures)
             (c .line-of .ensures) _ _ (now (args .table)) (answer-values rowLimit channelTypes (now (args .text)) ∙ ap (λ (a : Reference). a .m * a .n) (sym is)) (at-read .read .ensures .1),
-        c .before .before .before .before .fill-codes .ensures
+        at-fill-codes .fill-codes .ensures
             ∙ codes-filled (now (args .text)) r is (length (now (args .table))) (length (now (args .codes))) h k _ _ (c .before .number-of .ensures)
             (c .line-of .ensures) (now (args .codes)),
       ),

@@ -8,26 +8,11 @@ use borrow.Author.Needs.{needs}
 use Rattle.file_name.proofs.put_name.Statement.{statement}
 use Rattle.file_name.proofs.put_name.Tie as tie
 
-put-quoted-requires : tie.Need-put-quoted-requires
-put-quoted-requires c κs = search needs
-
-same-length : tie.Need-same-length
-same-length c = search needs
-
 returns : tie.Need-returns
 returns c =
     let at-quoted = c .before .before .before in
     let name = at-quoted .before .before .before .before .args .name .now in
     put-within (put-as (at-quoted .put-quoted .ensures .put) (name-whole name (c .if1 .taken)) refl) (omega arith) (omega arith)
-
-slice-aggregate-put-bytes : tie.Need-slice-aggregate-put-bytes
-slice-aggregate-put-bytes c = search needs
-
-put-bytes-requires : tie.Need-put-bytes-requires
-put-bytes-requires c κs = search needs
-
-same-length-2 : tie.Need-same-length-2
-same-length-2 c = search needs
 
 returns-2 : tie.Need-returns-2
 returns-2 c =
@@ -42,10 +27,10 @@ pub put-name-spec : {M : Type 1} → statement M
 put-name-spec =
     tie.close
     (tie.spec
-    put-quoted-requires
-    same-length
+    (λ c κs. search needs)
+    (λ c. search needs)
     returns
-    slice-aggregate-put-bytes
-    put-bytes-requires
-    same-length-2
+    (λ c. search needs)
+    (λ c κs. search needs)
+    (λ c. search needs)
     returns-2)

@@ -3,6 +3,7 @@ use Prim.Native.Nat.{ℕ, _+_, _-_, _*_, _≤_, _<_}
 use mathlib.Core.Path.{_≡_, refl, sym, ap, _∙_}
 use mathlib.Core.List.{List, _++_}
 use native.Mathlib.Omega.{arith}
+use borrow.Author.Needs.{needs}
 use lib.ListN.{length, getD, take}
 use Rattle.printing.specs.Contracts.{Put}
 use Rattle.printing.specs.ContractLaws.{put-none, put-then, put-as, take-next}
@@ -23,34 +24,17 @@ abbrev μ-loop : tie.MeasureT-loop
 byte-more : (name : List ℕ) (i : ℕ) → i < length name → escaped (take i name) ++ escapedByte (getD name i 0) ≡ escaped (take (i + 1) name)
 byte-more name i h = sym (escaped-more (take i name) (getD name i 0)) ∙ ap escaped (take-next name i 0 h)
 
-shown-length-requires : tie.Need-shown-length-requires Inv-loop μ-loop
-shown-length-requires c κs = tt
-
 loop-holds : tie.Need-loop-holds Inv-loop μ-loop
 loop-holds c = (omega arith, omega arith, put-as (put-none _ _) (sym escaped-none) refl)
 
-shared-slice-read-put-escaped-byte : tie.Need-shared-slice-read-put-escaped-byte Inv-loop μ-loop
-shared-slice-read-put-escaped-byte c = omega arith
-
-put-escaped-byte-requires : tie.Need-put-escaped-byte-requires Inv-loop μ-loop
-put-escaped-byte-requires c κs = omega arith
-
-add-i : tie.Need-add-i Inv-loop μ-loop
-add-i c = omega arith
-
-loop-less : tie.Need-loop-less Inv-loop μ-loop
-loop-less c = omega arith
-
 loop-again : tie.Need-loop-again Inv-loop μ-loop
 loop-again c =
-    let at-loop = c .before .before .before .before .before .before in
+    let at-put-escaped-byte = c .before .before in
+    let at-loop = at-put-escaped-byte .before .before .before .before in
     let name = at-loop .before .before .before .before .args .name .now in
     let more = byte-more name (at-loop .loop .i) (omega arith) in
-    let printed = c .before .before .put-escaped-byte .ensures in
+    let printed = at-put-escaped-byte .put-escaped-byte .ensures in
     (omega arith, omega arith, put-as (put-then (at-loop .loop .inv .2) (printed .put)) more refl)
-
-same-length : tie.Need-same-length Inv-loop μ-loop
-same-length c = c .before .loop .inv .2 .same-length
 
 returns : tie.Need-returns Inv-loop μ-loop
 returns c =
@@ -66,12 +50,12 @@ put-start-spec =
     (tie.spec
     Inv-loop
     μ-loop
-    shown-length-requires
+    (λ c κs. search needs)
     loop-holds
-    shared-slice-read-put-escaped-byte
-    put-escaped-byte-requires
-    add-i
-    loop-less
+    (λ c. search needs)
+    (λ c κs. search needs)
+    (λ c. search needs)
+    (λ c. search needs)
     loop-again
-    same-length
+    (λ c. search needs)
     returns)

@@ -4,6 +4,7 @@ use Prim.Native.Nat.{ℕ, _+_, _-_, _^_, _≤_, _<_}
 use mathlib.Core.Path.{_≡_, refl, sym, ap, ap₂, _∙_}
 use mathlib.Core.List.{List, [], _∷_, _++_}
 use native.Mathlib.Omega.{arith}
+use borrow.Author.Needs.{needs}
 use lib.IntN.{pos}
 use lib.ListN.{length, getD, set, take, length-set}
 use lib.Seq.{length-take-le}
@@ -54,54 +55,39 @@ tag-more codes i h {out} {from = from} within f p = (
 cast-t9 : tie.Need-cast-t9 Inv-loop μ-loop
 cast-t9 c = fits64 (pos (c .before .before .before .args .n)) (omega arith)
 
-slice-aggregate-put-numbers : tie.Need-slice-aggregate-put-numbers Inv-loop μ-loop
-slice-aggregate-put-numbers c = refl
+abbrev start-of : tie.After-count Inv-loop μ-loop → tie.Start Inv-loop μ-loop
+start-of c =
+    let at-put-numbers-arg = c .before in
+    at-put-numbers-arg .before .before .before .before
 
 put-numbers-requires : tie.Need-put-numbers-requires Inv-loop μ-loop
 put-numbers-requires c κs =
-    let n = c .before .before .before .before .before .args .n in
+    let n = start-of c .args .n in
     (omega arith, (held-below (n ∷ []) (alone (2 ^ 63) n (omega arith)), omega arith))
 
 loop-holds : tie.Need-loop-holds Inv-loop μ-loop
 loop-holds c =
-    let start = c .before .before .before .before .before .before .before .before in
+    let start = start-of (c .before .before .before) in
     let first = counted (start .args .n) (omega arith) (start .args .word .now) (c .before .before .put-numbers .ensures) in
     (omega arith, omega arith, put-as (put-none _ _) (sym (tags-first channelTypes)) refl)
-
-slice-write-out : tie.Need-slice-write-out Inv-loop μ-loop
-slice-write-out c = omega arith
-
-add-put-tag : tie.Need-add-put-tag Inv-loop μ-loop
-add-put-tag c = omega arith
-
-shared-slice-read-put-tag : tie.Need-shared-slice-read-put-tag Inv-loop μ-loop
-shared-slice-read-put-tag c = omega arith
 
 put-tag-requires : tie.Need-put-tag-requires Inv-loop μ-loop
 put-tag-requires c κs =
     let at-loop = c .before .before .before in
     omega (arith, length-set (at-loop .loop .out) (at-loop .loop .from) comma)
 
-add-i : tie.Need-add-i Inv-loop μ-loop
-add-i c = omega arith
-
-loop-less : tie.Need-loop-less Inv-loop μ-loop
-loop-less c = omega arith
-
 loop-again : tie.Need-loop-again Inv-loop μ-loop
 loop-again c =
-    let at-loop = c .before .before .before .before .before .before in
-    let start = at-loop .before .before .before .before .before .before .before .before .before in
-    let more = tag-more (start .args .codes .now) (at-loop .loop .i) (omega arith) (omega arith) (at-loop .loop .inv .2) (c .before .before .put-tag .ensures) in
+    let at-put-tag = c .before .before in
+    let at-loop = at-put-tag .before .before .before .before in
+    let start = start-of (at-loop .before .before .before .before) in
+    let more = tag-more (start .args .codes .now) (at-loop .loop .i) (omega arith) (omega arith) (at-loop .loop .inv .2) (at-put-tag .put-tag .ensures) in
     (omega arith, omega arith, more .1)
-
-same-length : tie.Need-same-length Inv-loop μ-loop
-same-length c = omega arith
 
 returns : tie.Need-returns Inv-loop μ-loop
 returns c =
     let at-loop = c .before in
-    let start = at-loop .before .before .before .before .before .before .before .before .before in
+    let start = start-of (at-loop .before .before .before .before) in
     let all : at-loop .loop .i ≡ start .args .n = omega arith in
     let codes = take (start .args .n) (start .args .codes .now) in
     let n : start .args .n ≡ length codes = sym (length-take-le _ _ (omega arith)) in
@@ -118,15 +104,15 @@ put-heading-spec =
     Inv-loop
     μ-loop
     cast-t9
-    slice-aggregate-put-numbers
+    (λ c. search needs)
     put-numbers-requires
     loop-holds
-    slice-write-out
-    add-put-tag
-    shared-slice-read-put-tag
+    (λ c. search needs)
+    (λ c. search needs)
+    (λ c. search needs)
     put-tag-requires
-    add-i
-    loop-less
+    (λ c. search needs)
+    (λ c. search needs)
     loop-again
-    same-length
+    (λ c. search needs)
     returns)

@@ -20,9 +20,6 @@ held-within c =
     let three : length (c .tag-of .result .bytes) ≡ tagLimit = search needs in
     omega (arith, tag-within (c .tag-of .result) _ (c .tag-of .ensures) (short _))
 
-tag-of-requires : tie.Need-tag-of-requires
-tag-of-requires c κs = search needs
-
 array-share-prefix-bytes : tie.Need-array-share-prefix-bytes
 array-share-prefix-bytes c = held-within (c .before .before)
 
@@ -36,21 +33,19 @@ put-bytes-requires c κs =
     let taken = length-take-le (tag .length) (tag .bytes) (held-within at-tag) in
     omega (arith, taken, tag-within tag _ (at-tag .tag-of .ensures) (short _))
 
-same-length : tie.Need-same-length
-same-length c = search needs
-
 returns : tie.Need-returns
 returns c =
-    let at-tag = c .before .before .before .before .before .before in
-    put-as (c .before .before .put-bytes .ensures) (tag-taken (at-tag .tag-of .result) _ (at-tag .tag-of .ensures) (short _)) refl
+    let at-put-bytes = c .before .before in
+    let at-tag = at-put-bytes .before .before .before .before in
+    put-as (at-put-bytes .put-bytes .ensures) (tag-taken (at-tag .tag-of .result) _ (at-tag .tag-of .ensures) (short _)) refl
 
 pub put-tag-spec : {M : Type 1} → statement M
 put-tag-spec =
     tie.close
     (tie.spec
-    tag-of-requires
+    (λ c κs. search needs)
     array-share-prefix-bytes
     slice-aggregate-put-bytes
     put-bytes-requires
-    same-length
+    (λ c. search needs)
     returns)

@@ -16,17 +16,8 @@ use Rattle.heading.proofs.HeadingSteps.{count-most, heading-other-word,
 use Rattle.heading.proofs.read_heading.Statement.{statement}
 use Rattle.heading.proofs.read_heading.Tie as tie
 
-field-end-requires : tie.Need-field-end-requires
-field-end-requires c κs = search needs
-
 slice-aggregate-same-bytes : tie.Need-slice-aggregate-same-bytes
 slice-aggregate-same-bytes c = sym (length-take-le _ _ (c .before .field-end .ensures .high))
-
-same-bytes-requires : tie.Need-same-bytes-requires
-same-bytes-requires c κs = search needs
-
-no-heading-requires : tie.Need-no-heading-requires
-no-heading-requires c κs = search needs
 
 first : (c : tie.After-field-end)
     → let line = now (c .before .before .before .args .line) in
@@ -42,47 +33,26 @@ returns c =
     ∙ sym (ap headingRead (heading-other-word (now (at-end .before .before .before .args .word)) channelLimit channelTypes _ (first at-end)
     (sym (at-same .same-bytes .ensures) ∙ not-true _ (c .before .if1 .taken))))
 
-add-at : tie.Need-add-at
-add-at c = search needs
-
-no-heading-requires-2 : tie.Need-no-heading-requires-2
-no-heading-requires-2 c κs = search needs
-
 returns-2 : tie.Need-returns-2
 returns-2 c =
-    let at-end = c .before .before .before .before .before in
+    let at-same-bytes = c .before .before .before in
+    let at-end = at-same-bytes .before .before in
     let line = now (at-end .before .before .before .args .line) in
     let end = at-end .field-end .result in
     c .no-heading2 .ensures
     ∙ sym (ap headingRead (heading-short (now (at-end .before .before .before .args .word)) channelLimit channelTypes _
     (first at-end ∙ ap (λ l. take end line ∷ l) (parts-none comma line (end + 1) (c .before .if2 .taken)))))
 
-field-end-requires-2 : tie.Need-field-end-requires-2
-field-end-requires-2 c κs = search needs
-
-sub-stated-count : tie.Need-sub-stated-count
-sub-stated-count c = search needs
-
-part-stated-count-start : tie.Need-part-stated-count-start
-part-stated-count-start c = search needs
-
-part-stated-count-end : tie.Need-part-stated-count-end
-part-stated-count-end c = search needs
-
-stated-count-requires : tie.Need-stated-count-requires
-stated-count-requires c κs = search needs
-
-no-heading-requires-3 : tie.Need-no-heading-requires-3
-no-heading-requires-3 c κs = search needs
-
 fields : (c : tie.After-field-end2)
-    → let at-end = c .before .before .before .before .before in
+    → let at-same-bytes = c .before .before .before in
+    let at-end = at-same-bytes .before .before in
     let line = now (at-end .before .before .before .args .line) in
     let at = at-end .field-end .result + 1 in
     let end = c .field-end2 .result in
     cut comma line ≡ take (at-end .field-end .result) line ∷ take (end - at) (drop at line) ∷ partsFrom comma line (end + 1)
 fields c =
-    let at-end = c .before .before .before .before .before in
+    let at-same-bytes = c .before .before .before in
+    let at-end = at-same-bytes .before .before in
     let line = now (at-end .before .before .before .args .line) in
     first at-end
     ∙ ap (λ l. take (at-end .field-end .result) line ∷ l)
@@ -92,12 +62,10 @@ returns-3 : tie.Need-returns-3
 returns-3 c =
     let at-count = c .before .before in
     let at-second = at-count .before .before in
+    let at-same-bytes-arg = at-second .before .before .before .before in
     c .no-heading3 .ensures
-    ∙ sym (ap headingRead (heading-no-count (now (at-second .before .before .before .before .before .before .before .before .args .word)) channelLimit channelTypes _ (fields at-second)
+    ∙ sym (ap headingRead (heading-no-count (now (at-same-bytes-arg .before .before .before .before .args .word)) channelLimit channelTypes _ (fields at-second)
     (sym (at-count .stated-count .ensures) ∙ c .before .if3 .taken)))
-
-add-read-tags : tie.Need-add-read-tags
-add-read-tags c = search needs
 
 read-tags-requires : tie.Need-read-tags-requires
 read-tags-requires c κs = rw (c .before .stated-count .ensures) (count-most channelLimit _)
@@ -107,10 +75,11 @@ returns-4 c =
     let at-count = c .before .before in
     let at-second = at-count .before .before in
     let at-same = at-second .before .before .before in
-    let line = now (at-same .before .before .before .before .before .args .line) in
+    let at-field-end = at-same .before .before in
+    let line = now (at-field-end .before .before .before .args .line) in
     c .read-tags .ensures
     ∙ ap (λ n. tagsRead channelTypes n (partsFrom comma line (at-second .field-end2 .result + 1))) (at-count .stated-count .ensures)
-    ∙ sym (heading-tags (now (at-same .before .before .before .before .before .args .word)) channelLimit channelTypes _ (fields at-second)
+    ∙ sym (heading-tags (now (at-field-end .before .before .before .args .word)) channelLimit channelTypes _ (fields at-second)
     (sym (at-same .same-bytes .ensures) ∙ not-false _ (at-second .before .before .if1 .left))
     (λ z. c .before .if3 .left (at-count .stated-count .ensures ∙ z)))
 
@@ -118,21 +87,21 @@ pub read-heading-spec : {M : Type 1} → statement M
 read-heading-spec =
     tie.close
     (tie.spec
-    field-end-requires
+    (λ c κs. search needs)
     slice-aggregate-same-bytes
-    same-bytes-requires
-    no-heading-requires
+    (λ c κs. search needs)
+    (λ c κs. search needs)
     returns
-    add-at
-    no-heading-requires-2
+    (λ c. search needs)
+    (λ c κs. search needs)
     returns-2
-    field-end-requires-2
-    sub-stated-count
-    part-stated-count-start
-    part-stated-count-end
-    stated-count-requires
-    no-heading-requires-3
+    (λ c κs. search needs)
+    (λ c. search needs)
+    (λ c. search needs)
+    (λ c. search needs)
+    (λ c κs. search needs)
+    (λ c κs. search needs)
     returns-3
-    add-read-tags
+    (λ c. search needs)
     read-tags-requires
     returns-4)

@@ -2,7 +2,6 @@
 -- fields from here on. A field that is missing, unknown or too many decides the answer. What is left of n falls.
 use Prim.Native.Nat.{_-_}
 use mathlib.Core.Path.{sym, _∙_}
-use native.Mathlib.Omega.{arith}
 use borrow.Author.Needs.{needs}
 use denote.Ref.{now}
 use Rattle.text.specs.Parts.{comma, partsFrom}
@@ -24,31 +23,10 @@ loop-holds : tie.Need-loop-holds Inv-loop μ-loop
 unfolding padded
 loop-holds c = tags-none channelTypes (c .before .args .n) (partsFrom comma (now (c .before .args .line)) (c .before .args .at))
 
-no-heading-requires : tie.Need-no-heading-requires Inv-loop μ-loop
-no-heading-requires c κs = search needs
-
 returns : tie.Need-returns Inv-loop μ-loop
 returns c =
     let at-loop = c .before .before .before in
     c .no-heading .ensures ∙ tags-few (at-loop .loop .inv) (c .before .before .loop-test .taken) (parts-none comma _ _ (c .before .if1 .taken))
-
-field-end-requires : tie.Need-field-end-requires Inv-loop μ-loop
-field-end-requires c κs = search needs
-
-sub-find-tag : tie.Need-sub-find-tag Inv-loop μ-loop
-sub-find-tag c = omega arith
-
-part-find-tag-start : tie.Need-part-find-tag-start Inv-loop μ-loop
-part-find-tag-start c = omega arith
-
-part-find-tag-end : tie.Need-part-find-tag-end Inv-loop μ-loop
-part-find-tag-end c = omega arith
-
-find-tag-requires : tie.Need-find-tag-requires Inv-loop μ-loop
-find-tag-requires c κs = search needs
-
-no-heading-requires-2 : tie.Need-no-heading-requires-2 Inv-loop μ-loop
-no-heading-requires-2 c κs = search needs
 
 returns-2 : tie.Need-returns-2 Inv-loop μ-loop
 returns-2 c =
@@ -59,18 +37,6 @@ returns-2 c =
     ∙ tags-unknown (at-loop .loop .inv) (parts-from comma _ _ _ (at-end .before .if1 .left) (at-end .field-end .ensures))
     (sym (at-find .find-tag .ensures) ∙ c .before .if2 .taken)
 
-array-write-codes : tie.Need-array-write-codes Inv-loop μ-loop
-array-write-codes c = omega arith
-
-add-from : tie.Need-add-from Inv-loop μ-loop
-add-from c = omega arith
-
-add-i : tie.Need-add-i Inv-loop μ-loop
-add-i c = omega arith
-
-loop-less : tie.Need-loop-less Inv-loop μ-loop
-loop-less c = omega arith
-
 loop-again : tie.Need-loop-again Inv-loop μ-loop
 loop-again c =
     let at-find = c .before in
@@ -78,9 +44,6 @@ loop-again c =
     let at-loop = at-end .before .before .before in
     tags-next (at-loop .loop .inv) (at-loop .before .before .pre) (at-end .before .before .loop-test .taken)
     (parts-from comma _ _ _ (at-end .before .if1 .left) (at-end .field-end .ensures)) (at-find .find-tag .ensures) (c .if2 .left)
-
-no-heading-requires-3 : tie.Need-no-heading-requires-3 Inv-loop μ-loop
-no-heading-requires-3 c κs = search needs
 
 returns-3 : tie.Need-returns-3 Inv-loop μ-loop
 returns-3 c =
@@ -100,20 +63,20 @@ read-tags-spec =
     Inv-loop
     μ-loop
     loop-holds
-    no-heading-requires
+    (λ c κs. search needs)
     returns
-    field-end-requires
-    sub-find-tag
-    part-find-tag-start
-    part-find-tag-end
-    find-tag-requires
-    no-heading-requires-2
+    (λ c κs. search needs)
+    (λ c. search needs)
+    (λ c. search needs)
+    (λ c. search needs)
+    (λ c κs. search needs)
+    (λ c κs. search needs)
     returns-2
-    array-write-codes
-    add-from
-    add-i
-    loop-less
+    (λ c. search needs)
+    (λ c. search needs)
+    (λ c. search needs)
+    (λ c. search needs)
     loop-again
-    no-heading-requires-3
+    (λ c κs. search needs)
     returns-3
     returns-4)

@@ -13,15 +13,6 @@ use Rattle.heading.proofs.HeadingSteps.{counted, counted-read}
 use Rattle.heading.proofs.stated_count.Statement.{statement}
 use Rattle.heading.proofs.stated_count.Tie as tie
 
-plain-number-requires : tie.Need-plain-number-requires
-plain-number-requires c κs = search needs
-
-enum-told : tie.Need-enum-told
-enum-told c = search needs
-
-enum-known-number : tie.Need-enum-known-number
-enum-known-number c = search needs
-
 told : (c : tie.After-plain-number) → counted channelLimit (c .plain-number .result) ≡ statedCount channelLimit (now (c .before .before .args .field))
 told c = ap (counted channelLimit) (c .plain-number .ensures) ∙ counted-read channelLimit (now (c .before .before .args .field)) (lit< tt)
 
@@ -54,9 +45,9 @@ pub stated-count-spec : {M : Type 1} → statement M
 stated-count-spec =
     tie.close
     (tie.spec
-    plain-number-requires
-    enum-told
-    enum-known-number
+    (λ c κs. search needs)
+    (λ c. search needs)
+    (λ c. search needs)
     returns
     returns-2
     returns-3

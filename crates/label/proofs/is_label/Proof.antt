@@ -3,6 +3,7 @@
 use Prim.Native.Nat.{_≤_, _-_}
 use mathlib.Core.Path.{_≡_, sym, _∙_}
 use native.Mathlib.Omega.{arith}
+use borrow.Author.Needs.{needs}
 use borrow.Author.Tests.{not-true, not-false}
 use lib.ListN.{length, drop}
 use Rattle.label.specs.Label.{isLabel, labelBytes}
@@ -19,32 +20,17 @@ abbrev μ-loop : tie.MeasureT-loop
 returns : tie.Need-returns Inv-loop μ-loop
 returns c = sym (label-empty _ (c .if1 .taken))
 
-is-short-requires : tie.Need-is-short-requires Inv-loop μ-loop
-is-short-requires c κs = tt
-
 returns-2 : tie.Need-returns-2 Inv-loop μ-loop
 returns-2 c = sym (label-long _ (omega arith) (sym (c .before .is-short .ensures) ∙ not-true _ (c .if2 .taken)))
 
 loop-holds : tie.Need-loop-holds Inv-loop μ-loop
 loop-holds c = (omega arith, label-within _ (omega arith) (sym (c .before .is-short .ensures) ∙ not-false _ (c .if2 .left)))
 
-shared-slice-read-label-digit : tie.Need-shared-slice-read-label-digit Inv-loop μ-loop
-shared-slice-read-label-digit c = omega arith
-
-label-digit-requires : tie.Need-label-digit-requires Inv-loop μ-loop
-label-digit-requires c κs = tt
-
 returns-3 : tie.Need-returns-3 Inv-loop μ-loop
 returns-3 c =
     let loop = c .before .before .before .before .loop in
     let digit = c .before .label-digit in
     sym (loop .inv .1 ∙ bytes-stop _ (loop .i) (digit .result) (c .before .before .before .loop-test .taken) (digit .ensures) (c .if3 .taken))
-
-add-i : tie.Need-add-i Inv-loop μ-loop
-add-i c = omega arith
-
-loop-less : tie.Need-loop-less Inv-loop μ-loop
-loop-less c = omega arith
 
 loop-again : tie.Need-loop-again Inv-loop μ-loop
 loop-again c =
@@ -64,13 +50,13 @@ is-label-spec =
     Inv-loop
     μ-loop
     returns
-    is-short-requires
+    (λ c κs. search needs)
     returns-2
     loop-holds
-    shared-slice-read-label-digit
-    label-digit-requires
+    (λ c. search needs)
+    (λ c κs. search needs)
     returns-3
-    add-i
-    loop-less
+    (λ c. search needs)
+    (λ c. search needs)
     loop-again
     returns-4)

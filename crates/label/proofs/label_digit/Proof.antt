@@ -1,6 +1,7 @@
 -- `label::label_digit` meets its contract: each range of bytes decides the definition's three tests (`digit-at`). Assumes nothing.
 use mathlib.Core.Path.{refl, sym}
 use native.Mathlib.Omega.{arith}
+use borrow.Author.Needs.{needs}
 use borrow.Author.Tests.{eq-eqb, ne-eqb}
 use Rattle.number.specs.Number.{hyphen, digitZero, digitNine}
 use Rattle.integers.specs.Tests.{range-in, range-under, range-over}
@@ -8,18 +9,6 @@ use Rattle.label.specs.Label.{letterA, letterZ}
 use Rattle.label.specs.LabelLaws.{digit-at}
 use Rattle.label.proofs.label_digit.Statement.{statement}
 use Rattle.label.proofs.label_digit.Tie as tie
-
-sub-result : tie.Need-sub-result
-sub-result c = omega arith
-
-cast-result : tie.Need-cast-result
-cast-result c = omega arith
-
-sub-result-2 : tie.Need-sub-result-2
-sub-result-2 c = omega arith
-
-cast-result-2 : tie.Need-cast-result-2
-cast-result-2 c = omega arith
 
 returns : tie.Need-returns
 returns c =
@@ -34,7 +23,8 @@ returns-2 c =
 
 returns-3 : tie.Need-returns-3
 returns-3 c =
-    let b = c .before .before .before .before .before .args .byte in
+    let at-else3 = c .before in
+    let b = at-else3 .before .before .before .before .args .byte in
     sym (digit-at b (range-in letterA letterZ b (omega arith) (omega arith)) refl refl)
 
 returns-4 : tie.Need-returns-4
@@ -49,17 +39,18 @@ returns-5 c =
 
 returns-6 : tie.Need-returns-6
 returns-6 c =
-    let b = c .before .before .before .before .before .args .byte in
+    let at-else3 = c .before in
+    let b = at-else3 .before .before .before .before .args .byte in
     sym (digit-at b (range-over letterA letterZ b (omega arith)) (range-over digitZero digitNine b (omega arith)) (ne-eqb b hyphen (omega arith)))
 
 pub label-digit-spec : {M : Type 1} → statement M
 label-digit-spec =
     tie.close
     (tie.spec
-    sub-result
-    cast-result
-    sub-result-2
-    cast-result-2
+    (λ c. search needs)
+    (λ c. search needs)
+    (λ c. search needs)
+    (λ c. search needs)
     returns
     returns-2
     returns-3

@@ -3,6 +3,7 @@
 use Prim.Native.Nat.{_≤_, _<_, _-_, _^_}
 use mathlib.Core.Path.{_≡_, sym, _∙_}
 use native.Mathlib.Omega.{arith}
+use borrow.Author.Needs.{needs}
 use borrow.Author.Tests.{leb-true, not-true, not-false}
 use lib.ListN.{length, getD, drop}
 use Rattle.limits.specs.Limits.{labelLimit}
@@ -17,9 +18,6 @@ Inv-loop field key₀ i₀ key i = (i ≤ length field) × (length field ≤ lab
 abbrev μ-loop : tie.MeasureT-loop
 μ-loop field key₀ i₀ key i = length field - i
 
-is-short-requires : tie.Need-is-short-requires Inv-loop μ-loop
-is-short-requires c κs = tt
-
 returns : tie.Need-returns Inv-loop μ-loop
 returns c = sym (key-long _ (sym (c .before .is-short .ensures) ∙ not-true _ (c .if1 .taken)))
 
@@ -27,12 +25,6 @@ loop-holds : tie.Need-loop-holds Inv-loop μ-loop
 loop-holds c =
     let short = sym (c .before .is-short .ensures) ∙ not-false _ (c .if1 .left) in
     (omega arith, leb-true _ _ short, key-short _ short, omega arith)
-
-shared-slice-read-label-digit : tie.Need-shared-slice-read-label-digit Inv-loop μ-loop
-shared-slice-read-label-digit c = omega arith
-
-label-digit-requires : tie.Need-label-digit-requires Inv-loop μ-loop
-label-digit-requires c κs = tt
 
 returns-2 : tie.Need-returns-2 Inv-loop μ-loop
 returns-2 c =
@@ -51,12 +43,6 @@ add-key c =
     let loop = start .loop in
     let byte = getD (start .before .before .before .before .args .field .now) (loop .i) 0 in
     omega (arith, c .before .label-digit .ensures, digit-most byte, digit-fits (loop .key) (loop .i) (loop .inv .3) (omega arith))
-
-add-i : tie.Need-add-i Inv-loop μ-loop
-add-i c = omega arith
-
-loop-less : tie.Need-loop-less Inv-loop μ-loop
-loop-less c = omega arith
 
 loop-again : tie.Need-loop-again Inv-loop μ-loop
 loop-again c =
@@ -81,15 +67,15 @@ label-key-spec =
     (tie.spec
     Inv-loop
     μ-loop
-    is-short-requires
+    (λ c κs. search needs)
     returns
     loop-holds
-    shared-slice-read-label-digit
-    label-digit-requires
+    (λ c. search needs)
+    (λ c κs. search needs)
     returns-2
     mul-key
     add-key
-    add-i
-    loop-less
+    (λ c. search needs)
+    (λ c. search needs)
     loop-again
     returns-3)

@@ -1,6 +1,6 @@
 -- The loop fills the slice place by place; what is left of the count falls.
 use Prim.Native.Nat.{_-_}
-use native.Mathlib.Omega.{arith}
+use borrow.Author.Needs.{needs}
 use lib.IntN.{pos}
 use mir.Facts.{toZ-ofZ}
 use Rattle.lent.specs.Filled.{Filling, filling-none, filling-next, filling-done}
@@ -14,42 +14,15 @@ abbrev μ-loop : tie.MeasureT-loop
 μ-loop lent₀ source count channel₀ lent channel = count - channel
 
 loop-holds : tie.Need-loop-holds Inv-loop μ-loop
-loop-holds c = filling-none (c .args .lent .now) (c .args .source .now) (c .args .count)
-
-mul-lent : tie.Need-mul-lent Inv-loop μ-loop
-mul-lent c = omega (arith, c .before .before .good)
-
-shared-slice-copy-out-lent : tie.Need-shared-slice-copy-out-lent Inv-loop μ-loop
-shared-slice-copy-out-lent c = omega arith
-
-mul-t9 : tie.Need-mul-t9 Inv-loop μ-loop
-mul-t9 c = omega (arith, c .before .before .before .good)
-
-slice-set-from-lent : tie.Need-slice-set-from-lent Inv-loop μ-loop
-slice-set-from-lent c = omega arith
-
-add-channel : tie.Need-add-channel Inv-loop μ-loop
-add-channel c = omega arith
-
-loop-less : tie.Need-loop-less Inv-loop μ-loop
-loop-less c = omega arith
+loop-holds c = filling-none
 
 loop-again : tie.Need-loop-again Inv-loop μ-loop
 loop-again c =
     let at-loop = c .before .before in
-    let at-start = at-loop .before in
-    filling-next (at-start .args .lent .now) (at-start .args .source .now) (at-start .args .count) (at-loop .loop .lent)
-    (at-loop .loop .channel) _ (pos 0) (at-start .pre) (c .before .loop-test .taken) (at-loop .loop .inv) (toZ-ofZ (record { sfits = c .lent .given }))
-
-same-length : tie.Need-same-length Inv-loop μ-loop
-same-length c = c .before .loop .inv .same-length
+    filling-next (pos 0) (at-loop .before .pre) (c .before .loop-test .taken) (at-loop .loop .inv) (toZ-ofZ (record { sfits = c .lent .given }))
 
 returns : tie.Need-returns Inv-loop μ-loop
-returns c =
-    let at-loop = c .before in
-    let at-start = at-loop .before in
-    filling-done (at-start .args .lent .now) (at-start .args .source .now) (at-start .args .count) (at-loop .loop .lent)
-    (at-loop .loop .channel) (c .loop-test .left) (at-loop .loop .inv)
+returns c = filling-done (c .loop-test .left) (c .before .loop .inv)
 
 pub fill-centre-spec : {M : Type 1} → statement M
 fill-centre-spec =
@@ -58,12 +31,12 @@ fill-centre-spec =
     Inv-loop
     μ-loop
     loop-holds
-    mul-lent
-    shared-slice-copy-out-lent
-    mul-t9
-    slice-set-from-lent
-    add-channel
-    loop-less
+    (λ c. search needs)
+    (λ c. search needs)
+    (λ c. search needs)
+    (λ c. search needs)
+    (λ c. search needs)
+    (λ c. search needs)
     loop-again
-    same-length
+    (λ c. search needs)
     returns)

@@ -9,9 +9,6 @@ use Rattle.lent.specs.Contracts.{written}
 use Rattle.lent.proofs.hand_out.Statement.{statement}
 use Rattle.lent.proofs.hand_out.Tie as tie
 
-not-written-requires : tie.Need-not-written-requires
-not-written-requires c κs = search needs
-
 returns : tie.Need-returns
 returns c =
     let args = c .before .before .before .before .args in
@@ -22,15 +19,10 @@ returns c =
     let left = buffer-left (c .not-written .result) 12 text buffer e in
     (is, (left, buffer-part text buffer buffer (c .not-written .result) is left))
 
-copy-requires : tie.Need-copy-requires
-copy-requires c κs = search needs
-
-same-length : tie.Need-same-length
-same-length c = search needs
-
 returns-2 : tie.Need-returns-2
 returns-2 c =
-    let args = c .before .before .before .before .before .before .before .args in
+    let at-else1 = c .before .before .before .before in
+    let args = at-else1 .before .before .before .args in
     let text = now (args .text) in
     let buffer = now (args .buffer) in
     let is = sym (text-fits text (length buffer) (omega arith)) in
@@ -39,4 +31,4 @@ returns-2 c =
 
 pub hand-out-spec : {M : Type 1} → statement M
 hand-out-spec =
-    tie.close (tie.spec not-written-requires returns copy-requires same-length returns-2)
+    tie.close (tie.spec (λ c κs. search needs) returns (λ c κs. search needs) (λ c. search needs) returns-2)

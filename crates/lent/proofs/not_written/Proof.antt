@@ -5,11 +5,8 @@ use Rattle.lent.specs.Contracts.{notWritten}
 use Rattle.lent.proofs.not_written.Statement.{statement}
 use Rattle.lent.proofs.not_written.Tie as tie
 
-refused-at-requires : tie.Need-refused-at-requires
-refused-at-requires c κs = search needs
-
 returns : tie.Need-returns
 returns c = ap notWritten (c .refused-at .ensures)
 
 pub not-written-spec : {M : Type 1} → statement M
-not-written-spec = tie.close (tie.spec refused-at-requires returns)
+not-written-spec = tie.close (tie.spec (λ c κs. search needs) returns)

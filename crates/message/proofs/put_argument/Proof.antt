@@ -12,31 +12,19 @@ use borrow.Author.Needs.{needs}
 use Rattle.message.proofs.put_argument.Statement.{statement}
 use Rattle.message.proofs.put_argument.Tie as tie
 
-put-program-requires : tie.Need-put-program-requires
-put-program-requires c κs = search needs
-
-slice-aggregate-put-bytes : tie.Need-slice-aggregate-put-bytes
-slice-aggregate-put-bytes c = search needs
-
-put-bytes-requires : tie.Need-put-bytes-requires
-put-bytes-requires c κs = search needs
-
-cast-put-number : tie.Need-cast-put-number
-cast-put-number c = search needs
-
 put-number-requires : tie.Need-put-number-requires
 put-number-requires c κs =
-    let index = c .before .before .before .before .before .before .before .before .before .before .before .before .args .index in
+    let at-put-bytes-arg2 = c .before .before .before .before in
+    let at-put-program = at-put-bytes-arg2 .before .before .before .before in
+    let index = at-put-program .before .before .before .before .args .index in
     (omega (arith, ap natAbs (back64 (pos index) (omega arith))), omega arith)
-
-same-length : tie.Need-same-length
-same-length c = search needs
 
 returns : tie.Need-returns
 returns c =
     let at-number = c .before .before in
     let at-word = at-number .before .before .before .before in
-    let at-program = at-word .before .before .before .before .before in
+    let at-out = at-word .before .before .before .before in
+    let at-program = at-out .before in
     let index = at-program .before .before .before .before .args .index in
     let number : Put (print (pos index)) _ _ _ _ = put-as (at-number .put-number .ensures) (ap print (back64 (pos index) (omega arith))) refl in
     let short = print-short numberDigits (pos index) (omega arith) (omega arith) in
@@ -46,10 +34,10 @@ pub put-argument-spec : {M : Type 1} → statement M
 put-argument-spec =
     tie.close
     (tie.spec
-    put-program-requires
-    slice-aggregate-put-bytes
-    put-bytes-requires
-    cast-put-number
+    (λ c κs. search needs)
+    (λ c. search needs)
+    (λ c κs. search needs)
+    (λ c. search needs)
     put-number-requires
-    same-length
+    (λ c. search needs)
     returns)

@@ -6,26 +6,12 @@ use borrow.Author.Needs.{needs}
 use Rattle.message.proofs.put_named_argument.Statement.{statement}
 use Rattle.message.proofs.put_named_argument.Tie as tie
 
-put-argument-requires : tie.Need-put-argument-requires
-put-argument-requires c κs = search needs
-
-slice-aggregate-put-bytes : tie.Need-slice-aggregate-put-bytes
-slice-aggregate-put-bytes c = search needs
-
-put-bytes-requires : tie.Need-put-bytes-requires
-put-bytes-requires c κs = search needs
-
-put-name-requires : tie.Need-put-name-requires
-put-name-requires c κs = search needs
-
-same-length : tie.Need-same-length
-same-length c = search needs
-
 returns : tie.Need-returns
 returns c =
     let at-name = c .before .before in
     let at-blank = at-name .before .before .before .before in
-    let at-argument = at-blank .before .before .before .before .before in
+    let at-out = at-blank .before .before .before .before in
+    let at-argument = at-out .before in
     put-within (put-then (put-then (at-argument .put-argument .ensures .put) (at-blank .put-bytes .ensures)) (at-name .put-name .ensures .put)) (omega arith)
     (omega arith)
 
@@ -33,9 +19,9 @@ pub put-named-argument-spec : {M : Type 1} → statement M
 put-named-argument-spec =
     tie.close
     (tie.spec
-    put-argument-requires
-    slice-aggregate-put-bytes
-    put-bytes-requires
-    put-name-requires
-    same-length
+    (λ c κs. search needs)
+    (λ c. search needs)
+    (λ c κs. search needs)
+    (λ c κs. search needs)
+    (λ c. search needs)
     returns)

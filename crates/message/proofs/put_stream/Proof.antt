@@ -6,15 +6,6 @@ use borrow.Author.Needs.{needs}
 use Rattle.message.proofs.put_stream.Statement.{statement}
 use Rattle.message.proofs.put_stream.Tie as tie
 
-put-program-requires : tie.Need-put-program-requires
-put-program-requires c κs = search needs
-
-put-bytes-requires : tie.Need-put-bytes-requires
-put-bytes-requires c κs = search needs
-
-same-length : tie.Need-same-length
-same-length c = search needs
-
 returns : tie.Need-returns
 returns c =
     let at-second = c .before .before in
@@ -22,4 +13,4 @@ returns c =
     put-within (put-then (at-first .put-program .ensures .put) (at-second .put-bytes .ensures)) (omega arith) (omega arith)
 
 pub put-stream-spec : {M : Type 1} → statement M
-put-stream-spec = tie.close (tie.spec put-program-requires put-bytes-requires same-length returns)
+put-stream-spec = tie.close (tie.spec (λ c κs. search needs) (λ c κs. search needs) (λ c. search needs) returns)

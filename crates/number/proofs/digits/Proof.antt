@@ -19,12 +19,6 @@ Inv-loop field magnitude₀ i₀ magnitude i =
 abbrev μ-loop : tie.MeasureT-loop
 μ-loop field magnitude₀ i₀ magnitude i = length field - i
 
-loop-holds : tie.Need-loop-holds Inv-loop μ-loop
-loop-holds c = search needs
-
-shared-slice-read-byte : tie.Need-shared-slice-read-byte Inv-loop μ-loop
-shared-slice-read-byte c = search needs
-
 returns : tie.Need-returns Inv-loop μ-loop
 returns c =
     let at = c .before .before .before in
@@ -35,29 +29,21 @@ returns-2 c =
     let at = c .before .before .before .before in
     sym (at .loop .inv .2 ∙ digits-other _ _ _ (c .before .before .before .loop-test .taken) (above-digit _ (c .if2 .taken)))
 
-with-digit-requires : tie.Need-with-digit-requires Inv-loop μ-loop
-with-digit-requires c κs = search needs
-
-add-i : tie.Need-add-i Inv-loop μ-loop
-add-i c = search needs
-
-loop-less : tie.Need-loop-less Inv-loop μ-loop
-loop-less c = search needs
-
 loop-again : tie.Need-loop-again Inv-loop μ-loop
-loop-again c = (
-  omega arith,
-  omega (arith, c .with-digit .ensures),
-  c .before .before .before .before .before .loop .inv .2
-      ∙ digits-more
-      _
-      _
-      _
-      _
-      (c .before .before .before .before .loop-test .taken)
-      (range-digit _ (c .before .before .if1 .left) (c .before .if2 .left))
-      (c .with-digit .ensures),
-)
+loop-again c =
+    let in-loop = c .before .before .before .before in (
+      omega arith,
+      omega (arith, c .with-digit .ensures),
+      in-loop .before .loop .inv .2
+          ∙ digits-more
+          _
+          _
+          _
+          _
+          (in-loop .loop-test .taken)
+          (range-digit _ (c .before .before .if1 .left) (c .before .if2 .left))
+          (c .with-digit .ensures),
+    )
 
 returns-3 : tie.Need-returns-3 Inv-loop μ-loop
 returns-3 c = sym (c .before .loop .inv .2 ∙ digits-end _ _ _ (c .loop-test .left) (c .before .loop .inv .1))
@@ -68,12 +54,12 @@ digits-spec =
     (tie.spec
     Inv-loop
     μ-loop
-    loop-holds
-    shared-slice-read-byte
+    (λ c. search needs)
+    (λ c. search needs)
     returns
     returns-2
-    with-digit-requires
-    add-i
-    loop-less
+    (λ c κs. search needs)
+    (λ c. search needs)
+    (λ c. search needs)
     loop-again
     returns-3)

@@ -15,12 +15,15 @@ use Rattle.number.proofs.plain_number.Statement.{statement}
 use Rattle.number.proofs.plain_number.Tie as tie
 
 -- what is read of the whole field, and of its rest after a hyphen
-unsigned-at : (c : tie.After-unsigned) → plainRead (plain (c .before .before .before .before .before .args .field .now)) ≡ unsignedRead (c .unsigned .result)
+unsigned-at : (c : tie.After-unsigned) → let at-else1 = c .before .before .before in
+    plainRead (plain (at-else1 .before .before .args .field .now)) ≡ unsignedRead (c .unsigned .result)
 unsigned-at c = unsigned-read _ (omega arith) (c .before .if2 .taken) ∙ ap unsignedRead (sym (c .unsigned .ensures))
 
-signed-at : (c : tie.After-unsigned2) → plainRead (plain (c .before .before .before .before .before .before .args .field .now)) ≡ signedRead (c .unsigned2 .result)
+signed-at : (c : tie.After-unsigned2) → let at-else1 = c .before .before .before .before in
+    plainRead (plain (at-else1 .before .before .args .field .now)) ≡ signedRead (c .unsigned2 .result)
 signed-at c =
-    let field = c .before .before .before .before .before .before .args .field .now in
+    let at-else1 = c .before .before .before .before in
+    let field = at-else1 .before .before .args .field .now in
     signed-read field (omega arith) (c .before .before .if2 .left)
     ∙ ap (λ (l : List ℕ). signedRead (magnitudeRead (magnitudeOf l))) (sym (part-to-end field 1))
     ∙ ap signedRead (sym (c .unsigned2 .ensures))
@@ -28,41 +31,11 @@ signed-at c =
 returns : tie.Need-returns
 returns c = sym (ap plainRead (plain-empty _ (c .if1 .taken)))
 
-shared-slice-read-if2 : tie.Need-shared-slice-read-if2
-shared-slice-read-if2 c = search needs
-
-unsigned-requires : tie.Need-unsigned-requires
-unsigned-requires c κs = search needs
-
-enum-told : tie.Need-enum-told
-enum-told c = search needs
-
-enum-known-whole : tie.Need-enum-known-whole
-enum-known-whole c = search needs
-
 returns-2 : tie.Need-returns-2
 returns-2 c = sym (unsigned-at (c .before .before) ∙ ap unsignedRead (c .enum-told .given .1))
 
 returns-3 : tie.Need-returns-3
 returns-3 c = sym (unsigned-at (c .before .before .before) ∙ ap unsignedRead (c .before .whole .given .1))
-
-sub-unsigned : tie.Need-sub-unsigned
-sub-unsigned c = search needs
-
-part-unsigned-start : tie.Need-part-unsigned-start
-part-unsigned-start c = search needs
-
-part-unsigned-end : tie.Need-part-unsigned-end
-part-unsigned-end c = search needs
-
-unsigned-requires-2 : tie.Need-unsigned-requires-2
-unsigned-requires-2 c κs = search needs
-
-enum-told-2 : tie.Need-enum-told-2
-enum-told-2 c = search needs
-
-enum-known-rest : tie.Need-enum-known-rest
-enum-known-rest c = search needs
 
 returns-4 : tie.Need-returns-4
 returns-4 c = sym (signed-at (c .before .before) ∙ ap signedRead (c .enum-told2 .given .1))
@@ -84,18 +57,18 @@ plain-number-spec =
     tie.close
     (tie.spec
     returns
-    shared-slice-read-if2
-    unsigned-requires
-    enum-told
-    enum-known-whole
+    (λ c. search needs)
+    (λ c κs. search needs)
+    (λ c. search needs)
+    (λ c. search needs)
     returns-2
     returns-3
-    sub-unsigned
-    part-unsigned-start
-    part-unsigned-end
-    unsigned-requires-2
-    enum-told-2
-    enum-known-rest
+    (λ c. search needs)
+    (λ c. search needs)
+    (λ c. search needs)
+    (λ c κs. search needs)
+    (λ c. search needs)
+    (λ c. search needs)
     returns-4
     returns-5
     returns-6)

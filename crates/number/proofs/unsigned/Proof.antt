@@ -11,14 +11,8 @@ use Rattle.number.proofs.unsigned.Tie as tie
 returns : tie.Need-returns
 returns c = sym (ap magnitudeRead (magnitude-empty _ (c .if1 .taken)))
 
-shared-slice-read-if3 : tie.Need-shared-slice-read-if3
-shared-slice-read-if3 c = search needs
-
 returns-2 : tie.Need-returns-2
 returns-2 c = sym (ap magnitudeRead (magnitude-zero _ (c .before .before .if2 .taken) (c .if3 .taken)))
-
-digits-requires : tie.Need-digits-requires
-digits-requires c κs = search needs
 
 returns-3 : tie.Need-returns-3
 returns-3 c =
@@ -31,4 +25,4 @@ returns-3 c =
 
 pub unsigned-spec : {M : Type 1} → statement M
 unsigned-spec =
-    tie.close (tie.spec returns shared-slice-read-if3 returns-2 digits-requires returns-3)
+    tie.close (tie.spec returns (λ c. search needs) returns-2 (λ c κs. search needs) returns-3)

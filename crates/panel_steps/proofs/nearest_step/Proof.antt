@@ -50,9 +50,6 @@ cast-nearest-magnitude c =
 nearest-magnitude-requires : tie.Need-nearest-magnitude-requires
 nearest-magnitude-requires c κs = omega (arith, ap natAbs (opposite-read (c .before .args .x) (omega arith) (c .if1 .taken)))
 
-cast-result : tie.Need-cast-result
-cast-result c = search needs
-
 sub-result : tie.Need-sub-result
 sub-result c = opposite-held (c .nearest-magnitude .result) (c .nearest-magnitude .ensures) .0
 
@@ -69,12 +66,6 @@ cast-nearest-magnitude-2 c =
     let x = c .before .args .x in
     number-cast w32 (natAbs x) (natural-read x (omega arith) (c .if1 .left)) (omega arith)
 
-nearest-magnitude-requires-2 : tie.Need-nearest-magnitude-requires-2
-nearest-magnitude-requires-2 c κs = search needs
-
-cast-result-2 : tie.Need-cast-result-2
-cast-result-2 c = search needs
-
 returns-2 : tie.Need-returns-2
 returns-2 c =
     let x = c .before .before .args .x in
@@ -90,10 +81,10 @@ nearest-step-spec =
     sub-nearest-magnitude
     cast-nearest-magnitude
     nearest-magnitude-requires
-    cast-result
+    (λ c. search needs)
     sub-result
     returns
     cast-nearest-magnitude-2
-    nearest-magnitude-requires-2
-    cast-result-2
+    (λ c κs. search needs)
+    (λ c. search needs)
     returns-2)

@@ -19,12 +19,6 @@ use Rattle.panel_steps.proofs.panel_lent.Tie as tie
 abbrev figures : tie.Start → Figures
 figures c = lentFigures (c .args .scalars) (now (c .args .codes)) (now (c .args .scaled-centre))
 
-figures-known-lent-requires : tie.Need-figures-known-lent-requires
-figures-known-lent-requires c κs = search needs
-
-refused-panel-requires : tie.Need-refused-panel-requires
-refused-panel-requires c κs = search needs
-
 returns : tie.Need-returns
 returns c =
     let test = c .before .before in
@@ -51,8 +45,8 @@ pub panel-lent-spec : {M : Type 1} → statement M
 panel-lent-spec =
     tie.close
     (tie.spec
-    figures-known-lent-requires
-    refused-panel-requires
+    (λ c κs. search needs)
+    (λ c κs. search needs)
     returns
     steps-of-requires
     returns-2)

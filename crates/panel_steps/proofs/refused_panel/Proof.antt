@@ -7,11 +7,8 @@ use Rattle.limits.specs.Limits.{channelLimit}
 use Rattle.panel_steps.proofs.refused_panel.Statement.{statement}
 use Rattle.panel_steps.proofs.refused_panel.Tie as tie
 
-refused-at-requires : tie.Need-refused-at-requires
-refused-at-requires c κs = search needs
-
 returns : tie.Need-returns
 returns c = ap (λ o. record { outcome = o; steps = replicate channelLimit (pos 0) }) (c .refused-at .ensures)
 
 pub refused-panel-spec : {M : Type 1} → statement M
-refused-panel-spec = tie.close (tie.spec refused-at-requires returns)
+refused-panel-spec = tie.close (tie.spec (λ c κs. search needs) returns)

@@ -30,27 +30,9 @@ loop-holds : tie.Need-loop-holds Inv-loop μ-loop
 unfolding centreList tabulate
 loop-holds c = (omega arith, refl)
 
-mul-nearest-step : tie.Need-mul-nearest-step Inv-loop μ-loop
-mul-nearest-step c = omega arith
-
-shared-slice-copy-out-nearest-step : tie.Need-shared-slice-copy-out-nearest-step Inv-loop μ-loop
-shared-slice-copy-out-nearest-step c = search needs
-
 nearest-step-requires : tie.Need-nearest-step-requires Inv-loop μ-loop
 nearest-step-requires c κs =
     passed (centre-held (c .before .before .before .pre .1) (c .before .before .loop .k) (omega arith))
-
-mul-steps : tie.Need-mul-steps Inv-loop μ-loop
-mul-steps c = omega arith
-
-array-set-from-steps : tie.Need-array-set-from-steps Inv-loop μ-loop
-array-set-from-steps c = omega arith
-
-add-k : tie.Need-add-k Inv-loop μ-loop
-add-k c = omega arith
-
-loop-less : tie.Need-loop-less Inv-loop μ-loop
-loop-less c = omega arith
 
 loop-again : tie.Need-loop-again Inv-loop μ-loop
 loop-again c =
@@ -76,12 +58,12 @@ steps-of-spec =
     Inv-loop
     μ-loop
     loop-holds
-    mul-nearest-step
-    shared-slice-copy-out-nearest-step
+    (λ c. search needs)
+    (λ c. search needs)
     nearest-step-requires
-    mul-steps
-    array-set-from-steps
-    add-k
-    loop-less
+    (λ c. search needs)
+    (λ c. search needs)
+    (λ c. search needs)
+    (λ c. search needs)
     loop-again
     returns)

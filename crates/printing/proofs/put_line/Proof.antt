@@ -13,21 +13,15 @@ room c =
     let line = numbers-room (start .args .word .now) (start .args .count) (start .args .numbers .now) (start .pre .0) (start .pre .1 .0) in
     omega (arith, line, c .put-numbers .ensures .next, c .put-numbers .ensures .same-length)
 
-put-numbers-requires : tie.Need-put-numbers-requires
-put-numbers-requires c κs = search needs
-
 slice-write-out : tie.Need-slice-write-out
 slice-write-out c = room (c .before .before)
 
 add-result : tie.Need-add-result
 add-result c = omega (arith, room (c .before .before))
 
-same-length : tie.Need-same-length
-same-length c = search needs
-
 returns : tie.Need-returns
 returns c = put-ended (c .before .before .put-numbers .ensures) (room (c .before .before))
 
 pub put-line-spec : {M : Type 1} → statement M
 put-line-spec =
-    tie.close (tie.spec put-numbers-requires slice-write-out add-result same-length returns)
+    tie.close (tie.spec (λ c κs. search needs) slice-write-out add-result (λ c. search needs) returns)

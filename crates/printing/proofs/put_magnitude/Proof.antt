@@ -2,6 +2,7 @@
 -- `place` on, are the number. The measure is how many digits are left.
 use Prim.Native.Nat.{ℕ, _-_, _≤_, _<_}
 use native.Mathlib.Omega.{arith}
+use borrow.Author.Needs.{needs}
 use lib.ListN.{length}
 use Rattle.number.specs.Number.{printMagnitude}
 use Rattle.number.specs.NumberLaws.{magnitude-short}
@@ -20,9 +21,6 @@ abbrev μ-loop : tie.MeasureT-loop
 width-most : (n : ℕ) → n < magnitudeLimit → length (printMagnitude n) ≤ numberDigits
 width-most n h = magnitude-short numberDigits n (omega arith) (omega arith)
 
-width-requires : tie.Need-width-requires Inv-loop μ-loop
-width-requires c κs = tt
-
 add-end : tie.Need-add-end Inv-loop μ-loop
 add-end c = omega (arith, width-most (c .before .before .args .magnitude) (c .before .before .pre .0))
 
@@ -30,26 +28,8 @@ loop-holds : tie.Need-loop-holds Inv-loop μ-loop
 loop-holds c =
     printing-none _ _ _ _ (omega arith) (omega (arith, width-most (c .before .before .args .magnitude) (c .before .before .pre .0)))
 
-sub-place : tie.Need-sub-place Inv-loop μ-loop
-sub-place c = omega arith
-
-cast-out : tie.Need-cast-out Inv-loop μ-loop
-cast-out c = omega arith
-
-add-out : tie.Need-add-out Inv-loop μ-loop
-add-out c = omega arith
-
-slice-write-out : tie.Need-slice-write-out Inv-loop μ-loop
-slice-write-out c = omega arith
-
-loop-less : tie.Need-loop-less Inv-loop μ-loop
-loop-less c = omega arith
-
 loop-again : tie.Need-loop-again Inv-loop μ-loop
 loop-again c = printing-next (c .loop-test .taken) (c .before .loop .inv)
-
-same-length : tie.Need-same-length Inv-loop μ-loop
-same-length c = c .before .loop .inv .same-length
 
 returns : tie.Need-returns Inv-loop μ-loop
 returns c = printing-done (c .loop-test .left) (c .before .loop .inv)
@@ -60,14 +40,14 @@ put-magnitude-spec =
     (tie.spec
     Inv-loop
     μ-loop
-    width-requires
+    (λ c κs. search needs)
     add-end
     loop-holds
-    sub-place
-    cast-out
-    add-out
-    slice-write-out
-    loop-less
+    (λ c. search needs)
+    (λ c. search needs)
+    (λ c. search needs)
+    (λ c. search needs)
+    (λ c. search needs)
     loop-again
-    same-length
+    (λ c. search needs)
     returns)

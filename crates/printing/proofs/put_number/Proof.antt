@@ -25,12 +25,6 @@ module _ (z : ℤ) (most : natAbs z < 2 ^ 63) where
   printed-natural : ltZ (back w64 z) (pos 0) ≡ false → printMagnitude (natAbs (back w64 z)) ≡ print z
   printed-natural natural = ap (λ x. printMagnitude (natAbs x)) (back64 z most) ∙ sym (print-natural z (sign-read z most false natural))
 
-slice-write-out : tie.Need-slice-write-out
-slice-write-out c = search needs
-
-add-put-magnitude : tie.Need-add-put-magnitude
-add-put-magnitude c = search needs
-
 sub-put-magnitude : tie.Need-sub-put-magnitude
 sub-put-magnitude c = opposite-fits (c .before .before .before .args .number) (omega arith) (c .before .if1 .taken)
 
@@ -47,15 +41,17 @@ put-magnitude-requires c κs =
 
 same-length : tie.Need-same-length
 same-length c =
-    let start = c .before .before .before .before .before .before in
-    c .before .before .put-magnitude .ensures .same-length ∙ length-set (start .args .out .now) (start .args .at) hyphen
+    let at-put-magnitude = c .before .before in
+    let start = at-put-magnitude .before .before .before .before in
+    at-put-magnitude .put-magnitude .ensures .same-length ∙ length-set (start .args .out .now) (start .args .at) hyphen
 
 returns : tie.Need-returns
 returns c =
-    let start = c .before .before .before .before .before .before in
+    let at-put-magnitude = c .before .before in
+    let start = at-put-magnitude .before .before .before .before in
     put-as
-    (put-then (put-byte (start .args .out .now) (start .args .at) hyphen (omega arith)) (c .before .before .put-magnitude .ensures))
-    (printed-negative (start .args .number) (omega arith) (c .before .before .before .before .if1 .taken))
+    (put-then (put-byte (start .args .out .now) (start .args .at) hyphen (omega arith)) (at-put-magnitude .put-magnitude .ensures))
+    (printed-negative (start .args .number) (omega arith) (at-put-magnitude .before .before .if1 .taken))
     refl
 
 cast-put-magnitude-2 : tie.Need-cast-put-magnitude-2
@@ -69,21 +65,19 @@ put-magnitude-requires-2 c κs =
     let read = natural-read (start .args .number) (omega arith) (c .before .if1 .left) in
     (omega (arith, ap natAbs read), omega arith)
 
-same-length-2 : tie.Need-same-length-2
-same-length-2 c = search needs
-
 returns-2 : tie.Need-returns-2
 returns-2 c =
-    let start = c .before .before .before .before .before .before in
-    put-as (c .before .before .put-magnitude2 .ensures)
-    (printed-natural (start .args .number) (omega arith) (c .before .before .before .before .if1 .left)) refl
+    let at-put-magnitude2 = c .before .before in
+    let start = at-put-magnitude2 .before .before .before .before in
+    put-as (at-put-magnitude2 .put-magnitude2 .ensures)
+    (printed-natural (start .args .number) (omega arith) (at-put-magnitude2 .before .before .if1 .left)) refl
 
 pub put-number-spec : {M : Type 1} → statement M
 put-number-spec =
     tie.close
     (tie.spec
-    slice-write-out
-    add-put-magnitude
+    (λ c. search needs)
+    (λ c. search needs)
     sub-put-magnitude
     cast-put-magnitude
     put-magnitude-requires
@@ -91,5 +85,5 @@ put-number-spec =
     returns
     cast-put-magnitude-2
     put-magnitude-requires-2
-    same-length-2
+    (λ c. search needs)
     returns-2)

@@ -4,6 +4,7 @@ use Prim.Native.Nat.{ℕ, _+_, _-_, _*_, _^_, _≤_, _<_}
 use mathlib.Core.Path.{_≡_, refl, sym, ap, _∙_}
 use mathlib.Core.List.{List, []}
 use native.Mathlib.Omega.{arith}
+use borrow.Author.Needs.{needs}
 use lib.IntN.{ℤ, pos, natAbs}
 use lib.ListN.{length, getD, set, take, length-set}
 use mir.Syntax.{w64}
@@ -37,55 +38,37 @@ module _ (numbers : List ℤ) (i : ℕ) (h : i < length numbers) (most : natAbs 
             (sym (numbers-more [] (take i numbers) z) ∙ ap (numbersAfter []) (take-next numbers i (pos 0) h)) refl,
       )
 
-put-bytes-requires : tie.Need-put-bytes-requires Inv-loop μ-loop
-put-bytes-requires c κs = omega arith
-
 loop-holds : tie.Need-loop-holds Inv-loop μ-loop
 loop-holds c = (omega arith, omega arith, put-as (put-none _ _) (sym (numbers-none [])) refl)
 
-slice-write-out : tie.Need-slice-write-out Inv-loop μ-loop
-slice-write-out c = omega arith
-
-add-put-number : tie.Need-add-put-number Inv-loop μ-loop
-add-put-number c = omega arith
-
-mul-put-number : tie.Need-mul-put-number Inv-loop μ-loop
-mul-put-number c = omega arith
-
-shared-slice-copy-out-put-number : tie.Need-shared-slice-copy-out-put-number Inv-loop μ-loop
-shared-slice-copy-out-put-number c = omega arith
+abbrev start-of : tie.At-loop Inv-loop μ-loop → tie.Start Inv-loop μ-loop
+start-of c =
+    let at-put-bytes = c .before .before .before in
+    at-put-bytes .before .before .before .before
 
 put-number-requires : tie.Need-put-number-requires Inv-loop μ-loop
 put-number-requires c κs =
     let at-loop = c .before .before .before in
-    let start = at-loop .before .before .before .before .before .before .before in
+    let start = start-of at-loop in
     let most = start .pre .1 .0 (at-loop .loop .i) (c .before .before .loop-test .taken) in
     let number = getD (start .args .numbers .now) (at-loop .loop .i) (pos 0) in
     (omega (arith, ap natAbs (back64 number most)), omega (arith, length-set (at-loop .loop .out) (at-loop .loop .from) comma))
 
-add-i : tie.Need-add-i Inv-loop μ-loop
-add-i c = omega arith
-
-loop-less : tie.Need-loop-less Inv-loop μ-loop
-loop-less c = omega arith
-
 loop-again : tie.Need-loop-again Inv-loop μ-loop
 loop-again c =
-    let in-loop = c .before .before .before .before .before in
+    let at-put-number = c .before .before in
+    let in-loop = at-put-number .before .before .before in
     let at-loop = in-loop .before in
-    let start = at-loop .before .before .before .before .before .before .before in
+    let start = start-of at-loop in
     let most = start .pre .1 .0 (at-loop .loop .i) (in-loop .loop-test .taken) in
-    let printed = c .before .before .put-number .ensures in
+    let printed = at-put-number .put-number .ensures in
     let more = number-more (start .args .numbers .now) (at-loop .loop .i) (omega arith) most (omega arith) (at-loop .loop .inv .2) printed in
     (omega arith, omega arith, more .1)
-
-same-length : tie.Need-same-length Inv-loop μ-loop
-same-length c = omega arith
 
 returns : tie.Need-returns Inv-loop μ-loop
 returns c =
     let at-loop = c .before in
-    let start = at-loop .before .before .before .before .before .before .before in
+    let start = start-of at-loop in
     let all : at-loop .loop .i ≡ start .args .count = omega arith in
     put-as (put-then (at-loop .before .before .before .put-bytes .ensures) (at-loop .loop .inv .2))
     (numbers-after _ _ ∙ ap (λ (j : ℕ). numbersAfter (start .args .word .now) (take j (start .args .numbers .now))) all) refl
@@ -96,15 +79,15 @@ put-numbers-spec =
     (tie.spec
     Inv-loop
     μ-loop
-    put-bytes-requires
+    (λ c κs. search needs)
     loop-holds
-    slice-write-out
-    add-put-number
-    mul-put-number
-    shared-slice-copy-out-put-number
+    (λ c. search needs)
+    (λ c. search needs)
+    (λ c. search needs)
+    (λ c. search needs)
     put-number-requires
-    add-i
-    loop-less
+    (λ c. search needs)
+    (λ c. search needs)
     loop-again
-    same-length
+    (λ c. search needs)
     returns)

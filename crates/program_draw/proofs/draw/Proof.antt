@@ -5,35 +5,25 @@ use Rattle.program_lines.proofs.LineSteps.{printed-part, handed}
 use Rattle.program_draw.proofs.draw.Statement.{statement}
 use Rattle.program_draw.proofs.draw.Tie as tie
 
-slice-aggregate-put-output : tie.Need-slice-aggregate-put-output
-slice-aggregate-put-output c = search needs
-
-put-output-requires : tie.Need-put-output-requires
-put-output-requires c κs = search needs
-
 array-share-prefix-text : tie.Need-array-share-prefix-text
 array-share-prefix-text c = omega (arith, printed-part (c .before .put-output .ensures) .within)
 
 slice-aggregate-hand-out : tie.Need-slice-aggregate-hand-out
 slice-aggregate-hand-out c = printed-part (c .before .before .put-output .ensures) .taken
 
-hand-out-requires : tie.Need-hand-out-requires
-hand-out-requires c κs = search needs
-
-same-length : tie.Need-same-length
-same-length c = search needs
-
 returns : tie.Need-returns
-returns c = handed (c .before .before .before .before .before .before .put-output .ensures) _ _ _ (c .before .before .hand-out .ensures)
+returns c =
+    let at-hand-out = c .before .before in
+    handed (at-hand-out .before .before .before .before .put-output .ensures) _ _ _ (at-hand-out .hand-out .ensures)
 
 pub draw-spec : {M : Type 1} → statement M
 draw-spec =
     tie.close
     (tie.spec
-    slice-aggregate-put-output
-    put-output-requires
+    (λ c. search needs)
+    (λ c κs. search needs)
     array-share-prefix-text
     slice-aggregate-hand-out
-    hand-out-requires
-    same-length
+    (λ c κs. search needs)
+    (λ c. search needs)
     returns)

@@ -8,18 +8,6 @@ use Rattle.program_lines.proofs.LineSteps.{two-below, refusal-put}
 use Rattle.program_lines.proofs.put_refusal.Statement.{statement}
 use Rattle.program_lines.proofs.put_refusal.Tie as tie
 
-cast-t7 : tie.Need-cast-t7
-cast-t7 c = search needs
-
-cast-t8 : tie.Need-cast-t8
-cast-t8 c = search needs
-
-slice-aggregate-put-line : tie.Need-slice-aggregate-put-line
-slice-aggregate-put-line c = search needs
-
-slice-aggregate-put-line-2 : tie.Need-slice-aggregate-put-line-2
-slice-aggregate-put-line-2 c = search needs
-
 put-line-requires : tie.Need-put-line-requires
 put-line-requires c κs =
     let start = c .before .before .before .before in
@@ -27,12 +15,10 @@ put-line-requires c κs =
     let line = start .args .line in
     (omega arith, (held-below (number ∷ line ∷ []) (two-below number line (omega arith) (omega arith)), omega arith))
 
-same-length : tie.Need-same-length
-same-length c = search needs
-
 returns : tie.Need-returns
 returns c =
-    let start = c .before .before .before .before .before .before .before in
+    let at-numbers = c .before .before .before in
+    let start = at-numbers .before .before .before .before in
     let number = start .args .number in
     let line = start .args .line in
     let put = refusal-put number line (omega arith) (omega arith) (c .before .before .put-line .ensures) in
@@ -42,10 +28,10 @@ pub put-refusal-spec : {M : Type 1} → statement M
 put-refusal-spec =
     tie.close
     (tie.spec
-    cast-t7
-    cast-t8
-    slice-aggregate-put-line
-    slice-aggregate-put-line-2
+    (λ c. search needs)
+    (λ c. search needs)
+    (λ c. search needs)
+    (λ c. search needs)
     put-line-requires
-    same-length
+    (λ c. search needs)
     returns)

@@ -18,29 +18,8 @@ use Rattle.program_lines.proofs.put_verdict.Tie as tie
 small : (c : tie.After-verdict) → c .verdict .given .0 .0 < 2 ^ 63
 small c = omega (arith, ap verdictExcess (sym (c .verdict .given .1)), c .before .before .before .pre .0)
 
-enum-told : tie.Need-enum-told
-enum-told c = search needs
-
-slice-aggregate-put-line : tie.Need-slice-aggregate-put-line
-slice-aggregate-put-line c = search needs
-
-slice-aggregate-put-line-2 : tie.Need-slice-aggregate-put-line-2
-slice-aggregate-put-line-2 c = search needs
-
-put-line-requires : tie.Need-put-line-requires
-put-line-requires c κs = search needs
-
-enum-known-verdict : tie.Need-enum-known-verdict
-enum-known-verdict c = search needs
-
-slice-aggregate-put-line-3 : tie.Need-slice-aggregate-put-line-3
-slice-aggregate-put-line-3 c = search needs
-
 cast-t21 : tie.Need-cast-t21
 cast-t21 c = fits64 (pos (c .before .before .before .verdict .given .0 .0)) (small (c .before .before .before))
-
-slice-aggregate-put-line-4 : tie.Need-slice-aggregate-put-line-4
-slice-aggregate-put-line-4 c = search needs
 
 put-line-requires-2 : tie.Need-put-line-requires-2
 put-line-requires-2 c κs =
@@ -48,50 +27,40 @@ put-line-requires-2 c κs =
     let excess = at-verdict .verdict .given .0 .0 in
     (omega arith, (held-below (excess ∷ []) (one-below excess (small at-verdict)), omega arith))
 
-enum-known-verdict-2 : tie.Need-enum-known-verdict-2
-enum-known-verdict-2 c = search needs
-
-put-refusal-requires : tie.Need-put-refusal-requires
-put-refusal-requires c κs = search needs
-
-same-length : tie.Need-same-length
-same-length c = search needs
-
 returns : tie.Need-returns
-returns c = put-as (c .before .before .put-line .ensures) (ap printVerdict (sym (c .before .before .before .before .before .before .enum-told .given .1))) refl
-
-same-length-2 : tie.Need-same-length-2
-same-length-2 c = search needs
+returns c =
+    let at-put-line = c .before .before in
+    put-as (at-put-line .put-line .ensures) (ap printVerdict (sym (at-put-line .before .before .before .before .enum-told .given .1))) refl
 
 returns-2 : tie.Need-returns-2
 returns-2 c =
-    let at-verdict = c .before .before .before .before .before .before .before in
+    let at-put-line-arg5 = c .before .before .before .before in
+    let at-verdict = at-put-line-arg5 .before .before .before in
     put-as (alarm-put (at-verdict .verdict .given .0 .0) (small at-verdict) (c .before .before .put-line2 .ensures)) (ap printVerdict (sym (at-verdict .verdict .given .1))) refl
 
-same-length-3 : tie.Need-same-length-3
-same-length-3 c = search needs
-
 returns-3 : tie.Need-returns-3
-returns-3 c = put-as (c .before .before .put-refusal .ensures .1) (ap printVerdict (sym (c .before .before .before .before .before .verdict2 .given .1))) refl
+returns-3 c =
+    let at-put-refusal = c .before .before in
+    put-as (at-put-refusal .put-refusal .ensures .1) (ap printVerdict (sym (at-put-refusal .before .before .before .verdict2 .given .1))) refl
 
 pub put-verdict-spec : {M : Type 1} → statement M
 put-verdict-spec =
     tie.close
     (tie.spec
-    enum-told
-    slice-aggregate-put-line
-    slice-aggregate-put-line-2
-    put-line-requires
-    enum-known-verdict
-    slice-aggregate-put-line-3
+    (λ c. search needs)
+    (λ c. search needs)
+    (λ c. search needs)
+    (λ c κs. search needs)
+    (λ c. search needs)
+    (λ c. search needs)
     cast-t21
-    slice-aggregate-put-line-4
+    (λ c. search needs)
     put-line-requires-2
-    enum-known-verdict-2
-    put-refusal-requires
-    same-length
+    (λ c. search needs)
+    (λ c κs. search needs)
+    (λ c. search needs)
     returns
-    same-length-2
+    (λ c. search needs)
     returns-2
-    same-length-3
+    (λ c. search needs)
     returns-3)

@@ -30,9 +30,6 @@ read c = held {w = w32} {B = 2147483648} (c .fits .step) (fits-abs w32 (c .args 
 ends : (c : tie.After-put-tag) → (c .put-tag .result ≤ start c .args .at + tagLimit) × (c .put-tag .result + fieldRoom + 1 ≤ length (c .put-tag .last .0))
 ends c = tag-end (start c .args .code) (start c .pre) (c .put-tag .ensures)
 
-put-tag-requires : tie.Need-put-tag-requires
-put-tag-requires c κs = search needs
-
 slice-write-out : tie.Need-slice-write-out
 slice-write-out c = omega (arith, ends (c .before .before) .1)
 
@@ -73,7 +70,7 @@ pub put-step-spec : {M : Type 1} → statement M
 put-step-spec =
     tie.close
     (tie.spec
-    put-tag-requires
+    (λ c κs. search needs)
     slice-write-out
     add-put-number
     cast-put-number

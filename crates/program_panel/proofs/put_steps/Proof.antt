@@ -3,7 +3,7 @@ use Prim.Native.Nat.{_-_}
 use mathlib.Core.Path.{refl, ap}
 use mathlib.Core.List.{[], _∷_}
 use native.Mathlib.Omega.{arith}
-use borrow.Author.Needs.{sfits-of}
+use borrow.Author.Needs.{needs, sfits-of}
 use lib.IntN.{ℤ}
 use lib.ListN.{getD}
 use mir.Facts.{toZ-ofZ}
@@ -23,38 +23,21 @@ abbrev μ-loop : tie.MeasureT-loop
 loop-holds : tie.Need-loop-holds Inv-loop μ-loop
 loop-holds c = steps-start _ _ _ _
 
-shared-slice-read-put-step : tie.Need-shared-slice-read-put-step Inv-loop μ-loop
-shared-slice-read-put-step c = omega arith
-
-mul-put-step : tie.Need-mul-put-step Inv-loop μ-loop
-mul-put-step c = omega arith
-
-shared-slice-copy-out-put-step : tie.Need-shared-slice-copy-out-put-step Inv-loop μ-loop
-shared-slice-copy-out-put-step c = omega arith
-
 put-step-requires : tie.Need-put-step-requires Inv-loop μ-loop
 put-step-requires c κs =
     let at-loop = c .before .before .before .before in
     omega (arith, at-loop .loop .inv .most, at-loop .loop .inv .put .same-length, at-loop .before .before .before .pre .0)
 
-add-i : tie.Need-add-i Inv-loop μ-loop
-add-i c = omega arith
-
-loop-less : tie.Need-loop-less Inv-loop μ-loop
-loop-less c = omega arith
-
 loop-again : tie.Need-loop-again Inv-loop μ-loop
 loop-again c =
     let at-put = c .before .before in
-    let at-loop = at-put .before .before .before .before .before in
+    let in-loop = at-put .before .before .before .before in
+    let at-loop = in-loop .before in
     let start = at-loop .before .before .before in
     let step = toZ-ofZ (sfits-of (at-put .before .put-step-arg2 .given)) in
     steps-next _ _ _ (start .pre .1 .0) (start .pre .1 .1 .0) (omega arith) (at-loop .loop .inv) (at-put .put-step .ensures .0)
     (put-as (at-put .put-step .ensures .1)
     (ap (λ (z : ℤ). printNumbers (tagOf channelTypes (getD (start .args .codes .now) (at-loop .loop .i) 0)) (z ∷ [])) step) refl)
-
-same-length : tie.Need-same-length Inv-loop μ-loop
-same-length c = c .before .loop .inv .put .same-length
 
 returns : tie.Need-returns Inv-loop μ-loop
 returns c = steps-done _ _ _ (omega arith) (c .before .loop .inv)
@@ -66,12 +49,12 @@ put-steps-spec =
     Inv-loop
     μ-loop
     loop-holds
-    shared-slice-read-put-step
-    mul-put-step
-    shared-slice-copy-out-put-step
+    (λ c. search needs)
+    (λ c. search needs)
+    (λ c. search needs)
     put-step-requires
-    add-i
-    loop-less
+    (λ c. search needs)
+    (λ c. search needs)
     loop-again
-    same-length
+    (λ c. search needs)
     returns)

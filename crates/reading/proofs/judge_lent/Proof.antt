@@ -26,12 +26,6 @@ figures c =
     let a = c .args in
     figuresOf (a .n) (now (a .codes)) (filledBall (now (a .scaled-centre)) (a .scaled-squared-radius) (a .scaled-lower-bound) (a .settled)) (a .moves)
 
-figures-known-lent-requires : tie.Need-figures-known-lent-requires
-figures-known-lent-requires c κs = search needs
-
-refused-requires : tie.Need-refused-requires
-refused-requires c κs = search needs
-
 returns : tie.Need-returns
 returns c =
     let test = c .before .before in
@@ -44,36 +38,32 @@ returns c =
 within : (c : tie.Else1) → figuresKnown total channelTypes (figures (c .before .before .before .before)) ≡ true
 within c = sym (c .before .figures-known-lent .ensures) ∙ not-false _ (c .if1 .left)
 
-text-within-requires : tie.Need-text-within-requires
-text-within-requires c κs = search needs
-
-refused-requires-2 : tie.Need-refused-requires-2
-refused-requires-2 c κs = search needs
+abbrev start-of : tie.After-text-within → tie.Start
+start-of c =
+    let at-figures-known-lent = c .before .before in
+    at-figures-known-lent .before .before .before
 
 returns-2 : tie.Need-returns-2
 returns-2 c =
     let test = c .before .before in
-    let start = test .before .before .before .before .before in
+    let start = start-of test in
     c .refused2 .ensures
     ∙ judged-text total channelTypes (figures start) (now (start .args .text)) (within (test .before))
     (sym (test .text-within .ensures) ∙ not-true _ (c .before .if2 .taken)) refl
 
 -- past the test of the text
-fitting : (c : tie.Else2) → textWithin (now (c .before .before .before .before .before .before .args .text)) ≡ true
+fitting : (c : tie.Else2) → textWithin (now (start-of (c .before) .args .text)) ≡ true
 fitting c = sym (c .before .text-within .ensures) ∙ not-false _ (c .if2 .left)
 
 -- the text has a last byte
-some-byte : (c : tie.Else2) → 1 ≤ length (now (c .before .before .before .before .before .before .args .text))
-some-byte c = text-within (now (c .before .before .before .before .before .before .args .text)) (fitting c) .0
+some-byte : (c : tie.Else2) → 1 ≤ length (now (start-of (c .before) .args .text))
+some-byte c = text-within (now (start-of (c .before) .args .text)) (fitting c) .0
 
 sub-end : tie.Need-sub-end
 sub-end c = some-byte c
 
 shared-slice-read-if3 : tie.Need-shared-slice-read-if3
 shared-slice-read-if3 c = omega (arith, some-byte (c .before))
-
-refused-requires-3 : tie.Need-refused-requires-3
-refused-requires-3 c κs = search needs
 
 returns-3 : tie.Need-returns-3
 returns-3 c =
@@ -89,7 +79,9 @@ slice-aggregate-judge-line : tie.Need-slice-aggregate-judge-line
 slice-aggregate-judge-line c = sym (length-take-le _ _ (omega arith))
 
 judge-line-requires : tie.Need-judge-line-requires
-judge-line-requires c κs = within (c .before .before .before .before .before)
+judge-line-requires c κs =
+    let at-text-within = c .before .before .before .before in
+    within (at-text-within .before)
 
 returns-4 : tie.Need-returns-4
 returns-4 c =
@@ -105,15 +97,15 @@ pub judge-lent-spec : {M : Type 1} → statement M
 judge-lent-spec =
     tie.close
     (tie.spec
-    figures-known-lent-requires
-    refused-requires
+    (λ c κs. search needs)
+    (λ c κs. search needs)
     returns
-    text-within-requires
-    refused-requires-2
+    (λ c κs. search needs)
+    (λ c κs. search needs)
     returns-2
     sub-end
     shared-slice-read-if3
-    refused-requires-3
+    (λ c κs. search needs)
     returns-3
     slice-aggregate-judge-line
     judge-line-requires

@@ -40,9 +40,6 @@ limits c = known-within total channelTypes (lent c) (c .pre)
 coded : (c : tie.Start) → Coded channelTypes (lent c)
 coded c = known-coded total channelTypes (lent c) (c .pre)
 
-slice-aggregate-read-line : tie.Need-slice-aggregate-read-line
-slice-aggregate-read-line c = search needs
-
 read-line-requires : tie.Need-read-line-requires
 read-line-requires c κs =
     let start = c .before .before .before in
@@ -68,38 +65,11 @@ point c is =
     let most = limits (start-of c) .channels in
     point-read (rw is at (c .read-line .ensures)) house-sound (figures c .n) (count c) (omega (arith, most)) most
 
-enum-told : tie.Need-enum-told
-enum-told c = search needs
-
-refused-requires : tie.Need-refused-requires
-refused-requires c κs = search needs
-
-enum-told-2 : tie.Need-enum-told-2
-enum-told-2 c = search needs
-
-refused-requires-2 : tie.Need-refused-requires-2
-refused-requires-2 c κs = search needs
-
-enum-told-3 : tie.Need-enum-told-3
-enum-told-3 c = search needs
-
-refused-requires-3 : tie.Need-refused-requires-3
-refused-requires-3 c κs = search needs
-
-enum-told-4 : tie.Need-enum-told-4
-enum-told-4 c = search needs
-
-slice-aggregate-scaled-squared-distance : tie.Need-slice-aggregate-scaled-squared-distance
-slice-aggregate-scaled-squared-distance c = search needs
-
 scaled-squared-distance-requires : tie.Need-scaled-squared-distance-requires
 scaled-squared-distance-requires c κs =
     let told = c .before in
     let at-read = told .before .before .before in
     (point at-read (told .enum-told4 .given .1) .row, within-centre (limits (start-of at-read)))
-
-verdict-of-requires : tie.Need-verdict-of-requires
-verdict-of-requires c κs = search needs
 
 returns : tie.Need-returns
 returns c =
@@ -133,18 +103,18 @@ pub judge-line-spec : {M : Type 1} → statement M
 judge-line-spec =
     tie.close
     (tie.spec
-    slice-aggregate-read-line
+    (λ c. search needs)
     read-line-requires
-    enum-told
-    refused-requires
-    enum-told-2
-    refused-requires-2
-    enum-told-3
-    refused-requires-3
-    enum-told-4
-    slice-aggregate-scaled-squared-distance
+    (λ c. search needs)
+    (λ c κs. search needs)
+    (λ c. search needs)
+    (λ c κs. search needs)
+    (λ c. search needs)
+    (λ c κs. search needs)
+    (λ c. search needs)
+    (λ c. search needs)
     scaled-squared-distance-requires
-    verdict-of-requires
+    (λ c κs. search needs)
     returns
     returns-2
     returns-3

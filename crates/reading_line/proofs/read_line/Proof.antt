@@ -19,14 +19,8 @@ use Rattle.reading_line.proofs.LineSteps.{FieldsRead, fields-no-label, 
 use Rattle.reading_line.proofs.read_line.Statement.{statement}
 use Rattle.reading_line.proofs.read_line.Tie as tie
 
-field-end-requires : tie.Need-field-end-requires
-field-end-requires c κs = search needs
-
 slice-aggregate-is-label : tie.Need-slice-aggregate-is-label
 slice-aggregate-is-label c = sym (length-take-le _ _ (c .before .field-end .ensures .high))
-
-is-label-requires : tie.Need-is-label-requires
-is-label-requires c κs = search needs
 
 returns : tie.Need-returns
 returns c =
@@ -37,15 +31,14 @@ returns c =
     (fields-no-label channelTypes (take (args .n) (now (args .codes))) (now (args .line)) _ (first-part-from comma _ _ (at-end .field-end .ensures))
     (sym (at-label .is-label .ensures) ∙ not-true _ (c .if1 .taken)))
 
-add-read-pairs : tie.Need-add-read-pairs
-add-read-pairs c = search needs
-
-read-pairs-requires : tie.Need-read-pairs-requires
-read-pairs-requires c κs = search needs
+abbrev start-of : tie.After-read-pairs → tie.Start
+start-of c =
+    let at-is-label-arg = c .before .before .before .before in
+    at-is-label-arg .before .before .before .before
 
 -- what the fields say, by what the pairs are told to be
 fields : (c : tie.After-read-pairs) (told : Line) → c .read-pairs .result ≡ told
-    → let args = c .before .before .before .before .before .before .before .before .args in
+    → let args = start-of c .args in
     FieldsRead channelTypes (take (args .n) (now (args .codes))) (now (args .line)) (now (args .places)) (c .read-pairs .last .1 .1 .1 .1 .0) told
 fields c told is =
     let past-label = c .before .before in
@@ -57,40 +50,16 @@ fields c told is =
     (sym (at-label .is-label .ensures) ∙ not-false _ (past-label .if1 .left)) (c .read-pairs .ensures)
     )
 
-enum-told : tie.Need-enum-told
-enum-told c = search needs
-
-enum-told-2 : tie.Need-enum-told-2
-enum-told-2 c = search needs
-
-line-end-requires : tie.Need-line-end-requires
-line-end-requires c κs = search needs
-
-enum-told-3 : tie.Need-enum-told-3
-enum-told-3 c = search needs
-
-enum-told-4 : tie.Need-enum-told-4
-enum-told-4 c = search needs
-
-same-length : tie.Need-same-length
-same-length c = search needs
-
 returns-2 : tie.Need-returns-2
 returns-2 c =
     let at-pairs = c .before .before .before in
     line-malformed channelTypes _ _ (fields at-pairs Malformed (c .enum-told .given .1))
-
-same-length-2 : tie.Need-same-length-2
-same-length-2 c = search needs
 
 returns-3 : tie.Need-returns-3
 returns-3 c =
     let at-end = c .before in
     let at-pairs = at-end .before .before .before .before in
     line-ended channelTypes _ _ (free-end lineEnd _ _ (at-end .line-end .ensures) .1 (c .if2 .taken)) (at-pairs .read-pairs .ensures .same-length)
-
-same-length-3 : tie.Need-same-length-3
-same-length-3 c = search needs
 
 returns-4 : tie.Need-returns-4
 returns-4 c =
@@ -99,23 +68,17 @@ returns-4 c =
     line-whole channelTypes _ _ (fields (told .before .before .before) TagDiffers (told .enum-told2 .given .1))
     (free-end lineEnd _ _ (at-end .line-end .ensures) .0 (omega arith))
 
-same-length-4 : tie.Need-same-length-4
-same-length-4 c = search needs
-
 returns-5 : tie.Need-returns-5
 returns-5 c =
     let at-pairs = c .before .before .before in
-    let start = at-pairs .before .before .before .before .before .before .before .before in
+    let start = start-of at-pairs in
     line-agreed channelTypes _ _ (fields at-pairs OutOfRange (c .enum-told3 .given .1)) house-sound (start .pre .0) (λ e. impossible (cc))
     (λ e. impossible (cc))
-
-same-length-5 : tie.Need-same-length-5
-same-length-5 c = search needs
 
 returns-6 : tie.Need-returns-6
 returns-6 c =
     let at-pairs = c .before .before .before in
-    let start = at-pairs .before .before .before .before .before .before .before .before in
+    let start = start-of at-pairs in
     line-agreed channelTypes _ _ (fields at-pairs Within (c .enum-told4 .given .1)) house-sound (start .pre .0) (λ e. impossible (cc))
     (λ e. impossible (cc))
 
@@ -123,24 +86,24 @@ pub read-line-spec : {M : Type 1} → statement M
 read-line-spec =
     tie.close
     (tie.spec
-    field-end-requires
+    (λ c κs. search needs)
     slice-aggregate-is-label
-    is-label-requires
+    (λ c κs. search needs)
     returns
-    add-read-pairs
-    read-pairs-requires
-    enum-told
-    enum-told-2
-    line-end-requires
-    enum-told-3
-    enum-told-4
-    same-length
+    (λ c. search needs)
+    (λ c κs. search needs)
+    (λ c. search needs)
+    (λ c. search needs)
+    (λ c κs. search needs)
+    (λ c. search needs)
+    (λ c. search needs)
+    (λ c. search needs)
     returns-2
-    same-length-2
+    (λ c. search needs)
     returns-3
-    same-length-3
+    (λ c. search needs)
     returns-4
-    same-length-4
+    (λ c. search needs)
     returns-5
-    same-length-5
+    (λ c. search needs)
     returns-6)

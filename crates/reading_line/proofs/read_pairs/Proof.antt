@@ -40,19 +40,10 @@ codes : (c : tie.At-loop Inv-loop μ-loop)
     → let args = c .before .before .before .args in length (take (args .n) (now (args .codes))) ≡ args .n
 codes c = let args = c .before .before .before .args in length-take-le (args .n) (now (args .codes)) (c .before .before .before .pre .0)
 
-same-length : tie.Need-same-length Inv-loop μ-loop
-same-length c = c .before .before .loop .inv .values .same-length
-
 returns : tie.Need-returns Inv-loop μ-loop
 returns c =
     let at-loop = c .before .before in
     pairs-few (at-loop .loop .inv) (omega (arith, codes at-loop)) (parts-none comma _ _ (c .if1 .taken)) (omega arith)
-
-field-end-requires : tie.Need-field-end-requires Inv-loop μ-loop
-field-end-requires c κs = search needs
-
-same-length-2 : tie.Need-same-length-2 Inv-loop μ-loop
-same-length-2 c = search needs
 
 returns-2 : tie.Need-returns-2 Inv-loop μ-loop
 returns-2 c =
@@ -61,47 +52,8 @@ returns-2 c =
     pairs-few (at-loop .loop .inv) (omega (arith, codes at-loop))
     (last-part comma _ _ _ (at-tag-end .before .if1 .left) (at-tag-end .field-end .ensures) (sym (c .if2 .taken))) (omega arith)
 
-shared-slice-read-code : tie.Need-shared-slice-read-code Inv-loop μ-loop
-shared-slice-read-code c = omega arith
-
-sub-is-tag : tie.Need-sub-is-tag Inv-loop μ-loop
-sub-is-tag c = omega arith
-
-part-is-tag-start : tie.Need-part-is-tag-start Inv-loop μ-loop
-part-is-tag-start c = omega arith
-
-part-is-tag-end : tie.Need-part-is-tag-end Inv-loop μ-loop
-part-is-tag-end c = omega arith
-
-is-tag-requires : tie.Need-is-tag-requires Inv-loop μ-loop
-is-tag-requires c κs = search needs
-
-add-value-at : tie.Need-add-value-at Inv-loop μ-loop
-add-value-at c = omega arith
-
-field-end-requires-2 : tie.Need-field-end-requires-2 Inv-loop μ-loop
-field-end-requires-2 c κs = omega arith
-
-range-of-requires : tie.Need-range-of-requires Inv-loop μ-loop
-range-of-requires c κs = search needs
-
-sub-read-value : tie.Need-sub-read-value Inv-loop μ-loop
-sub-read-value c = omega arith
-
-part-read-value-start : tie.Need-part-read-value-start Inv-loop μ-loop
-part-read-value-start c = omega arith
-
-part-read-value-end : tie.Need-part-read-value-end Inv-loop μ-loop
-part-read-value-end c = omega arith
-
 read-value-requires : tie.Need-read-value-requires Inv-loop μ-loop
 read-value-requires c κs = range-found _ _ (c .before .range-of .ensures)
-
-enum-told : tie.Need-enum-told Inv-loop μ-loop
-enum-told c = search needs
-
-same-length-3 : tie.Need-same-length-3 Inv-loop μ-loop
-same-length-3 c = search needs
 
 returns-3 : tie.Need-returns-3 Inv-loop μ-loop
 returns-3 c =
@@ -113,27 +65,6 @@ returns-3 c =
     pairs-malformed (at-loop .loop .inv)
     (two-fields _ _ (at-tag-end .before .if1 .left) (at-tag-end .field-end .ensures) (at-more .if2 .left) (at-value-end .field-end2 .ensures))
     (read-malformed _ _ (sym (c .enum-told .given .1) ∙ read-under _ (at-value .read-value .ensures) (at-value .before .before .range-of .ensures)))
-
-enum-told-2 : tie.Need-enum-told-2 Inv-loop μ-loop
-enum-told-2 c = search needs
-
-enum-known-value : tie.Need-enum-known-value Inv-loop μ-loop
-enum-known-value c = search needs
-
-mul-whole : tie.Need-mul-whole Inv-loop μ-loop
-mul-whole c = omega arith
-
-slice-set-from-whole : tie.Need-slice-set-from-whole Inv-loop μ-loop
-slice-set-from-whole c = omega arith
-
-add-from : tie.Need-add-from Inv-loop μ-loop
-add-from c = omega arith
-
-add-i : tie.Need-add-i Inv-loop μ-loop
-add-i c = omega arith
-
-loop-less : tie.Need-loop-less Inv-loop μ-loop
-loop-less c = omega arith
 
 loop-again : tie.Need-loop-again Inv-loop μ-loop
 loop-again c =
@@ -162,17 +93,11 @@ loop-again c =
     (w .3) (w .4))
     (c .match .came))
 
-same-length-4 : tie.Need-same-length-4 Inv-loop μ-loop
-same-length-4 c = search needs
-
 returns-4 : tie.Need-returns-4 Inv-loop μ-loop
 returns-4 c =
     let at-loop = c .before .before in
     let more = parts-some comma _ _ (c .if3 .taken) in
     pairs-many (at-loop .loop .inv) (omega (arith, codes at-loop)) (more .2)
-
-same-length-5 : tie.Need-same-length-5 Inv-loop μ-loop
-same-length-5 c = search needs
 
 returns-5 : tie.Need-returns-5 Inv-loop μ-loop
 returns-5 c =
@@ -180,17 +105,11 @@ returns-5 c =
     pairs-done (at-loop .loop .inv) false _ (not-true _ (c .if4 .taken)) refl (omega (arith, codes at-loop))
     (parts-none comma _ _ (c .before .if3 .left))
 
-same-length-6 : tie.Need-same-length-6 Inv-loop μ-loop
-same-length-6 c = search needs
-
 returns-6 : tie.Need-returns-6 Inv-loop μ-loop
 returns-6 c =
     let at-loop = c .before .before .before .before in
     pairs-done (at-loop .loop .inv) true true (not-false _ (c .before .if4 .left)) (c .if5 .taken) (omega (arith, codes at-loop))
     (parts-none comma _ _ (c .before .before .if3 .left))
-
-same-length-7 : tie.Need-same-length-7 Inv-loop μ-loop
-same-length-7 c = search needs
 
 returns-7 : tie.Need-returns-7 Inv-loop μ-loop
 returns-7 c =
@@ -205,39 +124,39 @@ read-pairs-spec =
     Inv-loop
     μ-loop
     loop-holds
-    same-length
+    (λ c. search needs)
     returns
-    field-end-requires
-    same-length-2
+    (λ c κs. search needs)
+    (λ c. search needs)
     returns-2
-    shared-slice-read-code
-    sub-is-tag
-    part-is-tag-start
-    part-is-tag-end
-    is-tag-requires
-    add-value-at
-    field-end-requires-2
-    range-of-requires
-    sub-read-value
-    part-read-value-start
-    part-read-value-end
+    (λ c. search needs)
+    (λ c. search needs)
+    (λ c. search needs)
+    (λ c. search needs)
+    (λ c κs. search needs)
+    (λ c. search needs)
+    (λ c κs. search needs)
+    (λ c κs. search needs)
+    (λ c. search needs)
+    (λ c. search needs)
+    (λ c. search needs)
     read-value-requires
-    enum-told
-    same-length-3
+    (λ c. search needs)
+    (λ c. search needs)
     returns-3
-    enum-told-2
-    enum-known-value
-    mul-whole
-    slice-set-from-whole
-    add-from
-    add-i
-    loop-less
+    (λ c. search needs)
+    (λ c. search needs)
+    (λ c. search needs)
+    (λ c. search needs)
+    (λ c. search needs)
+    (λ c. search needs)
+    (λ c. search needs)
     loop-again
-    same-length-4
+    (λ c. search needs)
     returns-4
-    same-length-5
+    (λ c. search needs)
     returns-5
-    same-length-6
+    (λ c. search needs)
     returns-6
-    same-length-7
+    (λ c. search needs)
     returns-7)

@@ -17,21 +17,17 @@ use Rattle.record_print.proofs.PrintSteps.{Line, heading-put, line-end,
 use Rattle.record_print.proofs.print_record.Statement.{statement}
 use Rattle.record_print.proofs.print_record.Tie as tie
 
-slice-aggregate-put-heading : tie.Need-slice-aggregate-put-heading
-slice-aggregate-put-heading c = search needs
-
-slice-aggregate-put-heading-2 : tie.Need-slice-aggregate-put-heading-2
-slice-aggregate-put-heading-2 c = search needs
-
-put-heading-requires : tie.Need-put-heading-requires
-put-heading-requires c κs = search needs
-
 -- the place of the heading, and where the function starts
 abbrev start : tie.After-put-heading → tie.Start
-start c = c .before .before .before .before .before .before .before .before .before
+start c =
+    let at-scaled-centre = c .before .before .before .before in
+    let at-codes = at-scaled-centre .before .before in
+    at-codes .before .before .before
 
 abbrev at-heading : tie.After-put-centre → tie.After-put-heading
-at-heading c = c .before .before .before .before .before
+at-heading c =
+    let at-out = c .before .before .before .before in
+    at-out .before
 
 abbrev at-centre : tie.After-put-result → tie.After-put-centre
 at-centre c = c .before .before .before .before
@@ -75,9 +71,6 @@ slice-write-out c = heading (c .before .before) .within
 add-put-centre : tie.Need-add-put-centre
 add-put-centre c = omega (arith, heading (c .before .before .before) .room)
 
-slice-aggregate-put-centre : tie.Need-slice-aggregate-put-centre
-slice-aggregate-put-centre c = search needs
-
 put-centre-requires : tie.Need-put-centre-requires
 put-centre-requires c κs =
     let first = heading (c .before .before .before .before) in
@@ -118,12 +111,12 @@ pub print-record-spec : {M : Type 1} → statement M
 print-record-spec =
     tie.close
     (tie.spec
-    slice-aggregate-put-heading
-    slice-aggregate-put-heading-2
-    put-heading-requires
+    (λ c. search needs)
+    (λ c. search needs)
+    (λ c κs. search needs)
     slice-write-out
     add-put-centre
-    slice-aggregate-put-centre
+    (λ c. search needs)
     put-centre-requires
     put-result-requires
     put-weights-requires

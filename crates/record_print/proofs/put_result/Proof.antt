@@ -19,48 +19,40 @@ use Rattle.record_print.proofs.put_result.Tie as tie
 below : (c : tie.Start) → Below (2 ^ 63) (c .args .scaled-squared-radius ∷ c .args .scaled-lower-bound ∷ c .args .moves ∷ [])
 below c = result-below (c .args .scaled-squared-radius) (c .args .scaled-lower-bound) (c .args .moves) (omega arith) (omega arith) (omega arith)
 
-cast-t12 : tie.Need-cast-t12
-cast-t12 c = search needs
-
-cast-t13 : tie.Need-cast-t13
-cast-t13 c = search needs
-
-cast-t14 : tie.Need-cast-t14
-cast-t14 c = search needs
-
-slice-aggregate-put-numbers : tie.Need-slice-aggregate-put-numbers
-slice-aggregate-put-numbers c = search needs
-
-slice-aggregate-put-numbers-2 : tie.Need-slice-aggregate-put-numbers-2
-slice-aggregate-put-numbers-2 c = search needs
-
 put-numbers-requires : tie.Need-put-numbers-requires
 put-numbers-requires c κs =
     let start = c .before .before .before .before in
     (omega arith, (held-below (start .args .scaled-squared-radius ∷ start .args .scaled-lower-bound ∷ start .args .moves ∷ []) (below start), omega arith))
 
+abbrev start-of : tie.After-put-numbers → tie.Start
+start-of c =
+    let at-numbers = c .before in
+    at-numbers .before .before .before .before
+
 letter : (c : tie.Joined1)
-    → let start = c .before .before .before .before .before .before .before .before in
+    → let start = start-of (c .before .before .before) in
     c .if1 .letter ≡ letterOf (start .args .settled)
 letter c = ⊎-elim (λ w. w .1 ∙ sym (ap letterOf (w .0 .taken))) (λ w. w .1 ∙ sym (ap letterOf (w .0 .left))) (c .if1 .came)
 
 letter-one : (c : tie.Joined1) → length (c .if1 .letter) ≡ 1
-letter-one c = ap length (letter c) ∙ letter-length (c .before .before .before .before .before .before .before .before .args .settled)
+letter-one c = ap length (letter c) ∙ letter-length (start-of (c .before .before .before) .args .settled)
 
 numbers-room : (c : tie.After-put-numbers) → c .put-numbers .result + 3 ≤ length (c .put-numbers .last .0)
 numbers-room c =
-    let start = c .before .before .before .before .before in
+    let start = start-of c in
     let end = numbers-put (start .args .scaled-squared-radius) (start .args .scaled-lower-bound) (start .args .moves) (below start) (c .put-numbers .ensures) .0 in
     omega arith
 
 line : (c : tie.After-put-bytes)
-    → let start = c .before .before .before .before .before .before .before .before .before .before .before in
+    → let at-joined1 = c .before .before .before in
+    let start = start-of (at-joined1 .before .before .before) in
     Line (printResult (resultFor (start .args .scaled-squared-radius) (start .args .scaled-lower-bound) (start .args .moves) (start .args .settled))) (start .args .out .now) (start .args .at) (c .put-bytes .last .0) (c .put-bytes .result)
 line c =
-    let at-numbers = c .before .before .before .before .before .before in
-    let start = at-numbers .before .before .before .before .before in
-    result-put (start .args .scaled-squared-radius) (start .args .scaled-lower-bound) (start .args .moves) (below start) (start .args .settled) (c .before .before .before .if1 .letter)
-    (letter (c .before .before .before)) (omega arith) (at-numbers .put-numbers .ensures) (c .put-bytes .ensures)
+    let at-joined1 = c .before .before .before in
+    let at-numbers = at-joined1 .before .before .before in
+    let start = start-of at-numbers in
+    result-put (start .args .scaled-squared-radius) (start .args .scaled-lower-bound) (start .args .moves) (below start) (start .args .settled) (at-joined1 .if1 .letter)
+    (letter at-joined1) (omega arith) (at-numbers .put-numbers .ensures) (c .put-bytes .ensures)
 
 slice-write-out : tie.Need-slice-write-out
 slice-write-out c = omega (arith, numbers-room (c .before .before))
@@ -73,8 +65,9 @@ slice-aggregate-put-bytes c = sym (letter-one (c .before .before))
 
 put-bytes-requires : tie.Need-put-bytes-requires
 put-bytes-requires c κs =
-    let numbers = c .before .before .before .before .before .put-numbers in
-    omega (arith, letter-one (c .before .before), numbers-room (c .before .before .before .before .before), length-set (numbers .last .0) (numbers .result) comma)
+    let at-out = c .before .before .before .before in
+    let numbers = at-out .before .put-numbers in
+    omega (arith, letter-one (c .before .before), numbers-room (at-out .before), length-set (numbers .last .0) (numbers .result) comma)
 
 slice-write-out-2 : tie.Need-slice-write-out-2
 slice-write-out-2 c = line (c .before .before) .within
@@ -92,11 +85,11 @@ pub put-result-spec : {M : Type 1} → statement M
 put-result-spec =
     tie.close
     (tie.spec
-    cast-t12
-    cast-t13
-    cast-t14
-    slice-aggregate-put-numbers
-    slice-aggregate-put-numbers-2
+    (λ c. search needs)
+    (λ c. search needs)
+    (λ c. search needs)
+    (λ c. search needs)
+    (λ c. search needs)
     put-numbers-requires
     slice-write-out
     add-put-bytes

@@ -2,6 +2,7 @@
 -- room of its line. The measure is how many weights are left.
 use Prim.Native.Nat.{_-_}
 use native.Mathlib.Omega.{arith}
+use borrow.Author.Needs.{needs}
 use lib.ListN.{length}
 use Rattle.record_print.proofs.PrintSteps.{weight-below, WeightsSoFar, weights-none, weights-zero, weights-more, weights-done}
 use Rattle.record_print.proofs.put_weights.Statement.{statement}
@@ -16,21 +17,6 @@ abbrev μ-loop : tie.MeasureT-loop
 loop-holds : tie.Need-loop-holds Inv-loop μ-loop
 loop-holds c = weights-none _ _ _
 
-mul-weight : tie.Need-mul-weight Inv-loop μ-loop
-mul-weight c = omega arith
-
-shared-slice-read-weight : tie.Need-shared-slice-read-weight Inv-loop μ-loop
-shared-slice-read-weight c = omega arith
-
-add-i : tie.Need-add-i Inv-loop μ-loop
-add-i c = omega arith
-
-put-weight-requires : tie.Need-put-weight-requires Inv-loop μ-loop
-put-weight-requires c κs = omega arith
-
-loop-less : tie.Need-loop-less Inv-loop μ-loop
-loop-less c = omega arith
-
 loop-again : tie.Need-loop-again Inv-loop μ-loop
 loop-again c =
     let at-test = c .before .before .before .before in
@@ -38,14 +24,8 @@ loop-again c =
     let weight = at-test .before .shared-slice-known2 .given (at-loop .loop .i) in
     weights-more (at-loop .loop .inv) (omega arith) (at-test .if1 .taken) (weight-below _ _ (omega arith) (omega arith)) (c .before .before .put-weight .ensures)
 
-loop-less-2 : tie.Need-loop-less-2 Inv-loop μ-loop
-loop-less-2 c = omega arith
-
 loop-again-2 : tie.Need-loop-again-2 Inv-loop μ-loop
 loop-again-2 c = weights-zero (c .before .before .before .loop .inv) (omega arith) (c .if1 .left)
-
-same-length : tie.Need-same-length Inv-loop μ-loop
-same-length c = omega arith
 
 returns : tie.Need-returns Inv-loop μ-loop
 returns c = weights-done (c .before .loop .inv) (omega arith)
@@ -57,13 +37,13 @@ put-weights-spec =
     Inv-loop
     μ-loop
     loop-holds
-    mul-weight
-    shared-slice-read-weight
-    add-i
-    put-weight-requires
-    loop-less
+    (λ c. search needs)
+    (λ c. search needs)
+    (λ c. search needs)
+    (λ c κs. search needs)
+    (λ c. search needs)
     loop-again
-    loop-less-2
+    (λ c. search needs)
     loop-again-2
-    same-length
+    (λ c. search needs)
     returns)

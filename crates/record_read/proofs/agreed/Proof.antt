@@ -23,10 +23,12 @@ type-places c = search needs
 weight-places : (c : tie.Start) → length (c .args .stated .weights) ≡ rowLimit
 weight-places c = search needs
 
-radius-fits : (c : tie.After-struct-told) → SFits w64 (c .before .before .before .before .before .before .before .args .stated .«scaled_squared_radius»)
+radius-fits : (c : tie.After-struct-told) → let at-same-codes = c .before .before .before in
+    SFits w64 (at-same-codes .before .before .before .before .args .stated .«scaled_squared_radius»)
 radius-fits c = search needs
 
-floor-fits : (c : tie.After-struct-told) → SFits w64 (c .before .before .before .before .before .before .before .args .stated .«scaled_lower_bound»)
+floor-fits : (c : tie.After-struct-told) → let at-same-codes = c .before .before .before in
+    SFits w64 (at-same-codes .before .before .before .before .args .stated .«scaled_lower_bound»)
 floor-fits c = search needs
 
 array-share-prefix-stated-codes : tie.Need-array-share-prefix-stated-codes
@@ -34,12 +36,6 @@ array-share-prefix-stated-codes c = omega (arith, type-places (c .before .before
 
 slice-aggregate-same-codes : tie.Need-slice-aggregate-same-codes
 slice-aggregate-same-codes c = sym (length-take-le _ _ (array-share-prefix-stated-codes (c .before)))
-
-same-codes-requires : tie.Need-same-codes-requires
-same-codes-requires c κs = search needs
-
-not-read-requires : tie.Need-not-read-requires
-not-read-requires c κs = search needs
 
 returns : tie.Need-returns
 returns c =
@@ -50,33 +46,34 @@ returns c =
     (sym (test .same-codes .ensures) ∙ not-true _ (c .before .if1 .taken))
 
 -- past the first test n and the tags are those given
-same-codes : (c : tie.Else1) → let args = c .before .before .before .before .before .args in
+same-codes : (c : tie.Else1) → let at-same-codes = c .before in
+    let args = at-same-codes .before .before .before .before .args in
     same (now (args .codes)) (take (args .stated .n) (args .stated .codes)) ≡ true
 same-codes c = sym (c .before .same-codes .ensures) ∙ not-false _ (c .if1 .left)
-
-not-read-requires-2 : tie.Need-not-read-requires-2
-not-read-requires-2 c κs = search needs
 
 returns-2 : tie.Need-returns-2
 returns-2 c =
     let test = c .before .before in
-    let args = test .before .before .before .before .before .before .before .args in
+    let at-same-codes = test .before .before .before in
+    let args = at-same-codes .before .before .before .before .args in
     c .not-read2 .ensures
     ∙ radius-below total rowLimit (now (args .rows)) (args .m) (now (args .codes)) (args .stated) (radius-fits test) (c .before .if2 .taken)
 
-not-read-requires-3 : tie.Need-not-read-requires-3
-not-read-requires-3 c κs = search needs
-
 returns-3 : tie.Need-returns-3
 returns-3 c =
-    let told = c .before .before .before .before .before in
-    let args = told .before .before .before .before .before .before .before .args in
+    let at-else2 = c .before .before .before .before in
+    let told = at-else2 .before in
+    let at-same-codes = told .before .before .before in
+    let args = at-same-codes .before .before .before .before .args in
     c .not-read3 .ensures
     ∙ floor-below total rowLimit (now (args .rows)) (args .m) (now (args .codes)) (args .stated) (floor-fits told) (c .before .if3 .taken)
 
 -- past the tests of the signs
 abbrev start-of : tie.Else3 → tie.Start
-start-of c = c .before .before .before .before .before .before .before .before .before .before .before
+start-of c =
+    let at-else2 = c .before .before .before in
+    let at-same-codes = at-else2 .before .before .before .before in
+    at-same-codes .before .before .before .before
 
 signs : (c : tie.Else3) → Signs (start-of c .args .stated)
 signs c =
@@ -98,43 +95,41 @@ cast-scaled-lower-bound c =
     let s = signs (c .before .before .before .before) in
     sign-cast _ (s .floor-fits) (s .floor-not)
 
-filled-ball-requires : tie.Need-filled-ball-requires
-filled-ball-requires c κs = search needs
-
 slice-aggregate-agrees : tie.Need-slice-aggregate-agrees
-slice-aggregate-agrees c = sym (weight-places (start-of (c .before .before .before .before .before .before .before .before)))
+slice-aggregate-agrees c =
+    let at-struct-told4 = c .before .before .before .before in
+    sym (weight-places (start-of (at-struct-told4 .before .before .before .before)))
 
 agrees-requires : tie.Need-agrees-requires
-agrees-requires c κs = start-of (c .before .before .before .before .before .before .before .before) .pre .within
-
-not-read-requires-4 : tie.Need-not-read-requires-4
-not-read-requires-4 c κs = search needs
+agrees-requires c κs =
+    let at-struct-told4 = c .before .before .before .before in
+    start-of (at-struct-told4 .before .before .before .before) .pre .within
 
 returns-4 : tie.Need-returns-4
 returns-4 c =
     let test = c .before .before in
-    let past-signs = test .before .before .before .before .before .before .before .before .before in
+    let at-filled-ball = test .before .before .before in
+    let at-struct-told3 = at-filled-ball .before .before .before .before in
+    let past-signs = at-struct-told3 .before .before in
+    let at-else2 = past-signs .before .before .before in
     let start = start-of past-signs in
     c .not-read4 .ensures
     ∙ disagreeing total rowLimit (now (start .args .rows)) (start .args .m) (now (start .args .codes)) (start .args .stated) (signs past-signs)
-    (start .args .n) (start .pre .count) (same-codes (past-signs .before .before .before .before .before .before))
-    (test .before .before .before .filled-ball .ensures) (sym (test .agrees .ensures) ∙ not-true _ (c .before .if4 .taken))
-
-filled-figures-requires : tie.Need-filled-figures-requires
-filled-figures-requires c κs = search needs
-
-filled-envelope-requires : tie.Need-filled-envelope-requires
-filled-envelope-requires c κs = search needs
+    (start .args .n) (start .pre .count) (same-codes (at-else2 .before .before .before))
+    (at-filled-ball .filled-ball .ensures) (sym (test .agrees .ensures) ∙ not-true _ (c .before .if4 .taken))
 
 returns-5 : tie.Need-returns-5
 returns-5 c =
     let past-test = c .before .before in
     let test = past-test .before in
-    let past-signs = test .before .before .before .before .before .before .before .before .before in
+    let at-filled-ball = test .before .before .before in
+    let at-struct-told3 = at-filled-ball .before .before .before .before in
+    let past-signs = at-struct-told3 .before .before in
+    let at-else2 = past-signs .before .before .before in
     let start = start-of past-signs in
     agreeing total rowLimit (now (start .args .rows)) (start .args .m) (now (start .args .codes)) (start .args .stated) (signs past-signs)
-    (start .args .n) (start .pre .count) (same-codes (past-signs .before .before .before .before .before .before))
-    (test .before .before .before .filled-ball .ensures) (c .before .filled-figures .ensures) (c .filled-envelope .ensures)
+    (start .args .n) (start .pre .count) (same-codes (at-else2 .before .before .before))
+    (at-filled-ball .filled-ball .ensures) (c .before .filled-figures .ensures) (c .filled-envelope .ensures)
     (sym (test .agrees .ensures) ∙ not-false _ (past-test .if4 .left))
 
 pub agreed-spec : {M : Type 1} → statement M
@@ -143,20 +138,20 @@ agreed-spec =
     (tie.spec
     array-share-prefix-stated-codes
     slice-aggregate-same-codes
-    same-codes-requires
-    not-read-requires
+    (λ c κs. search needs)
+    (λ c κs. search needs)
     returns
-    not-read-requires-2
+    (λ c κs. search needs)
     returns-2
-    not-read-requires-3
+    (λ c κs. search needs)
     returns-3
     cast-scaled-squared-radius
     cast-scaled-lower-bound
-    filled-ball-requires
+    (λ c κs. search needs)
     slice-aggregate-agrees
     agrees-requires
-    not-read-requires-4
+    (λ c κs. search needs)
     returns-4
-    filled-figures-requires
-    filled-envelope-requires
+    (λ c κs. search needs)
+    (λ c κs. search needs)
     returns-5)

@@ -20,9 +20,6 @@ answer c rows places = rows && (places && codesKnown channelTypes (take (c .args
 within : (c : tie.Else1) → let args = c .before .before .before .args in rowsWithin rowLimit (now (args .rows)) (args .m) (args .n) ≡ true
 within c = sym (c .before .rows-within .ensures) ∙ not-false _ (c .if1 .left)
 
-rows-within-requires : tie.Need-rows-within-requires
-rows-within-requires c κs = search needs
-
 returns : tie.Need-returns
 returns c =
     let start = c .before .before .before in
@@ -34,14 +31,12 @@ returns-2 c =
     let start = c .before .before .before .before in
     ap₂ (answer start) (sym (within (c .before))) (sym (lt-leb (start .args .n) (length (now (start .args .codes))) (c .if2 .taken)))
 
-codes-known-requires : tie.Need-codes-known-requires
-codes-known-requires c κs = search needs
-
 returns-3 : tie.Need-returns-3
 returns-3 c =
-    let start = c .before .before .before .before .before in
+    let at-rows-within = c .before .before .before in
+    let start = at-rows-within .before .before in
     c .codes-known .ensures
     ∙ ap₂ (answer start) (sym (within (c .before .before))) (sym (le-leb (start .args .n) (length (now (start .args .codes))) (c .before .if2 .left)))
 
 pub given-within-spec : {M : Type 1} → statement M
-given-within-spec = tie.close (tie.spec rows-within-requires returns returns-2 codes-known-requires returns-3)
+given-within-spec = tie.close (tie.spec (λ c κs. search needs) returns returns-2 (λ c κs. search needs) returns-3)

@@ -4,14 +4,8 @@ use borrow.Author.Needs.{needs}
 use Rattle.record_read.proofs.not_read.Statement.{statement}
 use Rattle.record_read.proofs.not_read.Tie as tie
 
-refused-at-requires : tie.Need-refused-at-requires
-refused-at-requires c κs = search needs
-
-empty-envelope-requires : tie.Need-empty-envelope-requires
-empty-envelope-requires c κs = search needs
-
 returns : tie.Need-returns
 returns c = ap₂ (λ o e. record { outcome = o; envelope = e }) (c .before .refused-at .ensures) (c .empty-envelope .ensures)
 
 pub not-read-spec : {M : Type 1} → statement M
-not-read-spec = tie.close (tie.spec refused-at-requires empty-envelope-requires returns)
+not-read-spec = tie.close (tie.spec (λ c κs. search needs) (λ c κs. search needs) returns)

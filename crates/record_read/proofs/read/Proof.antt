@@ -18,12 +18,6 @@ use Rattle.record_read.proofs.ReadSteps.{read-faulty, read-channels, re
 use Rattle.record_read.proofs.read.Statement.{statement}
 use Rattle.record_read.proofs.read.Tie as tie
 
-given-within-requires : tie.Need-given-within-requires
-given-within-requires c κs = search needs
-
-not-read-requires : tie.Need-not-read-requires
-not-read-requires c κs = search needs
-
 returns : tie.Need-returns
 returns c =
     let test = c .before .before in
@@ -37,29 +31,19 @@ within : (c : tie.Else1) → let args = c .before .before .before .before .args 
     givenWithin rowLimit channelTypes (now (args .rows)) (args .m) (args .n) (now (args .codes)) ≡ true
 within c = sym (c .before .given-within .ensures) ∙ not-false _ (c .if1 .left)
 
-text-within-requires : tie.Need-text-within-requires
-text-within-requires c κs = search needs
-
-not-read-requires-2 : tie.Need-not-read-requires-2
-not-read-requires-2 c κs = search needs
-
 returns-2 : tie.Need-returns-2
 returns-2 c =
     let test = c .before .before in
-    let args = test .before .before .before .before .before .args in
+    let at-given-within = test .before .before in
+    let args = at-given-within .before .before .before .args in
     c .not-read2 .ensures
     ∙ sym (read-length total rowLimit channelTypes (now (args .rows)) (args .m) (args .n) (now (args .codes)) (now (args .text)) (within (test .before))
     (sym (test .text-within .ensures) ∙ not-true _ (c .before .if2 .taken)))
 
 -- past the second test so is the text
-fitting : (c : tie.Else2) → textWithin (now (c .before .before .before .before .before .before .args .text)) ≡ true
+fitting : (c : tie.Else2) → let at-given-within = c .before .before .before in
+    textWithin (now (at-given-within .before .before .before .args .text)) ≡ true
 fitting c = sym (c .before .text-within .ensures) ∙ not-false _ (c .if2 .left)
-
-read-form-requires : tie.Need-read-form-requires
-read-form-requires c κs = search needs
-
-not-read-requires-3 : tie.Need-not-read-requires-3
-not-read-requires-3 c κs = search needs
 
 returns-3 : tie.Need-returns-3
 returns-3 c =
@@ -80,7 +64,9 @@ count c =
     (given-within rowLimit channelTypes (now (args .rows)) (args .m) (args .n) (now (args .codes)) (within c) .1)
 
 slice-aggregate-agreed : tie.Need-slice-aggregate-agreed
-slice-aggregate-agreed c = sym (count (c .before .before .before .before .before .before))
+slice-aggregate-agreed c =
+    let at-read-form = c .before .before .before in
+    sym (count (at-read-form .before .before .before))
 
 agreed-requires : tie.Need-agreed-requires
 agreed-requires c κs =
@@ -108,14 +94,14 @@ pub read-spec : {M : Type 1} → statement M
 read-spec =
     tie.close
     (tie.spec
-    given-within-requires
-    not-read-requires
+    (λ c κs. search needs)
+    (λ c κs. search needs)
     returns
-    text-within-requires
-    not-read-requires-2
+    (λ c κs. search needs)
+    (λ c κs. search needs)
     returns-2
-    read-form-requires
-    not-read-requires-3
+    (λ c κs. search needs)
+    (λ c κs. search needs)
     returns-3
     slice-aggregate-agreed
     agreed-requires

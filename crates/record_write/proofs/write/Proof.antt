@@ -26,7 +26,9 @@ use Rattle.record_write.proofs.write.Statement.{statement}
 use Rattle.record_write.proofs.write.Tie as tie
 
 abbrev start-of : tie.After-figures-known → tie.Start
-start-of c = c .before .before .before .before .before
+start-of c =
+    let at-figures = c .before .before .before in
+    at-figures .before .before
 
 -- past the first test the figures are within their limits
 figures : (c : tie.Else1) → figuresKnown total channelTypes (start-of (c .before) .args .envelope .figures) ≡ true
@@ -39,15 +41,10 @@ within : (c : tie.Else2) → let args = start-of (c .before .before .before) .ar
 within c = sym (c .before .rows-within .ensures) ∙ not-false _ (c .if2 .left)
 
 -- past the third test they agree
-agreeing : (c : tie.Else3) → let args = start-of (c .before .before .before .before .before .before) .args in
+agreeing : (c : tie.Else3) → let at-rows-within = c .before .before .before .before in
+    let args = start-of (at-rows-within .before .before) .args in
     agrees total rowLimit (now (args .rows)) (args .m) (args .envelope .figures .n) (args .envelope .figures .ball) (args .envelope .weights) ≡ true
 agreeing c = sym (c .before .agrees .ensures) ∙ not-false _ (c .if3 .left)
-
-figures-known-requires : tie.Need-figures-known-requires
-figures-known-requires c κs = search needs
-
-not-written-requires : tie.Need-not-written-requires
-not-written-requires c κs = search needs
 
 returns : tie.Need-returns
 returns c =
@@ -60,12 +57,6 @@ returns c =
       buffer-left (c .not-written .result) 7 (recordText channelTypes (args .envelope)) (now (args .buffer)) e,
     )
 
-rows-within-requires : tie.Need-rows-within-requires
-rows-within-requires c κs = search needs
-
-not-written-requires-2 : tie.Need-not-written-requires-2
-not-written-requires-2 c κs = search needs
-
 returns-2 : tie.Need-returns-2
 returns-2 c =
     let test = c .before .before in
@@ -77,14 +68,8 @@ returns-2 c =
       buffer-left (c .not-written2 .result) 7 (recordText channelTypes (args .envelope)) (now (args .buffer)) e,
     )
 
-slice-aggregate-agrees : tie.Need-slice-aggregate-agrees
-slice-aggregate-agrees c = search needs
-
 agrees-requires : tie.Need-agrees-requires
 agrees-requires c κs = within (c .before)
-
-not-written-requires-3 : tie.Need-not-written-requires-3
-not-written-requires-3 c κs = search needs
 
 returns-3 : tie.Need-returns-3
 returns-3 c =
@@ -103,15 +88,10 @@ returns-3 c =
 weight-places : (c : tie.Start) → length (c .args .envelope .weights) ≡ rowLimit
 weight-places c = search needs
 
-slice-aggregate-print-record : tie.Need-slice-aggregate-print-record
-slice-aggregate-print-record c = search needs
-
-slice-aggregate-print-record-2 : tie.Need-slice-aggregate-print-record-2
-slice-aggregate-print-record-2 c = search needs
-
 print-record-requires : tie.Need-print-record-requires
 print-record-requires c κs =
-    let past-figures = c .before .before .before .before .before .before .before in
+    let at-agrees = c .before .before .before in
+    let past-figures = at-agrees .before .before .before .before in
     let start = start-of (past-figures .before) in
     let count = weight-places start in (
       within-printing channelTypes (start .args .envelope .figures) (start .args .envelope .weights) (figures past-figures) count,
@@ -121,28 +101,25 @@ print-record-requires c κs =
 array-share-prefix-text : tie.Need-array-share-prefix-text
 array-share-prefix-text c =
     let at-print = c .before in
-    printed-fits channelTypes (start-of (at-print .before .before .before .before .before .before .before .before .before) .args .envelope) _ _ _
+    let at-agrees = at-print .before .before .before .before in
+    let at-rows-within = at-agrees .before .before .before in
+    printed-fits channelTypes (start-of (at-rows-within .before .before) .args .envelope) _ _ _
     (at-print .print-record .ensures)
 
 slice-aggregate-hand-out : tie.Need-slice-aggregate-hand-out
 slice-aggregate-hand-out c = sym (length-take-le _ _ (array-share-prefix-text (c .before)))
 
-hand-out-requires : tie.Need-hand-out-requires
-hand-out-requires c κs = search needs
-
-same-length : tie.Need-same-length
-same-length c = search needs
-
 returns-4 : tie.Need-returns-4
 returns-4 c =
-    let at-print = c .before .before .before .before .before .before in
+    let at-hand-out = c .before .before in
+    let at-print = at-hand-out .before .before .before .before in
     let past-agreement = at-print .before .before .before in
     let past-rows = past-agreement .before .before .before in
     let past-figures = past-rows .before .before in
     let args = start-of (past-figures .before) .args in
     let text = printed-text channelTypes (args .envelope) _ _ _ (at-print .print-record .ensures) in
-    let handed = c .before .before .hand-out .ensures in
-    let answer = c .before .before .hand-out .result in
+    let handed = at-hand-out .hand-out .ensures in
+    let answer = at-hand-out .hand-out .result in
     let places = length (now (args .buffer)) in (
       handed .0 ∙ ap (λ (l : List ℕ). textWritten l places) text
           ∙ sym (writing-agreed total rowLimit channelTypes (now (args .rows)) (args .m) (args .envelope) places
@@ -154,21 +131,21 @@ pub write-spec : {M : Type 1} → statement M
 write-spec =
     tie.close
     (tie.spec
-    figures-known-requires
-    not-written-requires
+    (λ c κs. search needs)
+    (λ c κs. search needs)
     returns
-    rows-within-requires
-    not-written-requires-2
+    (λ c κs. search needs)
+    (λ c κs. search needs)
     returns-2
-    slice-aggregate-agrees
+    (λ c. search needs)
     agrees-requires
-    not-written-requires-3
+    (λ c κs. search needs)
     returns-3
-    slice-aggregate-print-record
-    slice-aggregate-print-record-2
+    (λ c. search needs)
+    (λ c. search needs)
     print-record-requires
     array-share-prefix-text
     slice-aggregate-hand-out
-    hand-out-requires
-    same-length
+    (λ c κs. search needs)
+    (λ c. search needs)
     returns-4)

@@ -9,11 +9,5 @@ use Rattle.reference_cases.proofs.raised_number.Tie as tie
 cast-raised : tie.Need-cast-raised
 cast-raised c = fits (held {w = w32} {B = 2147483648} (c .fits .number) (fits-abs w32 (c .args .number) (c .fits .number))) tt
 
-raised-requires : tie.Need-raised-requires
-raised-requires c κs = search needs
-
-returns : tie.Need-returns
-returns c = search needs
-
 pub raised-number-spec : {M : Type 1} → statement M
-raised-number-spec = tie.close (tie.spec cast-raised raised-requires returns)
+raised-number-spec = tie.close (tie.spec cast-raised (λ c κs. search needs) (λ c. search needs))

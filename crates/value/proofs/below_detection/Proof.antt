@@ -9,18 +9,6 @@ use Rattle.value.specs.ContractLaws.{asZero, below-plain}
 use Rattle.value.proofs.below_detection.Statement.{statement}
 use Rattle.value.proofs.below_detection.Tie as tie
 
-plain-value-requires : tie.Need-plain-value-requires
-plain-value-requires c κs = search needs
-
-enum-told : tie.Need-enum-told
-enum-told c = search needs
-
-enum-told-2 : tie.Need-enum-told-2
-enum-told-2 c = search needs
-
-enum-told-3 : tie.Need-enum-told-3
-enum-told-3 c = search needs
-
 -- what is answered, whatever the plain number is
 answered : (c : tie.After-plain-value) → asZero (c .plain-value .result) ≡ belowUnder (c .before .before .args .range) (c .before .before .args .number)
 answered c =
@@ -43,4 +31,4 @@ returns-3 c = sym (ap asZero (c .enum-told3 .given .1)) ∙ answered (c .before 
 pub below-detection-spec : {M : Type 1} → statement M
 below-detection-spec =
     tie.close
-    (tie.spec plain-value-requires enum-told enum-told-2 enum-told-3 returns returns-2 returns-3)
+    (tie.spec (λ c κs. search needs) (λ c. search needs) (λ c. search needs) (λ c. search needs) returns returns-2 returns-3)

@@ -33,8 +33,9 @@ returns c =
 
 returns-2 : tie.Need-returns-2
 returns-2 c =
-    let start = c .before .before .before .before .before in
-    from-low (start .args .range) (start .args .whole) (start .fits .whole) (search needs) (search needs) (c .before .before .if1 .left)
+    let at-else1 = c .before .before in
+    let start = at-else1 .before .before .before in
+    from-low (start .args .range) (start .args .whole) (start .fits .whole) (search needs) (search needs) (at-else1 .if1 .left)
 
 pub in-range-spec : {M : Type 1} → statement M
 in-range-spec = tie.close (tie.spec returns returns-2)

@@ -33,15 +33,6 @@ module _ (n : ℕ) (small : n ≤ coordinateLimit) where
   positive-is : (negative : Bool) (whole : ℕ) → negative ≡ false → whole ≡ n → toZ w32 whole ≡ signed negative n
   positive-is negative whole t e = ap (toZ w32) e ∙ toZ-pos w32 (omega arith) ∙ sym (ap (λ b. signed b n) t)
 
-enum-told : tie.Need-enum-told
-enum-told c = search needs
-
-enum-known-number : tie.Need-enum-known-number
-enum-known-number c = search needs
-
-cast-if1 : tie.Need-cast-if1
-cast-if1 c = search needs
-
 returns : tie.Need-returns
 returns c =
     let start = c .before .before .before .before in
@@ -51,34 +42,28 @@ returns c =
     sym (ap (plainUnder range) (given .1)
     ∙ far-away range (start .pre) z (Reads z) (omega (arith, signed-abs (given .0 .0) (given .0 .1 .0))))
 
-cast-size : tie.Need-cast-size
-cast-size c = search needs
-
 sub-whole : tie.Need-sub-whole
 sub-whole c = opposite-fits (c .before .before .before .number .given .0 .1 .0) (omega arith)
 
-in-range-requires : tie.Need-in-range-requires
-in-range-requires c κs = search needs
-
-returns-2 : tie.Need-returns-2
-returns-2 c = search needs
-
 -- the number, and what is answered by the test
 module _ (c : tie.After-in-range) where
-  whole-is : toZ w32 (c .before .if2 .whole) ≡ signed (c .before .before .before .before .number .given .0 .0) (c .before .before .before .before .number .given .0 .1 .0)
+  abbrev at-number : tie.After-number
+  at-number = c .before .before .before .before
+
+  whole-is : toZ w32 (c .before .if2 .whole) ≡ signed (at-number .number .given .0 .0) (at-number .number .given .0 .1 .0)
   whole-is =
       let joined = c .before .if2 in
-      let given = c .before .before .before .before .number .given in
+      let given = at-number .number .given in
       ⊎-elim (λ w. negative-is (given .0 .1 .0) (omega arith) (given .0 .0) (joined .whole) (w .0 .taken) (w .1))
       (λ w. positive-is (given .0 .1 .0) (omega arith) (given .0 .0) (joined .whole) (w .0 .left) (w .1)) (joined .came)
 
   answered : (b : Bool) → c .in-range .result ≡ b
       → cond b (Reads (toZ w32 (c .before .if2 .whole))) OutOfRange
-      ≡ plainUnder (c .before .before .before .before .before .before .args .range) (c .before .before .before .before .before .before .args .number)
+      ≡ plainUnder (at-number .before .before .args .range) (at-number .before .before .args .number)
   answered b t =
-      let args = c .before .before .before .before .before .before .args in
+      let args = at-number .before .before .args in
       ap₂ (λ t z. cond t (Reads z) OutOfRange) (sym t ∙ c .in-range .ensures ∙ ap (inRange (args .range)) whole-is) whole-is
-      ∙ sym (ap (plainUnder (args .range)) (c .before .before .before .before .number .given .1))
+      ∙ sym (ap (plainUnder (args .range)) (at-number .number .given .1))
 
 returns-3 : tie.Need-returns-3
 returns-3 c = answered (c .before) true (c .if3 .taken)
@@ -90,13 +75,13 @@ pub plain-value-spec : {M : Type 1} → statement M
 plain-value-spec =
     tie.close
     (tie.spec
-    enum-told
-    enum-known-number
-    cast-if1
+    (λ c. search needs)
+    (λ c. search needs)
+    (λ c. search needs)
     returns
-    cast-size
+    (λ c. search needs)
     sub-whole
-    in-range-requires
-    returns-2
+    (λ c κs. search needs)
+    (λ c. search needs)
     returns-3
     returns-4)

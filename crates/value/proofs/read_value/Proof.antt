@@ -47,40 +47,18 @@ module _ (range : Range) where
 returns : tie.Need-returns
 returns c = empty-read (c .before .before .args .range) (c .before .before .args .field .now) (c .if1 .taken)
 
-shared-slice-read-if2 : tie.Need-shared-slice-read-if2
-shared-slice-read-if2 c = search needs
-
-sub-plain-number : tie.Need-sub-plain-number
-sub-plain-number c = search needs
-
-part-plain-number-start : tie.Need-part-plain-number-start
-part-plain-number-start c = search needs
-
-part-plain-number-end : tie.Need-part-plain-number-end
-part-plain-number-end c = search needs
-
-plain-number-requires : tie.Need-plain-number-requires
-plain-number-requires c κs = search needs
-
-below-detection-requires : tie.Need-below-detection-requires
-below-detection-requires c κs = search needs
-
 returns-2 : tie.Need-returns-2
 returns-2 c =
-    let start = c .before .before .before .before .before .before .before in
+    let at-then2 = c .before .before .before in
+    let start = at-then2 .before .before .before .before in
     c .below-detection .ensures
     ∙ ap (belowUnder (start .args .range)) (c .before .plain-number .ensures ∙ ap (λ l. plainRead (plain l)) (rest (start .args .field .now)))
-    ∙ below-is (start .args .range) (start .pre) (start .args .field .now) (omega arith) (c .before .before .before .if2 .taken)
-
-plain-number-requires-2 : tie.Need-plain-number-requires-2
-plain-number-requires-2 c κs = search needs
-
-plain-value-requires : tie.Need-plain-value-requires
-plain-value-requires c κs = search needs
+    ∙ below-is (start .args .range) (start .pre) (start .args .field .now) (omega arith) (at-then2 .if2 .taken)
 
 returns-3 : tie.Need-returns-3
 returns-3 c =
-    let start = c .before .before .before .before .before .before in
+    let at-else1 = c .before .before .before .before in
+    let start = at-else1 .before .before in
     c .plain-value .ensures
     ∙ ap (plainUnder (start .args .range)) (c .before .plain-number2 .ensures)
     ∙ plain-is (start .args .range) (start .pre) (start .args .field .now) (omega arith) (c .before .before .if2 .left)
@@ -90,13 +68,13 @@ read-value-spec =
     tie.close
     (tie.spec
     returns
-    shared-slice-read-if2
-    sub-plain-number
-    part-plain-number-start
-    part-plain-number-end
-    plain-number-requires
-    below-detection-requires
+    (λ c. search needs)
+    (λ c. search needs)
+    (λ c. search needs)
+    (λ c. search needs)
+    (λ c κs. search needs)
+    (λ c κs. search needs)
     returns-2
-    plain-number-requires-2
-    plain-value-requires
+    (λ c κs. search needs)
+    (λ c κs. search needs)
     returns-3)

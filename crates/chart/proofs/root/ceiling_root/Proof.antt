@@ -4,6 +4,7 @@ use Prim.Native.Nat.{ℕ, _+_, _-_, _*_, _/_, _≤_, _<_}
 use mathlib.Core.Path.{_≡_, subst}
 use native.Mathlib.Nat.{mul-le-mul}
 use native.Mathlib.Omega.{arith}
+use borrow.Author.Needs.{needs}
 use Rattle.limits.specs.Limits.{total}
 use Rattle.chart.specs.Root.{rootLimit}
 use Rattle.chart.specs.RootLaws.{root-is}
@@ -16,39 +17,21 @@ Inv-loop M low₀ high₀ low high = (low < high) × (high ≤ rootLimit total) 
 abbrev μ-loop : tie.MeasureT-loop
 μ-loop M low₀ high₀ low high = high - low
 
-loop-holds : tie.Need-loop-holds Inv-loop μ-loop
-loop-holds c = (omega arith, omega arith, omega arith, omega arith)
-
-add-loop : tie.Need-add-loop Inv-loop μ-loop
-add-loop c = omega arith
-
-add-middle : tie.Need-add-middle Inv-loop μ-loop
-add-middle c = omega arith
-
 mul-if1 : tie.Need-mul-if1 Inv-loop μ-loop
 mul-if1 c =
     let l = c .before .loop in
     let most : (l .low + l .high) / 2 ≤ rootLimit total = omega arith in
     omega (arith, mul-le-mul most most)
 
-loop-less : tie.Need-loop-less Inv-loop μ-loop
-loop-less c = omega arith
-
 loop-again : tie.Need-loop-again Inv-loop μ-loop
 loop-again c =
     let l = c .before .before .loop in
     (omega arith, l .inv .1, omega arith, l .inv .3)
 
-loop-less-2 : tie.Need-loop-less-2 Inv-loop μ-loop
-loop-less-2 c = omega arith
-
 loop-again-2 : tie.Need-loop-again-2 Inv-loop μ-loop
 loop-again-2 c =
     let l = c .before .before .loop in
     (omega arith, omega arith, l .inv .2, omega arith)
-
-add-result : tie.Need-add-result Inv-loop μ-loop
-add-result c = omega arith
 
 returns : tie.Need-returns Inv-loop μ-loop
 returns c =
@@ -63,13 +46,13 @@ ceiling-root-spec =
     (tie.spec
     Inv-loop
     μ-loop
-    loop-holds
-    add-loop
-    add-middle
+    (λ c. search needs)
+    (λ c. search needs)
+    (λ c. search needs)
     mul-if1
-    loop-less
+    (λ c. search needs)
     loop-again
-    loop-less-2
+    (λ c. search needs)
     loop-again-2
-    add-result
+    (λ c. search needs)
     returns)

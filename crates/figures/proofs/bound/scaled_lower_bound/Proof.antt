@@ -20,16 +20,10 @@ use Rattle.geometry.specs.Contracts.{Table, WeightsOf}
 use Rattle.figures.proofs.bound.scaled_lower_bound.Statement.{statement}
 use Rattle.figures.proofs.bound.scaled_lower_bound.Tie as tie
 
-cast-first : tie.Need-cast-first
-cast-first c = search needs
-
 weighted-squared-length-requires : tie.Need-weighted-squared-length-requires
 weighted-squared-length-requires c κs =
     let p = c .before .pre in
     (p .0, weights-within (le-refl total) (p .1 .0))
-
-mul-first : tie.Need-mul-first
-mul-first c = search needs
 
 squared-length-of-centre-requires : tie.Need-squared-length-of-centre-requires
 squared-length-of-centre-requires c κs =
@@ -67,9 +61,9 @@ pub scaled-lower-bound-spec : {M : Type 1} → statement M
 scaled-lower-bound-spec =
     tie.close
     (tie.spec
-    cast-first
+    (λ c. search needs)
     weighted-squared-length-requires
-    mul-first
+    (λ c. search needs)
     squared-length-of-centre-requires
     sub-result
     returns)

@@ -2,6 +2,7 @@
 -- each at most 16,000,000. The measure is what is left of the channels.
 use Prim.Native.Nat.{_-_, _*_}
 use native.Mathlib.Omega.{arith}
+use borrow.Author.Needs.{needs}
 use Rattle.integers.specs.Sum.{square}
 use Rattle.geometry.specs.Figures.{squaredLength}
 use Rattle.geometry.specs.Table.{coordinate}
@@ -18,32 +19,11 @@ Inv-loop rows n row base sum₀ k₀ sum k = Partial (coordinateLimit * coordina
 abbrev μ-loop : tie.MeasureT-loop
 μ-loop rows n row base sum₀ k₀ sum k = n - k
 
-mul-base : tie.Need-mul-base Inv-loop μ-loop
-mul-base c = omega arith
-
 loop-holds : tie.Need-loop-holds Inv-loop μ-loop
 loop-holds c = partial-none
 
-add-square-of : tie.Need-add-square-of Inv-loop μ-loop
-add-square-of c = omega arith
-
-mul-square-of : tie.Need-mul-square-of Inv-loop μ-loop
-mul-square-of c = omega arith
-
-shared-slice-copy-out-square-of : tie.Need-shared-slice-copy-out-square-of Inv-loop μ-loop
-shared-slice-copy-out-square-of c = omega arith
-
 square-of-requires : tie.Need-square-of-requires Inv-loop μ-loop
 square-of-requires c κs = passed (row-held (c .before .before .before .pre) (c .before .before .loop .k) (omega arith))
-
-add-sum : tie.Need-add-sum Inv-loop μ-loop
-add-sum c = omega arith
-
-add-k : tie.Need-add-k Inv-loop μ-loop
-add-k c = omega arith
-
-loop-less : tie.Need-loop-less Inv-loop μ-loop
-loop-less c = omega arith
 
 loop-again : tie.Need-loop-again Inv-loop μ-loop
 loop-again c =
@@ -61,14 +41,14 @@ squared-length-spec =
     (tie.spec
     Inv-loop
     μ-loop
-    mul-base
+    (λ c. search needs)
     loop-holds
-    add-square-of
-    mul-square-of
-    shared-slice-copy-out-square-of
+    (λ c. search needs)
+    (λ c. search needs)
+    (λ c. search needs)
     square-of-requires
-    add-sum
-    add-k
-    loop-less
+    (λ c. search needs)
+    (λ c. search needs)
+    (λ c. search needs)
     loop-again
     returns)

@@ -2,6 +2,7 @@
 -- coordinates passed, each at most the square of X's limit. The measure is what is left of the channels.
 use Prim.Native.Nat.{_-_, _*_}
 use native.Mathlib.Omega.{arith}
+use borrow.Author.Needs.{needs}
 use Rattle.integers.specs.Sum.{square}
 use Rattle.geometry.specs.Figures.{squaredLength}
 use Rattle.geometry.specs.Places.{centreOf}
@@ -21,23 +22,8 @@ abbrev μ-loop : tie.MeasureT-loop
 loop-holds : tie.Need-loop-holds Inv-loop μ-loop
 loop-holds c = partial-none
 
-mul-square-of-centre : tie.Need-mul-square-of-centre Inv-loop μ-loop
-mul-square-of-centre c = omega arith
-
-element-copy-out-square-of-centre : tie.Need-element-copy-out-square-of-centre Inv-loop μ-loop
-element-copy-out-square-of-centre c = omega arith
-
 square-of-centre-requires : tie.Need-square-of-centre-requires Inv-loop μ-loop
 square-of-centre-requires c κs = passed (centre-held (c .before .before .before .pre .0) (c .before .before .loop .k) (omega arith))
-
-add-sum : tie.Need-add-sum Inv-loop μ-loop
-add-sum c = omega arith
-
-add-k : tie.Need-add-k Inv-loop μ-loop
-add-k c = omega arith
-
-loop-less : tie.Need-loop-less Inv-loop μ-loop
-loop-less c = omega arith
 
 loop-again : tie.Need-loop-again Inv-loop μ-loop
 loop-again c =
@@ -56,11 +42,11 @@ squared-length-of-centre-spec =
     Inv-loop
     μ-loop
     loop-holds
-    mul-square-of-centre
-    element-copy-out-square-of-centre
+    (λ c. search needs)
+    (λ c. search needs)
     square-of-centre-requires
-    add-sum
-    add-k
-    loop-less
+    (λ c. search needs)
+    (λ c. search needs)
+    (λ c. search needs)
     loop-again
     returns)

@@ -5,6 +5,7 @@ use mathlib.Core.List.{List}
 use Prim.Native.Nat.{ℕ, _+_, _*_, _-_, _≤_, _<_}
 use native.Mathlib.Nat.{mul-le-mul-left}
 use native.Mathlib.Omega.{arith}
+use borrow.Author.Needs.{needs}
 use Rattle.integers.specs.Sum.{sumℕ}
 use Rattle.geometry.specs.Figures.{squaredLength, weightedSquaredLength}
 use Rattle.geometry.specs.Move.{weightOf}
@@ -36,37 +37,30 @@ loop-holds : tie.Need-loop-holds Inv-loop μ-loop
 unfolding sumℕ
 loop-holds c = partial-none
 
-mul-sum : tie.Need-mul-sum Inv-loop μ-loop
-mul-sum c = omega arith
-
-shared-slice-read-sum : tie.Need-shared-slice-read-sum Inv-loop μ-loop
-shared-slice-read-sum c = omega arith
-
 cast-sum : tie.Need-cast-sum Inv-loop μ-loop
 cast-sum c = omega (arith, c .shared-slice-known2 .given (c .before .before .loop .i))
 
 squared-length-requires : tie.Need-squared-length-requires Inv-loop μ-loop
 squared-length-requires c κs = table-row (c .before .before .before .before .pre .0) (c .before .before .loop .i) (omega arith)
 
+abbrev start-of : tie.After-squared-length Inv-loop μ-loop → tie.Start Inv-loop μ-loop
+start-of c =
+    let at-loop = c .before .before .before in
+    at-loop .before .before
+
 mul-sum-2 : tie.Need-mul-sum-2 Inv-loop μ-loop
 mul-sum-2 c =
     let l = c .before .before .before .loop in
-    omega (arith, sum-most (c .before .before .before .before .before .pre .1) (l .i) (omega arith) (c .squared-length .ensures))
+    omega (arith, sum-most (start-of c .pre .1) (l .i) (omega arith) (c .squared-length .ensures))
 
 add-sum : tie.Need-add-sum Inv-loop μ-loop
 add-sum c =
     let l = c .before .before .before .loop in
-    omega (arith, sum-most (c .before .before .before .before .before .pre .1) (l .i) (omega arith) (c .squared-length .ensures))
-
-add-i : tie.Need-add-i Inv-loop μ-loop
-add-i c = omega arith
-
-loop-less : tie.Need-loop-less Inv-loop μ-loop
-loop-less c = omega arith
+    omega (arith, sum-most (start-of c .pre .1) (l .i) (omega arith) (c .squared-length .ensures))
 
 loop-again : tie.Need-loop-again Inv-loop μ-loop
 loop-again c =
-    let s = c .before .before .before .before .before in
+    let s = start-of c in
     let l = c .before .before .before .loop in
     rw (sumℕ-next (weightOf (s .args .weights .now)) (l .i))
     (partial-more (weightOf (s .args .weights .now) (l .i)) (l .inv) (omega arith)
@@ -83,13 +77,13 @@ weighted-squared-length-spec =
     Inv-loop
     μ-loop
     loop-holds
-    mul-sum
-    shared-slice-read-sum
+    (λ c. search needs)
+    (λ c. search needs)
     cast-sum
     squared-length-requires
     mul-sum-2
     add-sum
-    add-i
-    loop-less
+    (λ c. search needs)
+    (λ c. search needs)
     loop-again
     returns)

@@ -6,6 +6,7 @@ use mathlib.Core.List.{List}
 use Prim.Native.Nat.{ℕ, _+_, _*_, _-_, _^_, _≤_, _<_}
 use native.Mathlib.Nat.{add-mul}
 use native.Mathlib.Omega.{arith}
+use borrow.Author.Needs.{needs}
 use lib.Dec.{T, ltb, lt→ltb}
 use lib.IntN.{ℤ, pos, natAbs, _+ℤ_, _*ℤ_}
 use lib.ListN.{getD}
@@ -76,45 +77,38 @@ abbrev μ-loop : tie.MeasureT-loop
 loop-holds : tie.Need-loop-holds Inv-loop μ-loop
 loop-holds c = passed-none (c .before .pre .0) (c .before .pre .1 .0) (c .before .pre .1 .1)
 
-mul-weighted : tie.Need-mul-weighted Inv-loop μ-loop
-mul-weighted c = omega arith
-
-shared-slice-read-weighted : tie.Need-shared-slice-read-weighted Inv-loop μ-loop
-shared-slice-read-weighted c = omega arith
-
 mul-weighted-2 : tie.Need-mul-weighted-2 Inv-loop μ-loop
 mul-weighted-2 c = omega (arith, table-row (c .before .before .before .before .pre .0) (c .before .before .loop .i) (omega arith) .places)
 
 shared-slice-copy-out-weighted : tie.Need-shared-slice-copy-out-weighted Inv-loop μ-loop
 shared-slice-copy-out-weighted c = omega (arith, table-row (c .before .before .before .before .pre .0) (c .before .before .loop .i) (omega arith) .places)
 
+abbrev start-of : tie.After-weighted-arg Inv-loop μ-loop → tie.Start Inv-loop μ-loop
+start-of c =
+    let at-loop = c .before .before .before in
+    at-loop .before .before
+
 weighted-requires : tie.Need-weighted-requires Inv-loop μ-loop
 weighted-requires c κs =
-    let s = c .before .before .before .before .before .pre in
+    let s = start-of c .pre in
     let l = c .before .before .before .loop in
     (weight-most (s .1 .0) (l .i) (omega arith), passed (element (s .0) (s .1 .0) (s .1 .1) (l .inv) (omega arith)))
 
 add-sum : tie.Need-add-sum Inv-loop μ-loop
 add-sum c =
-    let s = c .before .before .before .before .before .before .pre in
+    let s = start-of (c .before) .pre in
     let l = c .before .before .before .before .loop in
     fits (next (s .0) (s .1 .0) (s .1 .1) (l .inv) (omega arith) (c .weighted .ensures))
     (small (s .0) (s .1 .0) (s .1 .1) (l .inv) (omega arith) (c .weighted .ensures))
 
 add-at : tie.Need-add-at Inv-loop μ-loop
 add-at c =
-    let s = c .before .before .before .before .before .before .pre in
+    let s = start-of (c .before) .pre in
     omega (arith, table-row (s .0) (c .before .before .before .before .loop .i) (omega arith) .places)
-
-add-i : tie.Need-add-i Inv-loop μ-loop
-add-i c = omega arith
-
-loop-less : tie.Need-loop-less Inv-loop μ-loop
-loop-less c = omega arith
 
 loop-again : tie.Need-loop-again Inv-loop μ-loop
 loop-again c =
-    let s = c .before .before .before .before .before .before .pre in
+    let s = start-of (c .before) .pre in
     passed-more (s .0) (s .1 .0) (s .1 .1) (c .before .before .before .before .loop .inv) (omega arith) (c .weighted .ensures)
 
 returns : tie.Need-returns Inv-loop μ-loop
@@ -131,14 +125,14 @@ centre-of-channel-spec =
     Inv-loop
     μ-loop
     loop-holds
-    mul-weighted
-    shared-slice-read-weighted
+    (λ c. search needs)
+    (λ c. search needs)
     mul-weighted-2
     shared-slice-copy-out-weighted
     weighted-requires
     add-sum
     add-at
-    add-i
-    loop-less
+    (λ c. search needs)
+    (λ c. search needs)
     loop-again
     returns)

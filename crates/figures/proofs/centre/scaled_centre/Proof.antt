@@ -24,21 +24,6 @@ loop-holds : tie.Need-loop-holds Inv-loop μ-loop
 unfolding centreList tabulate
 loop-holds c = (omega arith, refl)
 
-centre-of-channel-requires : tie.Need-centre-of-channel-requires Inv-loop μ-loop
-centre-of-channel-requires c κs = search needs
-
-mul-scaled-centre : tie.Need-mul-scaled-centre Inv-loop μ-loop
-mul-scaled-centre c = omega arith
-
-array-set-from-scaled-centre : tie.Need-array-set-from-scaled-centre Inv-loop μ-loop
-array-set-from-scaled-centre c = omega arith
-
-add-k : tie.Need-add-k Inv-loop μ-loop
-add-k c = omega arith
-
-loop-less : tie.Need-loop-less Inv-loop μ-loop
-loop-less c = omega arith
-
 loop-again : tie.Need-loop-again Inv-loop μ-loop
 loop-again c =
     let s = c .before .before .before .before in
@@ -62,10 +47,10 @@ scaled-centre-spec =
     Inv-loop
     μ-loop
     loop-holds
-    centre-of-channel-requires
-    mul-scaled-centre
-    array-set-from-scaled-centre
-    add-k
-    loop-less
+    (λ c κs. search needs)
+    (λ c. search needs)
+    (λ c. search needs)
+    (λ c. search needs)
+    (λ c. search needs)
     loop-again
     returns)

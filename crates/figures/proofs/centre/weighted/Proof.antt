@@ -16,9 +16,6 @@ module _ (c : tie.Start) where
   scaled : Reads (back w64 (pos (c .args .weight)) *ℤ back w64 (back w32 (c .args .a))) (pos (c .args .weight) *ℤ c .args .a) (centreLimit total)
   scaled = product (kept (number (c .args .weight) (c .pre .0)) tt) (kept (held (c .fits .a) (c .pre .1)) tt)
 
-cast-result : tie.Need-cast-result
-cast-result c = search needs
-
 cast-result-2 : tie.Need-cast-result-2
 cast-result-2 c = fits (held (c .fits .a) (c .pre .1)) tt
 
@@ -35,4 +32,4 @@ returns c =
     }
 
 pub weighted-spec : {M : Type 1} → statement M
-weighted-spec = tie.close (tie.spec cast-result cast-result-2 mul-result returns)
+weighted-spec = tie.close (tie.spec (λ c. search needs) cast-result-2 mul-result returns)

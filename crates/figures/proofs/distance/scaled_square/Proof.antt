@@ -17,9 +17,6 @@ module _ (c : tie.Start) where
   gap : Reads (back w64 (pos total *ℤ back w64 (back w32 (c .args .a))) -ℤ back w64 (c .args .scaled-centre)) (pos total *ℤ c .args .a -ℤ c .args .scaled-centre) (2 * centreLimit total)
   gap = difference (kept scaled tt) (held (c .fits .scaled-centre) (c .pre .1))
 
-cast-d : tie.Need-cast-d
-cast-d c = search needs
-
 cast-d-2 : tie.Need-cast-d-2
 cast-d-2 c = fits (held (c .fits .a) (c .pre .0)) tt
 
@@ -40,4 +37,4 @@ returns c = square-is (kept (gap c) tt) tt
 
 pub scaled-square-spec : {M : Type 1} → statement M
 scaled-square-spec =
-    tie.close (tie.spec cast-d cast-d-2 mul-d sub-d mul-result cast-result returns)
+    tie.close (tie.spec (λ c. search needs) cast-d-2 mul-d sub-d mul-result cast-result returns)

@@ -2,6 +2,7 @@
 -- passed, each at most the square of twice the coordinates' limit. The measure is what is left of the channels.
 use Prim.Native.Nat.{_-_, _*_}
 use native.Mathlib.Omega.{arith}
+use borrow.Author.Needs.{needs}
 use lib.IntN.{_-ℤ_}
 use Rattle.integers.specs.Sum.{square}
 use Rattle.geometry.specs.Figures.{squaredLength, squaredDistance}
@@ -19,56 +20,22 @@ Inv-loop rows n i j base other count sum₀ k₀ sum k = Partial ((2 * coordinat
 abbrev μ-loop : tie.MeasureT-loop
 μ-loop rows n i j base other count sum₀ k₀ sum k = n - k
 
-mul-base : tie.Need-mul-base Inv-loop μ-loop
-mul-base c = omega arith
-
-mul-other : tie.Need-mul-other Inv-loop μ-loop
-mul-other c = omega arith
-
-channels-requires : tie.Need-channels-requires Inv-loop μ-loop
-channels-requires c κs = omega arith
-
 loop-holds : tie.Need-loop-holds Inv-loop μ-loop
 loop-holds c = partial-none
 
-add-square-of-difference : tie.Need-add-square-of-difference Inv-loop μ-loop
-add-square-of-difference c = omega arith
-
-mul-square-of-difference : tie.Need-mul-square-of-difference Inv-loop μ-loop
-mul-square-of-difference c = omega arith
-
-shared-slice-copy-out-square-of-difference : tie.Need-shared-slice-copy-out-square-of-difference Inv-loop μ-loop
-shared-slice-copy-out-square-of-difference c = omega arith
-
-add-square-of-difference-2 : tie.Need-add-square-of-difference-2 Inv-loop μ-loop
-add-square-of-difference-2 c = omega arith
-
-mul-square-of-difference-2 : tie.Need-mul-square-of-difference-2 Inv-loop μ-loop
-mul-square-of-difference-2 c = omega arith
-
-shared-slice-copy-out-square-of-difference-2 : tie.Need-shared-slice-copy-out-square-of-difference-2 Inv-loop μ-loop
-shared-slice-copy-out-square-of-difference-2 c = omega arith
-
 square-of-difference-requires : tie.Need-square-of-difference-requires Inv-loop μ-loop
 square-of-difference-requires c κs =
-    let s = c .before .before .before .before .before in
-    let k = c .before .before .before .loop .k in
+    let at-loop = c .before .before .before in
+    let s = at-loop .before .before in
+    let k = at-loop .loop .k in
     (passed (row-held (s .pre .0) k (omega arith)), passed (row-held (s .pre .1) k (omega arith)))
-
-add-sum : tie.Need-add-sum Inv-loop μ-loop
-add-sum c = omega arith
-
-add-k : tie.Need-add-k Inv-loop μ-loop
-add-k c = omega arith
-
-loop-less : tie.Need-loop-less Inv-loop μ-loop
-loop-less c = omega arith
 
 loop-again : tie.Need-loop-again Inv-loop μ-loop
 loop-again c =
-    let s = c .before .before .before .before .before .before in
-    let k = c .before .before .before .before .loop .k in
-    partial-more 1 (c .before .before .before .before .loop .inv) (omega arith)
+    let at-loop = c .before .before .before .before in
+    let s = at-loop .before .before in
+    let k = at-loop .loop .k in
+    partial-more 1 (at-loop .loop .inv) (omega arith)
     (given₂ (row-held (s .pre .0) k (omega arith)) (λ a b. square (a -ℤ b)) (row-held (s .pre .1) k (omega arith)) (c .square-of-difference .ensures))
 
 returns : tie.Need-returns Inv-loop μ-loop
@@ -81,19 +48,19 @@ squared-distance-spec =
     (tie.spec
     Inv-loop
     μ-loop
-    mul-base
-    mul-other
-    channels-requires
+    (λ c. search needs)
+    (λ c. search needs)
+    (λ c κs. search needs)
     loop-holds
-    add-square-of-difference
-    mul-square-of-difference
-    shared-slice-copy-out-square-of-difference
-    add-square-of-difference-2
-    mul-square-of-difference-2
-    shared-slice-copy-out-square-of-difference-2
+    (λ c. search needs)
+    (λ c. search needs)
+    (λ c. search needs)
+    (λ c. search needs)
+    (λ c. search needs)
+    (λ c. search needs)
     square-of-difference-requires
-    add-sum
-    add-k
-    loop-less
+    (λ c. search needs)
+    (λ c. search needs)
+    (λ c. search needs)
     loop-again
     returns)

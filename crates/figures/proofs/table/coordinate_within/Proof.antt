@@ -7,9 +7,6 @@ use Rattle.limits.specs.Limits.{coordinateLimit}
 use Rattle.figures.proofs.table.coordinate_within.Statement.{statement}
 use Rattle.figures.proofs.table.coordinate_within.Tie as tie
 
-sub-if1 : tie.Need-sub-if1
-sub-if1 c = search needs
-
 returns : tie.Need-returns
 returns c = low-test w32 (c .before .args .coordinate) (c .before .fits .coordinate) coordinateLimit (c .if1 .taken)
 
@@ -17,4 +14,4 @@ returns-2 : tie.Need-returns-2
 returns-2 c = high-test w32 (c .before .args .coordinate) (c .before .fits .coordinate) coordinateLimit (c .if1 .left)
 
 pub coordinate-within-spec : {M : Type 1} → statement M
-coordinate-within-spec = tie.close (tie.spec sub-if1 returns returns-2)
+coordinate-within-spec = tie.close (tie.spec (λ c. search needs) returns returns-2)

@@ -1,6 +1,6 @@
 -- `figures::table::coordinates_within` meets its contract. The loop's invariant: the places passed are within the limit. A place
 -- that is not decides the answer. The measure is what is left of the places.
-use borrow.Author.Needs.{sfits-of}
+use borrow.Author.Needs.{needs, sfits-of}
 use Prim.Native.Nat.{_-_}
 use native.Mathlib.Omega.{arith}
 use mir.Syntax.{w32}
@@ -18,33 +18,20 @@ abbrev μ-loop : tie.MeasureT-loop
 loop-holds : tie.Need-loop-holds Inv-loop μ-loop
 loop-holds c = places-none coordinateLimit (c .args .rows .now) (c .args .count)
 
-mul-coordinate : tie.Need-mul-coordinate Inv-loop μ-loop
-mul-coordinate c = omega arith
-
-shared-slice-copy-out-coordinate : tie.Need-shared-slice-copy-out-coordinate Inv-loop μ-loop
-shared-slice-copy-out-coordinate c = omega arith
-
-coordinate-within-requires : tie.Need-coordinate-within-requires Inv-loop μ-loop
-coordinate-within-requires c κs = tt
-
 returns : tie.Need-returns Inv-loop μ-loop
 returns c =
-    let s = c .before .before .before .before .before .args in
-    let l = c .before .before .before .before .loop in
+    let at-loop = c .before .before .before .before in
+    let s = at-loop .before .args in
+    let l = at-loop .loop in
     let t = c .before .coordinate-within in
     places-fail coordinateLimit (s .rows .now) (s .count) w32 (l .i)
     (omega arith) (sfits-of (c .before .before .coordinate .given)) (t .result) (t .ensures) (c .if1 .taken)
 
-add-i : tie.Need-add-i Inv-loop μ-loop
-add-i c = omega arith
-
-loop-less : tie.Need-loop-less Inv-loop μ-loop
-loop-less c = omega arith
-
 loop-again : tie.Need-loop-again Inv-loop μ-loop
 loop-again c =
-    let s = c .before .before .before .before .before .args in
-    let l = c .before .before .before .before .loop in
+    let at-loop = c .before .before .before .before in
+    let s = at-loop .before .args in
+    let l = at-loop .loop in
     let t = c .before .coordinate-within in
     places-next coordinateLimit (s .rows .now) (s .count) w32 (l .i)
     (omega arith) (sfits-of (c .before .before .coordinate .given)) (t .result) (t .ensures) (l .inv) (c .if1 .left)
@@ -62,11 +49,11 @@ coordinates-within-spec =
     Inv-loop
     μ-loop
     loop-holds
-    mul-coordinate
-    shared-slice-copy-out-coordinate
-    coordinate-within-requires
+    (λ c. search needs)
+    (λ c. search needs)
+    (λ c κs. search needs)
     returns
-    add-i
-    loop-less
+    (λ c. search needs)
+    (λ c. search needs)
     loop-again
     returns-2)

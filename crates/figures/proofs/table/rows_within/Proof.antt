@@ -51,16 +51,15 @@ mul-count c =
 
 returns-5 : tie.Need-returns-5
 returns-5 c =
-    let a = c .before .before .before .before .before .args in
+    let at-else4 = c .before in
+    let a = at-else4 .before .before .before .before .args in
     sym (within (a .rows .now) (a .m) (a .n) (omega arith) (omega arith) (omega arith) (omega arith)
     ∙ rw (lt-leb (a .m * a .n) (length (a .rows .now)) (omega arith)))
 
-coordinates-within-requires : tie.Need-coordinates-within-requires
-coordinates-within-requires c κs = search needs
-
 returns-6 : tie.Need-returns-6
 returns-6 c =
-    let a = c .before .before .before .before .before .before .args in
+    let at-else4 = c .before .before in
+    let a = at-else4 .before .before .before .before .args in
     sym (within (a .rows .now) (a .m) (a .n) (omega arith) (omega arith) (omega arith) (omega arith)
     ∙ rw (le-leb (a .m * a .n) (length (a .rows .now)) (omega arith)) (sym (c .coordinates-within .ensures)))
 
@@ -74,5 +73,5 @@ rows-within-spec =
     returns-4
     mul-count
     returns-5
-    coordinates-within-requires
+    (λ c κs. search needs)
     returns-6)

@@ -3,8 +3,8 @@
 use Prim.Native.Nat.{_-_}
 use mathlib.Core.Logic.{⊎-elim}
 use native.Mathlib.Nat.{le-refl}
-use native.Mathlib.Omega.{arith}
 use borrow.Author.Tests.{lt-ltb, le-ltb}
+use borrow.Author.Needs.{needs}
 use lib.Dec.{ltb}
 use Rattle.geometry.specs.SelectLaws.{FarSoFar, far-start, far-replaced, far-kept, far-done}
 use Rattle.geometry.specs.TableLaws.{table-row}
@@ -31,12 +31,6 @@ scaled-squared-distance-requires-2 c κs =
     let p = c .before .before .before .pre in
     (table-row (p .0) (c .before .loop .i) (c .loop-test .taken), p .1)
 
-add-i : tie.Need-add-i Inv-loop μ-loop
-add-i c = omega arith
-
-loop-less : tie.Need-loop-less Inv-loop μ-loop
-loop-less c = omega arith
-
 loop-again : tie.Need-loop-again Inv-loop μ-loop
 loop-again c =
     let l = c .before .before .loop-test .taken in
@@ -59,7 +53,7 @@ farthest-row-spec =
     scaled-squared-distance-requires
     loop-holds
     scaled-squared-distance-requires-2
-    add-i
-    loop-less
+    (λ c. search needs)
+    (λ c. search needs)
     loop-again
     returns)

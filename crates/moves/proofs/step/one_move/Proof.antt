@@ -20,37 +20,10 @@ set-lowers ws j k v l h = go (ℕ-discrete k j)
     go (yes e) = subst (λ i. getD (set ws j v) i 0 ≤ getD ws i 0) (sym e) (omega (arith, getD-set-same ws j v 0 l))
     go (no e) = omega (arith, getD-set-other ws j k v 0 e)
 
-mul-changed : tie.Need-mul-changed
-mul-changed c = search needs
-
-array-read-changed : tie.Need-array-read-changed
-array-read-changed c = search needs
-
-sub-changed : tie.Need-sub-changed
-sub-changed c = search needs
-
-mul-changed-2 : tie.Need-mul-changed-2
-mul-changed-2 c = search needs
-
-array-write-changed : tie.Need-array-write-changed
-array-write-changed c = search needs
-
-mul-changed-3 : tie.Need-mul-changed-3
-mul-changed-3 c = search needs
-
-array-read-changed-2 : tie.Need-array-read-changed-2
-array-read-changed-2 c = search needs
-
 add-changed : tie.Need-add-changed
 add-changed c =
     let a = c .args in
     omega (arith, set-lowers (a .weights) (a .from) (a .to) (getD (a .weights) (a .from) 0 - a .t) (omega arith) (omega arith))
-
-mul-changed-4 : tie.Need-mul-changed-4
-mul-changed-4 c = search needs
-
-array-write-changed-2 : tie.Need-array-write-changed-2
-array-write-changed-2 c = search needs
 
 returns : tie.Need-returns
 unfolding moveWeight
@@ -60,14 +33,14 @@ pub one-move-spec : {M : Type 1} → statement M
 one-move-spec =
     tie.close
     (tie.spec
-    mul-changed
-    array-read-changed
-    sub-changed
-    mul-changed-2
-    array-write-changed
-    mul-changed-3
-    array-read-changed-2
+    (λ c. search needs)
+    (λ c. search needs)
+    (λ c. search needs)
+    (λ c. search needs)
+    (λ c. search needs)
+    (λ c. search needs)
+    (λ c. search needs)
     add-changed
-    mul-changed-4
-    array-write-changed-2
+    (λ c. search needs)
+    (λ c. search needs)
     returns)

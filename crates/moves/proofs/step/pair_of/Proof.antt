@@ -87,27 +87,26 @@ nearest-row-requires c κs =
     let p = c .before .before .pre in
     (p .0, (centre (le-refl total) (p .0) (p .1 .0) (p .1 .1), p .1 .0))
 
+abbrev start-of : tie.After-struct-known2 → tie.Start
+start-of c =
+    let at-nearest-row = c .before .before in
+    at-nearest-row .before .before .before
+
 sub-gap : tie.Need-sub-gap
 sub-gap c =
-    let p = c .before .before .before .before .before .pre in
+    let p = start-of c .pre in
     near-most (le-refl total) (p .0) (p .1 .0) (p .1 .1) (c .before .before .before .farthest-row .ensures) (c .before .before .nearest-row .ensures)
-
-cast-difference : tie.Need-cast-difference
-cast-difference c = search needs
-
-div-difference : tie.Need-div-difference
-div-difference c = search needs
 
 squared-distance-requires : tie.Need-squared-distance-requires
 squared-distance-requires c κs =
-    let t = c .before .before .before .before .before .pre .0 in
+    let t = start-of c .pre .0 in
     let far = c .before .before .before .farthest-row in
     let near = c .before .before .nearest-row in
     (table-row t (far .result .row) (far .ensures .within), table-row t (near .result .row) (near .ensures .within))
 
 returns : tie.Need-returns
 returns c =
-    let p = c .before .before .before .before .before .before .pre in
+    let p = start-of (c .before) .pre in
     paired (le-refl total) (p .0) (p .1 .0) (p .1 .1) (c .before .before .before .before .farthest-row .ensures)
     (c .before .before .before .nearest-row .ensures) (c .squared-distance .ensures)
 
@@ -118,7 +117,7 @@ pair-of-spec =
     farthest-row-requires
     nearest-row-requires
     sub-gap
-    cast-difference
-    div-difference
+    (λ c. search needs)
+    (λ c. search needs)
     squared-distance-requires
     returns)

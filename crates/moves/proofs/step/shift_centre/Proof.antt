@@ -4,6 +4,7 @@ use Prim.Native.Nat.{ℕ, _-_, _≤_, _<_}
 use mathlib.Core.Path.{_≡_, refl, _∙_, ap, ap₂}
 use mathlib.Core.List.{List}
 use native.Mathlib.Omega.{arith}
+use borrow.Author.Needs.{needs}
 use lib.ListN.{set}
 use mir.Syntax.{w64}
 use mir.Facts.{toZ-ofZ}
@@ -27,67 +28,24 @@ Inv-loop rows n from to t x changed₀ from-base to-base count k₀ changed k = 
 abbrev μ-loop : tie.MeasureT-loop
 μ-loop rows n from to t x changed₀ from-base to-base count k₀ changed k = n - k
 
-mul-from-base : tie.Need-mul-from-base Inv-loop μ-loop
-mul-from-base c = omega arith
-
-mul-to-base : tie.Need-mul-to-base Inv-loop μ-loop
-mul-to-base c = omega arith
-
-channels-requires : tie.Need-channels-requires Inv-loop μ-loop
-channels-requires c κs = omega arith
-
 loop-holds : tie.Need-loop-holds Inv-loop μ-loop
 unfolding centreList tabulate
 loop-holds c = (omega arith, refl)
 
-mul-shifted : tie.Need-mul-shifted Inv-loop μ-loop
-mul-shifted c = omega arith
-
-array-copy-out-shifted : tie.Need-array-copy-out-shifted Inv-loop μ-loop
-array-copy-out-shifted c = omega arith
-
-add-shifted : tie.Need-add-shifted Inv-loop μ-loop
-add-shifted c = omega arith
-
-mul-shifted-2 : tie.Need-mul-shifted-2 Inv-loop μ-loop
-mul-shifted-2 c = omega arith
-
-shared-slice-copy-out-shifted : tie.Need-shared-slice-copy-out-shifted Inv-loop μ-loop
-shared-slice-copy-out-shifted c = omega arith
-
-add-shifted-2 : tie.Need-add-shifted-2 Inv-loop μ-loop
-add-shifted-2 c = omega arith
-
-mul-shifted-3 : tie.Need-mul-shifted-3 Inv-loop μ-loop
-mul-shifted-3 c = omega arith
-
-shared-slice-copy-out-shifted-2 : tie.Need-shared-slice-copy-out-shifted-2 Inv-loop μ-loop
-shared-slice-copy-out-shifted-2 c = omega arith
-
 shifted-requires : tie.Need-shifted-requires Inv-loop μ-loop
 shifted-requires c κs =
-    let p = c .before .before .before .before .before .before .pre in
-    let k = c .before .before .before .before .loop .k in
-    let l : k < c .before .before .before .before .before .before .args .n = omega arith in
+    let at-loop = c .before .before .before .before in
+    let p = at-loop .before .before .pre in
+    let k = at-loop .loop .k in
+    let l : k < at-loop .before .before .args .n = omega arith in
     (passed (centre-held (p .1 .1 .0) k l), (p .1 .1 .1, (passed (row-held (p .1 .0) k l), passed (row-held (p .0) k l))))
-
-mul-changed : tie.Need-mul-changed Inv-loop μ-loop
-mul-changed c = omega arith
-
-array-set-from-changed : tie.Need-array-set-from-changed Inv-loop μ-loop
-array-set-from-changed c = omega arith
-
-add-k : tie.Need-add-k Inv-loop μ-loop
-add-k c = omega arith
-
-loop-less : tie.Need-loop-less Inv-loop μ-loop
-loop-less c = omega arith
 
 loop-again : tie.Need-loop-again Inv-loop μ-loop
 loop-again c =
-    let p = c .before .before .before .before .before .before .before .pre in
-    let f = c .before .before .before .before .before .loop in
-    let a = c .before .before .before .before .before .before .before .args in
+    let in-loop = c .before .before .before .before in
+    let p = in-loop .before .before .before .pre in
+    let f = in-loop .before .loop in
+    let a = in-loop .before .before .before .args in
     let l : f .k < a .n = omega arith in
     let X = place (a .rows .now) (a .n) (a .from) (a .to) (a .t) (a .t1) in
     let e : c .shifted .result ≡ X (f .k) =
@@ -109,22 +67,22 @@ shift-centre-spec =
     (tie.spec
     Inv-loop
     μ-loop
-    mul-from-base
-    mul-to-base
-    channels-requires
+    (λ c. search needs)
+    (λ c. search needs)
+    (λ c κs. search needs)
     loop-holds
-    mul-shifted
-    array-copy-out-shifted
-    add-shifted
-    mul-shifted-2
-    shared-slice-copy-out-shifted
-    add-shifted-2
-    mul-shifted-3
-    shared-slice-copy-out-shifted-2
+    (λ c. search needs)
+    (λ c. search needs)
+    (λ c. search needs)
+    (λ c. search needs)
+    (λ c. search needs)
+    (λ c. search needs)
+    (λ c. search needs)
+    (λ c. search needs)
     shifted-requires
-    mul-changed
-    array-set-from-changed
-    add-k
-    loop-less
+    (λ c. search needs)
+    (λ c. search needs)
+    (λ c. search needs)
+    (λ c. search needs)
     loop-again
     returns)

@@ -4,14 +4,8 @@ use borrow.Author.Needs.{needs}
 use Rattle.program_io.proofs.arguments.compared.Statement.{statement}
 use Rattle.program_io.proofs.arguments.compared.Tie as tie
 
-add-t5 : tie.Need-add-t5
-add-t5 c = search needs
-
 returns : tie.Need-returns
 returns c = simp (lt-ltb _ _ (c .if1 .taken))
-
-add-t6 : tie.Need-add-t6
-add-t6 c = search needs
 
 returns-2 : tie.Need-returns-2
 returns-2 c = simp (le-ltb _ _ (c .before .if1 .left), lt-ltb _ _ (c .if2 .taken))
@@ -20,4 +14,4 @@ returns-3 : tie.Need-returns-3
 returns-3 c = simp (le-ltb _ _ (c .before .if1 .left), le-ltb _ _ (c .if2 .left))
 
 pub compared-spec : {M : Type 1} → statement M
-compared-spec = tie.close (tie.spec add-t5 returns add-t6 returns-2 returns-3)
+compared-spec = tie.close (tie.spec (λ c. search needs) returns (λ c. search needs) returns-2 returns-3)

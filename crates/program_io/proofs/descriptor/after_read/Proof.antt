@@ -22,12 +22,6 @@ read-test c t e = ap (λ z. ltZ z (pos 0)) (sym (toZ-ofZ (c .fits .got))) ∙ e
 natural : (c : tie.Start) → ltZ (back w64 (c .args .got)) (pos 0) ≡ false → back w64 (c .args .got) ≡ pos (natAbs (c .args .got))
 natural c e = toZ-ofZ (c .fits .got) ∙ abs-nonneg (c .args .got) (read-test c false e)
 
-read-of-requires : tie.Need-read-of-requires
-read-of-requires c κs = search needs
-
-read-of-requires-2 : tie.Need-read-of-requires-2
-read-of-requires-2 c κs = search needs
-
 returns : tie.Need-returns
 returns c =
     let start = c .before .before in
@@ -44,9 +38,6 @@ cast-t6 c =
     let start = c .before .before in
     number-cast w64 (natAbs (start .args .got)) (natural start (c .before .if1 .left)) (omega arith)
 
-add-t7 : tie.Need-add-t7
-add-t7 c = search needs
-
 returns-3 : tie.Need-returns-3
 returns-3 c =
     let start = c .before .before in
@@ -55,4 +46,4 @@ returns-3 c =
     ∙ after-more (start .args .got) (start .args .at) not-below (λ e. c .if2 .left (ap (ofZ w64) e))
 
 pub after-read-spec : {M : Type 1} → statement M
-after-read-spec = tie.close (tie.spec read-of-requires returns read-of-requires-2 returns-2 cast-t6 add-t7 returns-3)
+after-read-spec = tie.close (tie.spec (λ c κs. search needs) returns (λ c κs. search needs) returns-2 cast-t6 (λ c. search needs) returns-3)

@@ -1,6 +1,6 @@
 -- The loop's invariant: the index is within the slice, which keeps its length. The measure is what is left of the slice.
 use Prim.Native.Nat.{ℕ, _-_, _≤_, _<_}
-use mathlib.Core.Path.{_≡_, refl, sym, ap, _∙_}
+use mathlib.Core.Path.{_≡_, sym, ap, _∙_}
 use native.Mathlib.Omega.{arith}
 use borrow.Author.Needs.{needs}
 use lib.IntN.{natAbs}
@@ -32,40 +32,20 @@ answered c =
     c .after-read .ensures ∙ ap (λ z. afterRead z (at-read .before .before .before .loop .at)) (given at-read)
 
 -- a read that goes on is within the slice
-more : (c : tie.After-after-read Inv-loop μ-loop) (next : ℕ) → c .after-read .result ≡ More next
-    → let at-loop = c .before .before .before .before .before .before in
+more : (c : tie.After-after-read Inv-loop μ-loop) (next : ℕ) → let at-read = c .before .before .before in
+    c .after-read .result ≡ More next
+    → let at-loop = at-read .before .before .before in
     (at-loop .loop .at < next) × (next ≤ length (at-loop .loop .text))
 more c next e =
     let at-read = c .before .before .before in
     let within = more-within _ (at-read .read .result) (at-read .before .before .before .loop .at) next (at-read .read .ensures) (sym (answered c) ∙ e) in
     (within .0, omega arith)
 
-loop-holds : tie.Need-loop-holds Inv-loop μ-loop
-loop-holds c = (omega arith, refl)
-
-sub-read : tie.Need-sub-read Inv-loop μ-loop
-sub-read c = omega arith
-
-part-read-start : tie.Need-part-read-start Inv-loop μ-loop
-part-read-start c = omega arith
-
-part-read-end : tie.Need-part-read-end Inv-loop μ-loop
-part-read-end c = omega arith
-
-read-requires : tie.Need-read-requires Inv-loop μ-loop
-read-requires c κs = tt
-
 after-read-requires : tie.Need-after-read-requires Inv-loop μ-loop
 after-read-requires c κs =
     let at-read = c .before .before in
     let within : natAbs (at-read .read .result) ≤ _ = moved-abs _ (at-read .read .result) (omega arith) (at-read .read .ensures) in
     omega (arith, ap natAbs (given at-read), within)
-
-enum-known-answer : tie.Need-enum-known-answer Inv-loop μ-loop
-enum-known-answer c = search needs
-
-same-length : tie.Need-same-length Inv-loop μ-loop
-same-length c = search needs
 
 returns : tie.Need-returns Inv-loop μ-loop
 returns c =
@@ -74,9 +54,6 @@ returns c =
     let at = at-read .before .before .before .loop .at in
     done-read (at-read .read .result) at (c .before .answer .given .0 .0) _ (omega arith) (sym (answered after) ∙ c .before .answer .given .1)
 
-enum-known-next : tie.Need-enum-known-next Inv-loop μ-loop
-enum-known-next c = search needs
-
 loop-less : tie.Need-loop-less Inv-loop μ-loop
 loop-less c = let further = more (c .before .before .before) _ (c .before .next .given .1) in omega arith
 
@@ -84,12 +61,6 @@ loop-again : tie.Need-loop-again Inv-loop μ-loop
 loop-again c =
     let further = more (c .before .before .before) _ (c .before .next .given .1) in
     (omega arith, omega arith)
-
-read-of-requires : tie.Need-read-of-requires Inv-loop μ-loop
-read-of-requires c κs = tt
-
-same-length-2 : tie.Need-same-length-2 Inv-loop μ-loop
-same-length-2 c = search needs
 
 returns-2 : tie.Need-returns-2 Inv-loop μ-loop
 returns-2 c = read-whole (omega arith) (c .read-of .ensures)
@@ -100,18 +71,18 @@ read-descriptor-spec =
     (tie.spec
     Inv-loop
     μ-loop
-    loop-holds
-    sub-read
-    part-read-start
-    part-read-end
-    read-requires
+    (λ c. search needs)
+    (λ c. search needs)
+    (λ c. search needs)
+    (λ c. search needs)
+    (λ c κs. search needs)
     after-read-requires
-    enum-known-answer
-    same-length
+    (λ c. search needs)
+    (λ c. search needs)
     returns
-    enum-known-next
+    (λ c. search needs)
     loop-less
     loop-again
-    read-of-requires
-    same-length-2
+    (λ c κs. search needs)
+    (λ c. search needs)
     returns-2)

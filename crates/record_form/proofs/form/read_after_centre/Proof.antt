@@ -18,13 +18,19 @@ use Rattle.record_form.proofs.form.read_after_centre.Tie as tie
 -- ---- past the `R` line
 
 abbrev text : tie.Else2 → List ℕ
-text c = c .before .before .before .before .before .before .before .args .text .now
+text c =
+    let at-else1 = c .before .before .before .before in
+    at-else1 .before .before .before .args .text .now
 
 abbrev at : tie.Else2 → ℕ
-at c = c .before .before .before .before .before .before .before .args .at
+at c =
+    let at-else1 = c .before .before .before .before in
+    at-else1 .before .before .before .args .at
 
 abbrev end : tie.Else2 → ℕ
-end c = c .before .before .before .before .before .line-end .result
+end c =
+    let at-read-result = c .before .before in
+    at-read-result .before .before .before .line-end .result
 
 result : (c : tie.Else2) → (s : Result) × (resultLine (partAt (text c) (at c) (end c)) ≡ some s)
 result c =
@@ -36,12 +42,6 @@ at-weights c codes X =
     let here = at-result codes X _ _ (at-line .before .before .before .pre) in
     record { is = line-read here (at-line .before .line-end .ensures) (at-line .if1 .left) (result c .1) }
 
-line-end-requires : tie.Need-line-end-requires
-line-end-requires c κs = search needs
-
-faulty-requires : tie.Need-faulty-requires
-faulty-requires c κs = search needs
-
 returns : tie.Need-returns
 returns c =
     let after-end = c .before .before in
@@ -50,21 +50,6 @@ returns c =
           let here = at-result codes X _ _ (after-end .before .before .pre) in
           c .faulty .ensures ∙ ap statedForm (sym (line-unended here (after-end .line-end .ensures) (c .before .if1 .taken)));
     }
-
-sub-read-result : tie.Need-sub-read-result
-sub-read-result c = search needs
-
-part-read-result-start : tie.Need-part-read-result-start
-part-read-result-start c = search needs
-
-part-read-result-end : tie.Need-part-read-result-end
-part-read-result-end c = search needs
-
-read-result-requires : tie.Need-read-result-requires
-read-result-requires c κs = search needs
-
-faulty-requires-2 : tie.Need-faulty-requires-2
-faulty-requires-2 c κs = search needs
 
 returns-2 : tie.Need-returns-2
 returns-2 c =
@@ -76,18 +61,6 @@ returns-2 c =
           let here = at-result codes X _ _ (at-line .before .before .before .pre) in
           c .faulty2 .ensures ∙ ap statedForm (sym (line-read here (at-line .before .line-end .ensures) (at-line .if1 .left) none));
     }
-
-add-read-weights : tie.Need-add-read-weights
-add-read-weights c = search needs
-
-slice-aggregate-read-weights : tie.Need-slice-aggregate-read-weights
-slice-aggregate-read-weights c = search needs
-
-read-weights-requires : tie.Need-read-weights-requires
-read-weights-requires c κs = search needs
-
-faulty-requires-3 : tie.Need-faulty-requires-3
-faulty-requires-3 c κs = search needs
 
 returns-3 : tie.Need-returns-3
 returns-3 c =
@@ -112,18 +85,18 @@ pub read-after-centre-spec : {M : Type 1} → statement M
 read-after-centre-spec =
     tie.close
     (tie.spec
-    line-end-requires
-    faulty-requires
+    (λ c κs. search needs)
+    (λ c κs. search needs)
     returns
-    sub-read-result
-    part-read-result-start
-    part-read-result-end
-    read-result-requires
-    faulty-requires-2
+    (λ c. search needs)
+    (λ c. search needs)
+    (λ c. search needs)
+    (λ c κs. search needs)
+    (λ c κs. search needs)
     returns-2
-    add-read-weights
-    slice-aggregate-read-weights
-    read-weights-requires
-    faulty-requires-3
+    (λ c. search needs)
+    (λ c. search needs)
+    (λ c κs. search needs)
+    (λ c κs. search needs)
     returns-3
     returns-4)

@@ -18,10 +18,14 @@ use Rattle.record_form.proofs.form.read_form.Tie as tie
 -- ---- past the heading
 
 abbrev text : tie.Else2 → List ℕ
-text c = c .before .before .before .before .before .before .before .args .text .now
+text c =
+    let at-else1 = c .before .before .before .before in
+    at-else1 .before .before .before .args .text .now
 
 abbrev heading-end : tie.Else2 → ℕ
-heading-end c = c .before .before .before .before .before .line-end .result
+heading-end c =
+    let at-read-heading = c .before in
+    at-read-heading .before .before .before .before .line-end .result
 
 abbrev codes : tie.Else2 → List ℕ
 codes c = codesIn (c .before .read-heading .result)
@@ -34,12 +38,6 @@ at-centre c =
     let at-line = c .before .before .before .before in
     past-heading channelTypes (text c) (at-line .before .line-end .ensures) (at-line .if1 .left) (head c)
 
-line-end-requires : tie.Need-line-end-requires
-line-end-requires c κs = search needs
-
-faulty-requires : tie.Need-faulty-requires
-faulty-requires c κs = search needs
-
 returns : tie.Need-returns
 returns c =
     c .faulty .ensures
@@ -47,15 +45,6 @@ returns c =
 
 slice-aggregate-read-heading : tie.Need-slice-aggregate-read-heading
 slice-aggregate-read-heading c = sym (length-take-le _ _ (c .before .before .line-end .ensures .high))
-
-slice-aggregate-read-heading-2 : tie.Need-slice-aggregate-read-heading-2
-slice-aggregate-read-heading-2 c = search needs
-
-read-heading-requires : tie.Need-read-heading-requires
-read-heading-requires c κs = search needs
-
-faulty-requires-2 : tie.Need-faulty-requires-2
-faulty-requires-2 c κs = search needs
 
 returns-2 : tie.Need-returns-2
 returns-2 c =
@@ -65,37 +54,13 @@ returns-2 c =
     ∙ ap statedForm (sym (heading-read channelTypes _ (after-end .line-end .ensures) (after-heading .before .before .before .if1 .left)
     (not-headed recordWord channelTypes _ _ (after-heading .read-heading .ensures) (c .before .if2 .taken))))
 
-add-centre-at : tie.Need-add-centre-at
-add-centre-at c = search needs
-
-line-end-requires-2 : tie.Need-line-end-requires-2
-line-end-requires-2 c κs = search needs
-
-faulty-requires-3 : tie.Need-faulty-requires-3
-faulty-requires-3 c κs = search needs
-
 returns-3 : tie.Need-returns-3
 returns-3 c =
     c .faulty3 .ensures
     ∙ ap statedForm (sym (line-unended (at-centre (c .before .before .before)) (c .before .before .line-end2 .ensures) (c .before .if3 .taken)))
 
-sub-read-centre : tie.Need-sub-read-centre
-sub-read-centre c = search needs
-
-part-read-centre-start : tie.Need-part-read-centre-start
-part-read-centre-start c = search needs
-
-part-read-centre-end : tie.Need-part-read-centre-end
-part-read-centre-end c = search needs
-
-slice-aggregate-read-centre : tie.Need-slice-aggregate-read-centre
-slice-aggregate-read-centre c = search needs
-
 read-centre-requires : tie.Need-read-centre-requires
 read-centre-requires c κs = head (c .before .before .before .before) .channels
-
-faulty-requires-4 : tie.Need-faulty-requires-4
-faulty-requires-4 c κs = search needs
 
 returns-4 : tie.Need-returns-4
 returns-4 c =
@@ -104,12 +69,6 @@ returns-4 c =
     c .faulty4 .ensures
     ∙ ap statedForm (sym (line-read (at-centre (at-line .before .before)) (at-line .before .line-end2 .ensures) (at-line .if3 .left)
     (not-found _ (sym (after-centre .read-centre .ensures .is) ∙ not-true _ (c .before .if4 .taken)))))
-
-add-read-after-centre : tie.Need-add-read-after-centre
-add-read-after-centre c = search needs
-
-read-after-centre-requires : tie.Need-read-after-centre-requires
-read-after-centre-requires c κs = search needs
 
 returns-5 : tie.Need-returns-5
 returns-5 c =
@@ -125,25 +84,25 @@ pub read-form-spec : {M : Type 1} → statement M
 read-form-spec =
     tie.close
     (tie.spec
-    line-end-requires
-    faulty-requires
+    (λ c κs. search needs)
+    (λ c κs. search needs)
     returns
     slice-aggregate-read-heading
-    slice-aggregate-read-heading-2
-    read-heading-requires
-    faulty-requires-2
+    (λ c. search needs)
+    (λ c κs. search needs)
+    (λ c κs. search needs)
     returns-2
-    add-centre-at
-    line-end-requires-2
-    faulty-requires-3
+    (λ c. search needs)
+    (λ c κs. search needs)
+    (λ c κs. search needs)
     returns-3
-    sub-read-centre
-    part-read-centre-start
-    part-read-centre-end
-    slice-aggregate-read-centre
+    (λ c. search needs)
+    (λ c. search needs)
+    (λ c. search needs)
+    (λ c. search needs)
     read-centre-requires
-    faulty-requires-4
+    (λ c κs. search needs)
     returns-4
-    add-read-after-centre
-    read-after-centre-requires
+    (λ c. search needs)
+    (λ c κs. search needs)
     returns-5)

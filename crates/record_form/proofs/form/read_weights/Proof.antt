@@ -2,6 +2,7 @@
 -- left of the text falls. Each return is a law of the walk.
 use Prim.Native.Nat.{_-_}
 use native.Mathlib.Omega.{arith}
+use borrow.Author.Needs.{needs}
 use lib.ListN.{length}
 use Rattle.record_form.proofs.WalkSteps.{WeightsSoFar, weights-none, weights-missing, weights-done, weights-unended, weights-other, weights-next}
 use Rattle.record_form.proofs.form.read_weights.Statement.{statement}
@@ -16,30 +17,9 @@ abbrev μ-loop : tie.MeasureT-loop
 loop-holds : tie.Need-loop-holds Inv-loop μ-loop
 loop-holds c = weights-none _ _ _ (c .before .before .pre .0)
 
-line-end-requires : tie.Need-line-end-requires Inv-loop μ-loop
-line-end-requires c κs = omega arith
-
-same-length : tie.Need-same-length Inv-loop μ-loop
-same-length c = omega arith
-
 returns : tie.Need-returns Inv-loop μ-loop
 returns c =
     weights-unended (c .before .before .before .loop .inv) (c .before .before .loop-test .taken) (c .before .line-end .ensures) (c .if1 .taken)
-
-sub-read-weight : tie.Need-sub-read-weight Inv-loop μ-loop
-sub-read-weight c = omega arith
-
-part-read-weight-start : tie.Need-part-read-weight-start Inv-loop μ-loop
-part-read-weight-start c = omega arith
-
-part-read-weight-end : tie.Need-part-read-weight-end Inv-loop μ-loop
-part-read-weight-end c = omega arith
-
-read-weight-requires : tie.Need-read-weight-requires Inv-loop μ-loop
-read-weight-requires c κs = omega arith
-
-same-length-2 : tie.Need-same-length-2 Inv-loop μ-loop
-same-length-2 c = omega arith
 
 returns-2 : tie.Need-returns-2 Inv-loop μ-loop
 returns-2 c =
@@ -54,32 +34,14 @@ loop-again c =
     weights-next (after-end .before .before .loop .inv) (after-end .line-end .ensures) (c .before .before .before .if1 .left)
     (c .before .read-weight .ensures) (c .if2 .left)
 
-sub-weights : tie.Need-sub-weights Inv-loop μ-loop
-sub-weights c = omega arith
-
 mul-weights : tie.Need-mul-weights Inv-loop μ-loop
 mul-weights c = omega (arith, loop-again c .most)
 
 slice-write-weights : tie.Need-slice-write-weights Inv-loop μ-loop
 slice-write-weights c = omega (arith, loop-again c .most)
 
-add-from : tie.Need-add-from Inv-loop μ-loop
-add-from c = omega arith
-
-add-line : tie.Need-add-line Inv-loop μ-loop
-add-line c = omega arith
-
-loop-less : tie.Need-loop-less Inv-loop μ-loop
-loop-less c = omega arith
-
-same-length-3 : tie.Need-same-length-3 Inv-loop μ-loop
-same-length-3 c = omega arith
-
 returns-3 : tie.Need-returns-3 Inv-loop μ-loop
 returns-3 c = weights-missing (c .before .before .loop .inv) (c .before .loop-test .left) (c .if3 .taken)
-
-same-length-4 : tie.Need-same-length-4 Inv-loop μ-loop
-same-length-4 c = omega arith
 
 returns-4 : tie.Need-returns-4 Inv-loop μ-loop
 returns-4 c = weights-done (c .before .before .loop .inv) (c .before .loop-test .left) (c .if3 .left)
@@ -91,23 +53,23 @@ read-weights-spec =
     Inv-loop
     μ-loop
     loop-holds
-    line-end-requires
-    same-length
+    (λ c κs. search needs)
+    (λ c. search needs)
     returns
-    sub-read-weight
-    part-read-weight-start
-    part-read-weight-end
-    read-weight-requires
-    same-length-2
+    (λ c. search needs)
+    (λ c. search needs)
+    (λ c. search needs)
+    (λ c κs. search needs)
+    (λ c. search needs)
     returns-2
-    sub-weights
+    (λ c. search needs)
     mul-weights
     slice-write-weights
-    add-from
-    add-line
-    loop-less
+    (λ c. search needs)
+    (λ c. search needs)
+    (λ c. search needs)
     loop-again
-    same-length-3
+    (λ c. search needs)
     returns-3
-    same-length-4
+    (λ c. search needs)
     returns-4)

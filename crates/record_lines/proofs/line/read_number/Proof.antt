@@ -17,15 +17,6 @@ use Rattle.record_lines.proofs.LineSteps.{numberOf, number-read}
 use Rattle.record_lines.proofs.line.read_number.Statement.{statement}
 use Rattle.record_lines.proofs.line.read_number.Tie as tie
 
-plain-number-requires : tie.Need-plain-number-requires
-plain-number-requires c κs = search needs
-
-enum-told : tie.Need-enum-told
-enum-told c = search needs
-
-enum-known-number : tie.Need-enum-known-number
-enum-known-number c = search needs
-
 told : (c : tie.After-plain-number) → numberOf (c .plain-number .result) ≡ numberRead (recordNumber (now (c .before .before .args .field)))
 told c = ap numberOf (c .plain-number .ensures) ∙ number-read (now (c .before .before .args .field))
 
@@ -35,9 +26,6 @@ returns c =
     let magnitude = given .0 .1 .0 in
     sym (ap (λ t. cond t (Held (heldSigned (given .0 .0) magnitude)) Malformed) (le-ltb magnitude magnitudeLimit (omega arith)))
     ∙ ap numberOf (sym (given .1)) ∙ told (c .before .before .before .before)
-
-held-requires : tie.Need-held-requires
-held-requires c κs = search needs
 
 returns-2 : tie.Need-returns-2
 returns-2 c = ap numberOf (sym (c .enum-told .given .1)) ∙ told (c .before .before)
@@ -55,10 +43,10 @@ pub read-number-spec : {M : Type 1} → statement M
 read-number-spec =
     tie.close
     (tie.spec
-    plain-number-requires
-    enum-told
-    enum-known-number
+    (λ c κs. search needs)
+    (λ c. search needs)
+    (λ c. search needs)
     returns
-    held-requires
+    (λ c κs. search needs)
     returns-2
     returns-3)

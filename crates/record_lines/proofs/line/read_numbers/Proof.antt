@@ -21,52 +21,19 @@ Inv-loop line word count numbers₀ word-end from₀ i₀ numbers from i = Numbe
 abbrev μ-loop : tie.MeasureT-loop
 μ-loop line word count numbers₀ word-end from₀ i₀ numbers from i = count - i
 
-field-end-requires : tie.Need-field-end-requires Inv-loop μ-loop
-field-end-requires c κs = search needs
-
 slice-aggregate-same-bytes : tie.Need-slice-aggregate-same-bytes Inv-loop μ-loop
 slice-aggregate-same-bytes c = sym (length-take-le _ _ (c .before .field-end .ensures .high))
-
-same-bytes-requires : tie.Need-same-bytes-requires Inv-loop μ-loop
-same-bytes-requires c κs = search needs
 
 returns : tie.Need-returns Inv-loop μ-loop
 returns c =
     numbers-other (c .before .before .before .field-end .ensures) (sym (c .before .same-bytes .ensures) ∙ not-true _ (c .if1 .taken))
 
-add-from : tie.Need-add-from Inv-loop μ-loop
-add-from c = search needs
-
 loop-holds : tie.Need-loop-holds Inv-loop μ-loop
 loop-holds c =
     numbers-none (c .before .before .before .field-end .ensures) (sym (c .before .same-bytes .ensures) ∙ not-false _ (c .if1 .left))
 
-same-length : tie.Need-same-length Inv-loop μ-loop
-same-length c = c .before .before .loop .inv .same-length
-
 returns-2 : tie.Need-returns-2 Inv-loop μ-loop
 returns-2 c = numbers-few (c .before .before .loop .inv) (c .before .loop-test .taken) (c .if2 .taken)
-
-field-end-requires-2 : tie.Need-field-end-requires-2 Inv-loop μ-loop
-field-end-requires-2 c κs = search needs
-
-sub-read-number : tie.Need-sub-read-number Inv-loop μ-loop
-sub-read-number c = omega arith
-
-part-read-number-start : tie.Need-part-read-number-start Inv-loop μ-loop
-part-read-number-start c = omega arith
-
-part-read-number-end : tie.Need-part-read-number-end Inv-loop μ-loop
-part-read-number-end c = omega arith
-
-read-number-requires : tie.Need-read-number-requires Inv-loop μ-loop
-read-number-requires c κs = search needs
-
-enum-told : tie.Need-enum-told Inv-loop μ-loop
-enum-told c = search needs
-
-same-length-2 : tie.Need-same-length-2 Inv-loop μ-loop
-same-length-2 c = search needs
 
 returns-3 : tie.Need-returns-3 Inv-loop μ-loop
 returns-3 c =
@@ -75,24 +42,6 @@ returns-3 c =
     let at-test = at-end .before in
     numbers-stop (at-test .before .before .loop .inv) (at-test .before .loop-test .taken) (at-test .if2 .left) (at-end .field-end2 .ensures)
     (number-none _ (sym (c .enum-told .given .1) ∙ at-number .read-number .ensures))
-
-enum-known-number : tie.Need-enum-known-number Inv-loop μ-loop
-enum-known-number c = search needs
-
-mul-whole : tie.Need-mul-whole Inv-loop μ-loop
-mul-whole c = omega arith
-
-slice-set-from-whole : tie.Need-slice-set-from-whole Inv-loop μ-loop
-slice-set-from-whole c = omega arith
-
-add-from-2 : tie.Need-add-from-2 Inv-loop μ-loop
-add-from-2 c = omega arith
-
-add-i : tie.Need-add-i Inv-loop μ-loop
-add-i c = omega arith
-
-loop-less : tie.Need-loop-less Inv-loop μ-loop
-loop-less c = omega arith
 
 loop-again : tie.Need-loop-again Inv-loop μ-loop
 loop-again c =
@@ -103,9 +52,6 @@ loop-again c =
     numbers-next (at-test .before .before .loop .inv) (at-test .before .loop-test .taken) (at-test .if2 .left) (at-end .field-end2 .ensures)
     (told .1) (ap (back w64) (told .2) ∙ toZ-ofZ (held-fits (told .0))) (omega arith) refl
 
-same-length-3 : tie.Need-same-length-3 Inv-loop μ-loop
-same-length-3 c = search needs
-
 returns-4 : tie.Need-returns-4 Inv-loop μ-loop
 returns-4 c = numbers-done (c .before .loop .inv) (c .loop-test .left)
 
@@ -115,28 +61,28 @@ read-numbers-spec =
     (tie.spec
     Inv-loop
     μ-loop
-    field-end-requires
+    (λ c κs. search needs)
     slice-aggregate-same-bytes
-    same-bytes-requires
+    (λ c κs. search needs)
     returns
-    add-from
+    (λ c. search needs)
     loop-holds
-    same-length
+    (λ c. search needs)
     returns-2
-    field-end-requires-2
-    sub-read-number
-    part-read-number-start
-    part-read-number-end
-    read-number-requires
-    enum-told
-    same-length-2
+    (λ c κs. search needs)
+    (λ c. search needs)
+    (λ c. search needs)
+    (λ c. search needs)
+    (λ c κs. search needs)
+    (λ c. search needs)
+    (λ c. search needs)
     returns-3
-    enum-known-number
-    mul-whole
-    slice-set-from-whole
-    add-from-2
-    add-i
-    loop-less
+    (λ c. search needs)
+    (λ c. search needs)
+    (λ c. search needs)
+    (λ c. search needs)
+    (λ c. search needs)
+    (λ c. search needs)
     loop-again
-    same-length-3
+    (λ c. search needs)
     returns-4)

@@ -22,25 +22,10 @@ use Rattle.record_lines.proofs.ResultSteps.{ending-settled, ending-budg
 use Rattle.record_lines.proofs.line.read_result.Statement.{statement}
 use Rattle.record_lines.proofs.line.read_result.Tie as tie
 
-slice-aggregate-read-numbers : tie.Need-slice-aggregate-read-numbers
-slice-aggregate-read-numbers c = search needs
-
-slice-aggregate-read-numbers-2 : tie.Need-slice-aggregate-read-numbers-2
-slice-aggregate-read-numbers-2 c = search needs
-
-read-numbers-requires : tie.Need-read-numbers-requires
-read-numbers-requires c κs = search needs
-
-no-result-requires : tie.Need-no-result-requires
-no-result-requires c κs = search needs
-
 returns : tie.Need-returns
 returns c =
     let at-numbers = c .before .before .before in
     c .no-result .ensures ∙ sym (ap resultRead (result-no-numbers (at-numbers .read-numbers .ensures) (c .before .if1 .taken)))
-
-no-result-requires-2 : tie.Need-no-result-requires-2
-no-result-requires-2 c κs = search needs
 
 returns-2 : tie.Need-returns-2
 returns-2 c =
@@ -48,39 +33,6 @@ returns-2 c =
     let at-numbers = at-some .before .before in
     c .no-result2 .ensures
     ∙ sym (ap resultRead (result-short (at-numbers .read-numbers .ensures) (at-some .if1 .left) (c .before .if2 .taken)))
-
-sub-same-bytes : tie.Need-sub-same-bytes
-sub-same-bytes c = search needs
-
-part-same-bytes-start : tie.Need-part-same-bytes-start
-part-same-bytes-start c = search needs
-
-part-same-bytes-end : tie.Need-part-same-bytes-end
-part-same-bytes-end c = search needs
-
-slice-aggregate-same-bytes : tie.Need-slice-aggregate-same-bytes
-slice-aggregate-same-bytes c = search needs
-
-same-bytes-requires : tie.Need-same-bytes-requires
-same-bytes-requires c κs = search needs
-
-sub-same-bytes-2 : tie.Need-sub-same-bytes-2
-sub-same-bytes-2 c = search needs
-
-part-same-bytes-start-2 : tie.Need-part-same-bytes-start-2
-part-same-bytes-start-2 c = search needs
-
-part-same-bytes-end-2 : tie.Need-part-same-bytes-end-2
-part-same-bytes-end-2 c = search needs
-
-slice-aggregate-same-bytes-2 : tie.Need-slice-aggregate-same-bytes-2
-slice-aggregate-same-bytes-2 c = search needs
-
-same-bytes-requires-2 : tie.Need-same-bytes-requires-2
-same-bytes-requires-2 c κs = search needs
-
-no-result-requires-3 : tie.Need-no-result-requires-3
-no-result-requires-3 c κs = search needs
 
 -- what stands after the numbers, compared with a letter
 compared : (c : tie.After-read-numbers) (letter : List ℕ) {r : Bool}
@@ -102,42 +54,28 @@ returns-3 c =
     (compared at-numbers settledLetter (at-other .before .same-bytes .ensures) ∙ not-true _ (at-other .if3 .taken))
     (compared at-numbers budgetLetter (at-budget .same-bytes2 .ensures) ∙ not-true _ (c .before .if4 .taken))))
 
-array-copy-out-moves : tie.Need-array-copy-out-moves
-array-copy-out-moves c = search needs
-
-no-result-requires-4 : tie.Need-no-result-requires-4
-no-result-requires-4 c κs = search needs
-
 returns-4 : tie.Need-returns-4
 returns-4 c =
-    let at-some = c .before .before .before .before .before .before .before .before in
+    let at-same-bytes = c .before .before .before .before in
+    let at-some = at-same-bytes .before .before .before .before in
     let at-numbers = at-some .before .before in
     c .no-result4 .ensures
     ∙ sym (ap resultRead (result-below (at-numbers .read-numbers .ensures) (at-some .if1 .left) (c .before .if5 .taken)))
 
-cast-if6 : tie.Need-cast-if6
-cast-if6 c = search needs
-
-no-result-requires-5 : tie.Need-no-result-requires-5
-no-result-requires-5 c κs = search needs
-
 returns-5 : tie.Need-returns-5
 returns-5 c =
-    let at-some = c .before .before .before .before .before .before .before .before .before in
+    let at-else5 = c .before .before in
+    let at-same-bytes = at-else5 .before .before .before in
+    let at-some = at-same-bytes .before .before .before .before in
     let at-numbers = at-some .before .before in
     c .no-result5 .ensures
     ∙ sym (ap resultRead (result-above (at-numbers .read-numbers .ensures) (at-some .if1 .left) (c .before .if6 .taken)))
 
-array-copy-out-t30 : tie.Need-array-copy-out-t30
-array-copy-out-t30 c = search needs
-
-array-copy-out-t35 : tie.Need-array-copy-out-t35
-array-copy-out-t35 c = search needs
-
 -- what the line states, past every test
 told : (c : tie.Else6)
     → let at-same = c .before .before .before .before in
-    let at-numbers = at-same .before .before .before .before .before .before in
+    let at-else1 = at-same .before .before .before .before in
+    let at-numbers = at-else1 .before .before in
     let lent = at-numbers .read-numbers .last .1 .1 .1 .0 in
     ResultHeld (resultLine (now (at-numbers .before .before .before .before .args .line))) (back w64 (getD lent 0 (pos 0)))
     (back w64 (getD lent 1 (pos 0))) (back w64 (getD lent 2 (pos 0))) (at-same .same-bytes .result)
@@ -166,32 +104,32 @@ pub read-result-spec : {M : Type 1} → statement M
 read-result-spec =
     tie.close
     (tie.spec
-    slice-aggregate-read-numbers
-    slice-aggregate-read-numbers-2
-    read-numbers-requires
-    no-result-requires
+    (λ c. search needs)
+    (λ c. search needs)
+    (λ c κs. search needs)
+    (λ c κs. search needs)
     returns
-    no-result-requires-2
+    (λ c κs. search needs)
     returns-2
-    sub-same-bytes
-    part-same-bytes-start
-    part-same-bytes-end
-    slice-aggregate-same-bytes
-    same-bytes-requires
-    sub-same-bytes-2
-    part-same-bytes-start-2
-    part-same-bytes-end-2
-    slice-aggregate-same-bytes-2
-    same-bytes-requires-2
-    no-result-requires-3
+    (λ c. search needs)
+    (λ c. search needs)
+    (λ c. search needs)
+    (λ c. search needs)
+    (λ c κs. search needs)
+    (λ c. search needs)
+    (λ c. search needs)
+    (λ c. search needs)
+    (λ c. search needs)
+    (λ c κs. search needs)
+    (λ c κs. search needs)
     returns-3
-    array-copy-out-moves
-    no-result-requires-4
+    (λ c. search needs)
+    (λ c κs. search needs)
     returns-4
-    cast-if6
-    no-result-requires-5
+    (λ c. search needs)
+    (λ c κs. search needs)
     returns-5
-    array-copy-out-t30
-    array-copy-out-t35
+    (λ c. search needs)
+    (λ c. search needs)
     cast-t36
     returns-6)

@@ -21,34 +21,10 @@ use Rattle.record_lines.proofs.WeightSteps.{WeightHeld, WeightNumbers, 
 use Rattle.record_lines.proofs.line.read_weight.Statement.{statement}
 use Rattle.record_lines.proofs.line.read_weight.Tie as tie
 
-slice-aggregate-read-numbers : tie.Need-slice-aggregate-read-numbers
-slice-aggregate-read-numbers c = search needs
-
-slice-aggregate-read-numbers-2 : tie.Need-slice-aggregate-read-numbers-2
-slice-aggregate-read-numbers-2 c = search needs
-
-read-numbers-requires : tie.Need-read-numbers-requires
-read-numbers-requires c κs = search needs
-
-add-if1 : tie.Need-add-if1
-add-if1 c = search needs
-
-no-weight-requires : tie.Need-no-weight-requires
-no-weight-requires c κs = search needs
-
 returns : tie.Need-returns
 returns c =
     let at-numbers = c .before .before .before in
     c .no-weight .ensures ∙ sym (ap weightRead (weight-no-end rowLimit _ (at-numbers .read-numbers .ensures) (c .before .if1 .taken)))
-
-array-copy-out-row : tie.Need-array-copy-out-row
-array-copy-out-row c = search needs
-
-cast-if2 : tie.Need-cast-if2
-cast-if2 c = search needs
-
-no-weight-requires-2 : tie.Need-no-weight-requires-2
-no-weight-requires-2 c κs = search needs
 
 -- the word and two numbers
 numbers : (c : tie.After-row)
@@ -75,30 +51,20 @@ returns-2 c =
     let at-row = c .before .before in
     c .no-weight2 .ensures ∙ sym (ap weightRead (weight-early (numbers at-row) (row-test at-row true (c .before .if2 .taken))))
 
-cast-if3 : tie.Need-cast-if3
-cast-if3 c = search needs
-
-no-weight-requires-3 : tie.Need-no-weight-requires-3
-no-weight-requires-3 c κs = search needs
-
 returns-3 : tie.Need-returns-3
 returns-3 c =
     c .no-weight3 .ensures ∙ sym (ap weightRead (weight-late (numbers (c .before .before .before)) (c .before .if3 .taken)))
 
-array-copy-out-weight : tie.Need-array-copy-out-weight
-array-copy-out-weight c = search needs
-
-no-weight-requires-4 : tie.Need-no-weight-requires-4
-no-weight-requires-4 c κs = search needs
-
 returns-4 : tie.Need-returns-4
 returns-4 c =
+    let at-else2 = c .before .before .before .before in
     c .no-weight4 .ensures
-    ∙ sym (ap weightRead (weight-empty (numbers (c .before .before .before .before .before)) (c .before .if4 .taken)))
+    ∙ sym (ap weightRead (weight-empty (numbers (at-else2 .before)) (c .before .if4 .taken)))
 
 -- what the line states, past every test
 told : (c : tie.Else4)
-    → let at-numbers = c .before .before .before .before .before .before .before in
+    → let at-else2 = c .before .before .before in
+    let at-numbers = at-else2 .before .before .before .before in
     let start = at-numbers .before .before .before .before in
     let lent = at-numbers .read-numbers .last .1 .1 .1 .0 in
     WeightHeld rowLimit (weightLine rowLimit (start .args .last) (now (start .args .line))) (back w64 (getD lent 0 (pos 0)))
@@ -130,21 +96,21 @@ pub read-weight-spec : {M : Type 1} → statement M
 read-weight-spec =
     tie.close
     (tie.spec
-    slice-aggregate-read-numbers
-    slice-aggregate-read-numbers-2
-    read-numbers-requires
-    add-if1
-    no-weight-requires
+    (λ c. search needs)
+    (λ c. search needs)
+    (λ c κs. search needs)
+    (λ c. search needs)
+    (λ c κs. search needs)
     returns
-    array-copy-out-row
-    cast-if2
-    no-weight-requires-2
+    (λ c. search needs)
+    (λ c. search needs)
+    (λ c κs. search needs)
     returns-2
-    cast-if3
-    no-weight-requires-3
+    (λ c. search needs)
+    (λ c κs. search needs)
     returns-3
-    array-copy-out-weight
-    no-weight-requires-4
+    (λ c. search needs)
+    (λ c κs. search needs)
     returns-4
     cast-t13
     cast-t22

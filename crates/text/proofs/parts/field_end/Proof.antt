@@ -5,11 +5,8 @@ use Rattle.text.specs.PartsLaws.{end-found}
 use Rattle.text.proofs.parts.field_end.Statement.{statement}
 use Rattle.text.proofs.parts.field_end.Tie as tie
 
-find-requires : tie.Need-find-requires
-find-requires c κs = search needs
-
 returns : tie.Need-returns
 returns c = end-found comma _ _ _ (c .find .ensures .0) (c .find .ensures .1)
 
 pub field-end-spec : {M : Type 1} → statement M
-field-end-spec = tie.close (tie.spec find-requires returns)
+field-end-spec = tie.close (tie.spec (λ c κs. search needs) returns)

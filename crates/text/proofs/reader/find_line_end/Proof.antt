@@ -5,11 +5,8 @@ use Rattle.text.specs.PartsLaws.{end-found}
 use Rattle.text.proofs.reader.find_line_end.Statement.{statement}
 use Rattle.text.proofs.reader.find_line_end.Tie as tie
 
-find-requires : tie.Need-find-requires
-find-requires c κs = search needs
-
 returns : tie.Need-returns
 returns c = end-found lineEnd _ _ _ (c .find .ensures .0) (c .find .ensures .1)
 
 pub find-line-end-spec : {M : Type 1} → statement M
-find-line-end-spec = tie.close (tie.spec find-requires returns)
+find-line-end-spec = tie.close (tie.spec (λ c κs. search needs) returns)
