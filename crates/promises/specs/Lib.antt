@@ -1,0 +1,3 @@
+-- The promises of docs/PROMISES.md, by demand and id.
+pub mod Texts
+pub mod Calls
