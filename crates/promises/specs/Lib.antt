@@ -1,3 +1,4 @@
 -- The promises of docs/PROMISES.md, by demand and id.
-pub mod Texts
 pub mod Calls
+pub mod Moves
+pub mod Texts
