@@ -2,3 +2,4 @@
 pub mod Calls
 pub mod Moves
 pub mod Texts
+pub mod Tight
