@@ -2,4 +2,5 @@
 pub mod Calls
 pub mod Moves
 pub mod Texts
+pub mod Readings
 pub mod Tight
