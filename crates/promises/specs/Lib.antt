@@ -3,4 +3,6 @@ pub mod Calls
 pub mod Moves
 pub mod Texts
 pub mod Readings
+pub mod Records
+pub mod RoundTrips
 pub mod Tight
