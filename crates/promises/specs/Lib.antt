@@ -6,3 +6,5 @@ pub mod Readings
 pub mod Records
 pub mod RoundTrips
 pub mod Tight
+pub mod Shown
+pub mod Limited

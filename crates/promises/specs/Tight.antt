@@ -1,5 +1,7 @@
 -- Demand 3: the ball is the tight one, whoever chose the weights.
---     OfEvery P           P holds of X, M, L and Settled of all weights of sum D, drawings, checks and accepted records
+--     Property, OfBall    what is said of rows, X, M, L and Settled; the same of the figures of a ball
+--     OfEvery P           P holds of all weights of sum D, drawings, checks and accepted records
+--     every               it does where it holds of weights of sum D and of tight figures
 --     RivalHeld           3.1, of X and L
 --     RowsHeld            3.2, of X, M and L
 --     GapHeld             3.3, of M, L and Settled
@@ -58,7 +60,7 @@ pub record OfEvery (P : Property) : Type 0 where
       → OfBall P D m n (coordinate rows n) (recordRead D limit types rows m n codes text .envelope .figures .ball)
 
 -- what holds of weights of sum D and of tight figures holds of every one of them
-every : (P : Property)
+pub every : (P : Property)
     → ((D m n : ℕ) (a : ℕ → ℕ → ℤ) (w : ℕ → ℕ) → 0 < D → 0 < m → sumℕ m w ≡ D
     → P D m n a (scaledCentre a w m) (scaledSquaredRadius D m n a (scaledCentre a w m)) (scaledLowerBound D m n a w) (settled D m n a w))
     → ((D m n : ℕ) (a : ℕ → ℕ → ℤ) (b : Ball) → Tight D m n a b → OfBall P D m n a b) → OfEvery P
