@@ -1,5 +1,7 @@
 -- The promises of docs/PROMISES.md, by demand and id.
 pub mod Calls
+pub mod RefusedTexts
+pub mod Refusals
 pub mod Moves
 pub mod Texts
 pub mod Readings
