@@ -1,5 +1,8 @@
 -- The promises of docs/PROMISES.md, by demand and id.
+pub mod Answering
 pub mod Calls
+pub mod ProgramCalls
+pub mod Exports
 pub mod RefusedTexts
 pub mod Refusals
 pub mod Moves
