@@ -8,6 +8,7 @@ pub mod Programs
 pub mod ToldRefusals
 pub mod Results
 pub mod RefusedTexts
+pub mod RefusedPrograms
 pub mod Refusals
 -- ---- demand 2: exactly the published moves, exactly the written form
 pub mod Moves

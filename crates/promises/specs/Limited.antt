@@ -26,8 +26,8 @@ use Rattle.channel.specs.ChannelLaws.{house-sound}
 use Rattle.reference_rows.specs.ReferenceText.{ReferenceText, channelCount, codesOf, rowCount, tableOf}
 use Rattle.reference_rows.specs.Rows.{sound}
 use Rattle.reference.specs.Reference.{content}
-use Rattle.envelope.specs.FigureLaws.{checked-within, drawn-within, drawnFigures}
-use Rattle.envelope.specs.Figures.{figuresKnown, figuresOf}
+use Rattle.envelope.specs.FigureLaws.{checked-within, drawn-within, drawnFigures, known-coded, known-within}
+use Rattle.envelope.specs.Figures.{channelCodes, figuresKnown, figuresOf}
 use Rattle.envelope.specs.declared.Figures.{Figures}
 use Rattle.reading.specs.QuietLaws.{checked-not-8, drawn-not-8, figures-not-8}
 use Rattle.reading.specs.Verdict.{judged, verdictExcess, verdictNumber}
@@ -44,9 +44,35 @@ use Rattle.program_laws.specs.QuietLaws.{reference-checked-not-8, reference-dra
 -- figures that no call refuses by 8: within their limits, with known codes
 pub record NeverMetBy8 (f : Figures) : Type 0 where
   pub within : figuresKnown total channelTypes f ≡ true
+  -- which says that n is from 1 to 8, with as many known codes, and X, M, L and the moves are within their limits
+  pub channels : (1 ≤ f .n) × (f .n ≤ channelLimit) × (codesKnown channelTypes (channelCodes f) ≡ true)
+  pub centre-limit : (k : ℕ) → k < f .n → natAbs (centreOf (f .ball .«scaled_centre») k) ≤ centreLimit total
+  pub radius-limit : f .ball .«scaled_squared_radius» ≤ distanceLimit total
+  pub floor-limit : f .ball .«scaled_lower_bound» ≤ distanceLimit total
+  pub moves-limit : f .moves ≤ budgetLimit
+  -- so that no verdict, chart or panel answers 8
   pub judged-not-8 : (text : List ℕ) → verdictNumber (judged total channelTypes f text) ≡ outside-limits → ⊥
   pub charted : (h v : ℕ) → 1 ≤ h → h ≤ f .n → 1 ≤ v → v ≤ f .n → markNumber (chartMark total channelTypes f h v) ≡ 0
   pub shown : panelShown total channelTypes f .outcome ≡ Accepted
+
+-- from the three that are proved of each kind of figures
+never-8 : (f : Figures) → figuresKnown total channelTypes f ≡ true
+    → ((text : List ℕ) → verdictNumber (judged total channelTypes f text) ≡ outside-limits → ⊥)
+    → ((h v : ℕ) → 1 ≤ h → h ≤ f .n → 1 ≤ v → v ≤ f .n → markNumber (chartMark total channelTypes f h v) ≡ 0)
+    → panelShown total channelTypes f .outcome ≡ Accepted → NeverMetBy8 f
+never-8 f within judged-not-8 charted shown =
+    let limits = known-within total channelTypes f within in
+    record {
+      within = within;
+      channels = (limits .some-channel, limits .channels, known-coded total channelTypes f within .each-known);
+      centre-limit = limits .centre-limit;
+      radius-limit = limits .radius-limit;
+      floor-limit = limits .floor-limit;
+      moves-limit = limits .moves-limit;
+      judged-not-8 = judged-not-8;
+      charted = charted;
+      shown = shown;
+    }
 
 -- the figures of weights of sum D over rows within the limit on coordinates
 pub record WeightsLimited (D m n : ℕ) (a : ℕ → ℕ → ℤ) (w : ℕ → ℕ) : Type 0 where
@@ -112,28 +138,18 @@ promise-2-14 =
       check-kept = λ rows m n ws is.
           let tight = checking-tight total rowLimit rows m n ws is (omega arith) in (tight .centre-limit, tight .radius-limit);
       drawings = λ n codes typed known rows m budget is.
-          record {
-            within = drawn-within total channelTypes n codes typed known (omega arith) rowLimit rows m budget is;
-            judged-not-8 = drawn-not-8 total channelTypes n codes typed known (omega arith) rowLimit rows m budget is;
-            charted = drawn-charted total channelTypes n codes typed known (omega arith) rowLimit rows m budget is;
-            shown = drawn-shown total channelTypes n codes typed known (omega arith) rowLimit rows m budget is;
-          };
+          never-8 (drawnFigures n codes (drawing total rowLimit rows m n budget))
+          (drawn-within total channelTypes n codes typed known (omega arith) rowLimit rows m budget is) (drawn-not-8 total channelTypes n codes typed known (omega arith) rowLimit rows m budget is)
+          (drawn-charted total channelTypes n codes typed known (omega arith) rowLimit rows m budget is) (drawn-shown total channelTypes n codes typed known (omega arith) rowLimit rows m budget is);
       checks = λ n codes typed known rows m ws moves is most.
-          record {
-            within = checked-within total channelTypes n codes typed known (omega arith) rowLimit rows m ws moves is most;
-            judged-not-8 = checked-not-8 total channelTypes n codes typed known (omega arith) rowLimit rows m ws moves is most;
-            charted = checked-charted total channelTypes n codes typed known (omega arith) rowLimit rows m ws moves is most;
-            shown = checked-shown total channelTypes n codes typed known (omega arith) rowLimit rows m ws moves is most;
-          };
+          never-8 (figuresOf n codes (checking total rowLimit rows m n ws .ball) moves)
+          (checked-within total channelTypes n codes typed known (omega arith) rowLimit rows m ws moves is most) (checked-not-8 total channelTypes n codes typed known (omega arith) rowLimit rows m ws moves is most)
+          (checked-charted total channelTypes n codes typed known (omega arith) rowLimit rows m ws moves is most) (checked-shown total channelTypes n codes typed known (omega arith) rowLimit rows m ws moves is most);
       records = λ rows m n codes text is.
           let e = recordRead total rowLimit channelTypes rows m n codes text .envelope in
           let within = accepted-within total rowLimit channelTypes house-sound rows m n codes text e (accepted-read total rowLimit channelTypes rows m n codes text is) (omega arith) in
-          record {
-            within = within;
-            judged-not-8 = figures-not-8 total channelTypes (e .figures) within;
-            charted = figures-charted total channelTypes (e .figures) within;
-            shown = figures-shown total channelTypes (e .figures) within;
-          };
+          never-8 (e .figures) within (figures-not-8 total channelTypes (e .figures) within) (figures-charted total channelTypes (e .figures) within)
+          (figures-shown total channelTypes (e .figures) within);
       reference-drawn = λ text found is more held taken. reference-drawn-not-8 total (omega arith) rowLimit channelTypes house-sound text found is more held taken;
       reference-checked = λ text found is more held taken. reference-checked-not-8 total (omega arith) rowLimit channelTypes house-sound text found is more held taken;
       excess = excess-most total channelTypes house-sound;

@@ -3,21 +3,28 @@
 use Prim.Native.Nat.{ℕ}
 use mathlib.Core.Path.{_∙_, _≡_, ap, refl}
 use mathlib.Core.Bool.{_&&_, true}
-use mathlib.Core.List.{List}
+use mathlib.Core.List.{List, [], _++_, _∷_, map}
 use mathlib.Core.Option.{some}
-use lib.IntN.{ℤ}
+use lib.IntN.{pos, ℤ}
 use lib.ListN.{drop, length, take}
 use native.Mathlib.Omega.{arith}
 use Rattle.refusal.specs.Number.{record-form}
 use Rattle.refusal.specs.Outcome.{numberOf, refusedAt}
 use Rattle.refusal.specs.declared.Outcome.the-variants.{Accepted}
 use Rattle.limits.specs.Limits.{rowLimit, total}
+use Rattle.geometry.specs.Figures.{scaledCentre, scaledLowerBound, scaledSquaredRadius}
+use Rattle.geometry.specs.Move.{settled}
 use Rattle.ball.specs.declared.Ball.{Ball}
 use Rattle.checking.specs.Check.{checking}
-use Rattle.text.specs.Parts.{textWithin}
+use Rattle.text.specs.Lines.{printLines}
+use Rattle.text.specs.Parts.{comma, join, textWithin}
+use Rattle.number.specs.Number.{print}
+use Rattle.printing.specs.Contracts.{numbersAfter}
 use Rattle.channel.specs.Channel.{channelTypes}
 use Rattle.channel.specs.ChannelLaws.{house-sound}
+use Rattle.heading.specs.Heading.{printHeading}
 use Rattle.agreement.specs.Agreement.{agrees, allZero, ballAgrees}
+use Rattle.record_lines.specs.Lines.{Result, Weight, centreWord, letterOf, printCentre, printResult, printWeight, recordWord, resultWord, weightWord}
 use Rattle.record_form.specs.Record.{Form, Record, Within, faulty, form, printRecord, sound}
 use Rattle.record_form.specs.RecordLaws.{form-printed, printed-form}
 use Rattle.record_form.specs.Weights.{weightsOf}
@@ -41,7 +48,17 @@ module _ (rows : List ℤ) (m n : ℕ) (codes text : List ℕ) where
     pub same-codes : take n codes ≡ r .codes
     pub agreeing : agrees total rowLimit rows m (length (take n codes)) ball (weightsOf rowLimit (r .weights)) ≡ true
 
+  -- the lines of a record: `ENV`, n, tags; `C` and X; `R`, M, L, moves, `S` or `B`; `W`, row, weight
+  pub record RecordLines : Type 0 where
+    pub whole : (r : Record) → printRecord channelTypes r
+        ≡ printLines (printHeading recordWord channelTypes (r .codes) ∷ printCentre (r .scaledCentre) ∷ printResult (r .result) ∷ map printWeight (r .weights))
+    pub centre : (X : List ℤ) → printCentre X ≡ join comma (centreWord ∷ map print X)
+    pub result : (x : Result) → printResult x
+        ≡ join comma (resultWord ∷ map print (x .scaledSquaredRadius ∷ x .scaledLowerBound ∷ pos (x .moves) ∷ [])) ++ (comma ∷ letterOf (x .settled))
+    pub weight : (x : Weight) → printWeight x ≡ join comma (weightWord ∷ map print (pos (x .row) ∷ pos (x .weight) ∷ []))
+
   pub record RecordsRead : Type 0 where
+    pub printed-lines : RecordLines
     -- a text is in form exactly when it is the printing of a record within the limits
     pub form-printed : (r : Record) → formOf text ≡ sound r → Within rowLimit channelTypes r × (printRecord channelTypes r ≡ text)
     pub printed-form : (r : Record) → Within rowLimit channelTypes r → formOf (printRecord channelTypes r) ≡ sound r
@@ -60,9 +77,10 @@ module _ (rows : List ℤ) (m n : ℕ) (codes text : List ℕ) where
         → agrees total rowLimit rows m n ball ws ≡ (allZero (drop m ws) && ballAgrees n ball (checking total rowLimit rows m n (take m ws)))
 
   pub promise-2-10 : RecordsRead
-  unfolding agrees
+  unfolding agrees printRecord printCentre printResult printWeight numbersAfter
   promise-2-10 =
       record {
+        printed-lines = record { whole = λ r. refl; centre = λ X. refl; result = λ x. refl; weight = λ x. refl };
         form-printed = form-printed rowLimit channelTypes house-sound text;
         printed-form = λ r within. printed-form rowLimit channelTypes house-sound r within (omega arith);
         faulty-line = λ line given some-text is.

@@ -44,7 +44,8 @@ use Rattle.chart.specs.Mark.{channelWithin, chartMark, markNumber, refusedMark}
 use Rattle.chart.specs.MarkLaws.{accepted, accepts, refuses-figures, refuses-horizontal, refuses-vertical}
 use Rattle.panel_steps.specs.Panel.{panelOf, panelShown, refusedPanel}
 use Rattle.panel_steps.specs.PanelLaws.{panel-refuses, panel-shows}
-use Rattle.promises.specs.RefusedTexts.{ProgramsRefused, ReadingRefused, ReferenceRefused, programs-refused, reading-refused, reference-refused}
+use Rattle.promises.specs.RefusedPrograms.{ProgramsRefused, programs-refused}
+use Rattle.promises.specs.RefusedTexts.{ReadingRefused, ReferenceRefused, reading-refused, reference-refused}
 
 -- ---- 1.4
 

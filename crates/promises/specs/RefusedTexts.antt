@@ -1,8 +1,7 @@
--- Demand 1, which refusal a reference text, a reading and a program's texts meet, for the total, the row limit and the types of the calls; part of
+-- Demand 1, which refusal a reference text and a reading meet, for the total, the row limit and the types of the calls; part of
 -- promise 1.4 in Refusals.
 --     ReferenceRefused, reference-refused     reference text: 1, 2, then line by line 6, 3, 4, 5, then 6, last 7
 --     ReadingRefused, reading-refused         reading: 8, 1, 3, 10, 4
---     ProgramsRefused, programs-refused       programs: the reference text, then the record, then the readings together; last 13
 use Prim.Native.Nat.{_*_, _<_, _≤_, ℕ}
 use mathlib.Core.Path.{_∙_, _≡_, ap}
 use mathlib.Core.Bool.{false, true}
@@ -10,14 +9,9 @@ use mathlib.Core.List.{List, [], _∷_}
 use mathlib.Core.Option.{none, some}
 use lib.ListN.{length}
 use native.Mathlib.Omega.{arith}
-use Rattle.refusal.specs.Number.{buffer-short, heading, label-repeated, line-form, outside-limits, row-count, table-short, tag-differs, text-length, value-range}
+use Rattle.refusal.specs.Number.{heading, label-repeated, line-form, outside-limits, row-count, table-short, tag-differs, text-length, value-range}
 use Rattle.refusal.specs.Outcome.{refused, refusedAt}
-use Rattle.refusal.specs.declared.Outcome.the-variants.{Accepted}
 use Rattle.limits.specs.Limits.{channelLimit, rowLimit, textLimit, total}
-use Rattle.lent.specs.ContractLaws.{text-fits, text-short}
-use Rattle.lent.specs.Contracts.{notWritten, textWritten, written}
-use Rattle.drawing.specs.Draw.{drawing}
-use Rattle.text.specs.EndedLines.{linesWithEnds}
 use Rattle.text.specs.Parts.{cut, lineEnd, textWithin}
 use Rattle.label.specs.RowLabel.{labelUsed}
 use Rattle.channel.specs.Channel.{channelTypes}
@@ -26,7 +20,7 @@ use Rattle.value.specs.Values.{valuesInRange}
 use Rattle.heading.specs.Heading.{headingOf}
 use Rattle.reading_line.specs.Reading.{Reading, readingOf, tagsAgree}
 use Rattle.reference_row.specs.Row.{Row, rowOf}
-use Rattle.reference_rows.specs.ReferenceText.{ReferenceText, channelCount, codesOf, firstRowLine, labelsOf, rowCount, tableOf}
+use Rattle.reference_rows.specs.ReferenceText.{ReferenceText, channelCount, codesOf, firstRowLine, labelsOf, rowCount}
 use Rattle.reference_rows.specs.Rows.{Content, faulty, nextLine, sound}
 use Rattle.reference.specs.ContractLaws.{table-fits, table-too-short}
 use Rattle.reference.specs.Contracts.{answerOf, referenceRead, refusedReference, withTable}
@@ -37,17 +31,6 @@ use Rattle.envelope.specs.Figures.{channelCodes, figuresKnown}
 use Rattle.envelope.specs.declared.Figures.{Figures}
 use Rattle.reading.specs.Verdict.{judged, refusedVerdict}
 use Rattle.reading.specs.VerdictLaws.{refuses-length, refuses-tag}
-use Rattle.record_read.specs.Contracts.{notRead, recordRead}
-use Rattle.record_read.specs.declared.EnvelopeRead.{EnvelopeRead}
-use Rattle.panel_steps.specs.Panel.{panelShown}
-use Rattle.program_lines.specs.Lines.{printRefusal, printVerdicts}
-use Rattle.program_record.specs.Against.{recordAgainst}
-use Rattle.program_record.specs.AgainstLaws.{against-faulty, against-sound, against-within}
-use Rattle.program_draw.specs.Output.{drawBudget, drawOutput}
-use Rattle.program_draw.specs.OutputLaws.{draw-accepted, draw-faulty}
-use Rattle.program_panel.specs.OutputLaws.{panel-accepted}
-use Rattle.program_verdicts.specs.Output.{readingsOutput}
-use Rattle.program_verdicts.specs.OutputLaws.{readings-judged, readings-refused}
 use Rattle.reading.specs.VerdictLaws as verdict-laws
 
 abbrev contentOf : List ℕ → Content
@@ -128,46 +111,4 @@ reading-refused f text =
       form-3 = verdict-laws.refuses-form total channelTypes f text;
       tag-10 = λ within bytes reading is. refuses-tag total channelTypes f text within bytes is;
       range-4 = λ within bytes reading is. verdict-laws.refuses-range total channelTypes f text within bytes is;
-    }
-
--- the record, read against the reference text
-abbrev against : List ℕ → List ℕ → EnvelopeRead
-against = recordAgainst total rowLimit channelTypes
-
-pub record ProgramsRefused (reference : List ℕ) : Type 0 where
-  -- a refused reference text first
-  pub draw-reference : (number line : ℕ) → contentOf reference ≡ faulty number line → drawOutput total rowLimit channelTypes reference ≡ printRefusal number line
-  pub record-reference : (number line : ℕ) → contentOf reference ≡ faulty number line → (text : List ℕ)
-      → against reference text ≡ notRead rowLimit (refusedAt number line)
-  -- then the record against the text's rows and codes
-  pub record-text : (found : ReferenceText) → contentOf reference ≡ sound found → (text : List ℕ)
-      → against reference text ≡ recordRead total rowLimit channelTypes (tableOf found) (rowCount found) (channelCount found) (codesOf found) text
-  -- then the readings together by 1, and else each by its verdict
-  pub readings-1 : (f : Figures) (readings : List ℕ) → textWithin readings ≡ false → readingsOutput total channelTypes f readings ≡ printRefusal text-length 0
-  pub readings-judged : (f : Figures) (readings : List ℕ) → textWithin readings ≡ true
-      → readingsOutput total channelTypes f readings ≡ printVerdicts total channelTypes f (linesWithEnds readings)
-  -- no 8 past an accepted reference text and record
-  pub drawn : (found : ReferenceText) → contentOf reference ≡ sound found
-      → drawing total rowLimit (tableOf found) (rowCount found) (channelCount found) drawBudget .outcome ≡ Accepted
-  pub figures-within : (text : List ℕ) → against reference text .outcome ≡ Accepted
-      → figuresKnown total channelTypes (against reference text .envelope .figures) ≡ true
-  pub panel-shown : (text : List ℕ) → against reference text .outcome ≡ Accepted
-      → panelShown total channelTypes (against reference text .envelope .figures) .outcome ≡ Accepted
-  -- 13 alone for the output
-  pub output-13 : (output : List ℕ) (places : ℕ) → places < length output → textWritten output places ≡ notWritten (refused buffer-short)
-  pub output-fits : (output : List ℕ) (places : ℕ) → length output ≤ places → textWritten output places ≡ written (length output)
-
-pub programs-refused : (reference : List ℕ) → ProgramsRefused reference
-programs-refused reference =
-    record {
-      draw-reference = draw-faulty total rowLimit channelTypes reference;
-      record-reference = against-faulty total rowLimit channelTypes reference;
-      record-text = against-sound total rowLimit channelTypes reference;
-      readings-1 = readings-refused total channelTypes;
-      readings-judged = readings-judged total channelTypes;
-      drawn = λ found is. draw-accepted total rowLimit channelTypes reference found is house-sound;
-      figures-within = against-within total rowLimit channelTypes house-sound (omega arith) reference;
-      panel-shown = panel-accepted total rowLimit channelTypes house-sound (omega arith) reference;
-      output-13 = text-short;
-      output-fits = text-fits;
     }

@@ -23,7 +23,7 @@ use Rattle.drawing.specs.Draw.{notDrawn, start}
 use Rattle.printing.specs.Contracts.{printNumbers}
 use Rattle.reference.specs.Contracts.{refusedReference}
 use Rattle.reference_label.specs.Contracts.{noPart}
-use Rattle.envelope.specs.Figures.{emptyEnvelope, envelopeOf, figuresOf}
+use Rattle.envelope.specs.Figures.{emptyEnvelope, emptyFigures, envelopeOf, figuresOf}
 use Rattle.reading.specs.Verdict.{refusedVerdict, verdictExcess, verdictLine, verdictNumber}
 use Rattle.reading.specs.declared.Verdict.{Verdict}
 use Rattle.reading.specs.declared.Verdict.the-variants.{Alarm, Quiet}
@@ -101,7 +101,8 @@ pub record RefusalValues : Type 0 where
   pub check : (o : Outcome) → notChecked o ≡ record { outcome = o; ball = emptyBall }
   pub reference : (o : Outcome) → refusedReference o ≡ record { outcome = o; m = 0; n = 0; codes = padded channelLimit [] }
   pub label : noPart ≡ record { start = 0; length = 0 }
-  pub envelope : emptyEnvelope rowLimit ≡ envelopeOf (figuresOf 0 (replicate channelLimit 0) emptyBall 0) (replicate rowLimit 0)
+  pub figures : emptyFigures ≡ figuresOf 0 (replicate channelLimit 0) emptyBall 0
+  pub envelope : emptyEnvelope rowLimit ≡ envelopeOf emptyFigures (replicate rowLimit 0)
   pub envelope-read : (o : Outcome) → notRead rowLimit o ≡ record { outcome = o; envelope = emptyEnvelope rowLimit }
   pub text-refused : (o : Outcome) → notWritten o ≡ record { outcome = o; length = 0 }
   pub text-accepted : (bytes : ℕ) → written bytes ≡ record { outcome = Accepted; length = bytes }
@@ -146,6 +147,7 @@ promise-1-3 =
       check = λ o. refl;
       reference = λ o. refl;
       label = refl;
+      figures = refl;
       envelope = refl;
       envelope-read = λ o. refl;
       text-refused = λ o. refl;

@@ -5,7 +5,7 @@
 use Prim.Native.Nat.{_*_, _+_, _-_, _<_, _≤_, ℕ}
 use mathlib.Core.Path.{_∙_, _≡_, ap, refl, subst, sym}
 use mathlib.Core.Bool.{_&&_, and-false, true}
-use mathlib.Core.List.{List, _++_, _∷_}
+use mathlib.Core.List.{List, _++_, _∷_, map}
 use mathlib.Core.Option.{some}
 use borrow.Author.Tests.{le-leb, lt-leb}
 use lib.Dec.{leb}
@@ -19,13 +19,14 @@ use Rattle.refusal.specs.declared.Outcome.the-variants.{Accepted}
 use Rattle.limits.specs.Limits.{channelLimit, rowLimit, textLimit}
 use Rattle.geometry.specs.Table.{rowsWithin}
 use Rattle.drawing.specs.Draw.{start}
-use Rattle.text.specs.Parts.{cut, lineEnd}
+use Rattle.text.specs.Lines.{printLines}
+use Rattle.text.specs.Parts.{comma, cut, join, lineEnd}
 use Rattle.number.specs.Number.{plain, print}
 use Rattle.number.specs.NumberLaws.{plain-print, print-plain}
 use Rattle.label.specs.Label.{isLabel, labelBytes}
 use Rattle.label.specs.RowLabel.{isRowLabel}
-use Rattle.channel.specs.Channel.{channelTypes, typeOf}
-use Rattle.channel.specs.ChannelLaws.{house-sound}
+use Rattle.channel.specs.Channel.{channelTypes, tagOf, typeOf}
+use Rattle.channel.specs.ChannelLaws.{SoundTypes, house-sound}
 use Rattle.channel.specs.declared.Range.{Range}
 use Rattle.value.specs.Value.{Written, below, lessThan, number, printValue, reads, valueInRange, valueOf}
 use Rattle.value.specs.ValueLaws.{print-value, value-print}
@@ -33,7 +34,7 @@ use Rattle.heading.specs.Heading.{CodesWithin, headingOf, printHeading}
 use Rattle.heading.specs.HeadingLaws.{heading-printed, printed-heading}
 use Rattle.reference_row.specs.Row.{Row, printRow, rowOf}
 use Rattle.reference_row.specs.RowLaws.{printed-row, row-printed}
-use Rattle.reference_rows.specs.ReferenceText.{ReferenceText, channelCount, codesOf, labelAt, rowAt, rowCount, tableOf}
+use Rattle.reference_rows.specs.ReferenceText.{ReferenceText, channelCount, codesOf, labelAt, rowAt, rowCount, rowsOf, tableOf}
 use Rattle.reference_rows.specs.Rows.{Content, faulty, sound}
 use Rattle.reference.specs.ContractLaws.{table-fits}
 use Rattle.reference.specs.Contracts.{answerOf, referenceRead, withTable}
@@ -110,6 +111,14 @@ pub record AcceptedText (text : List ℕ) (found : ReferenceText) : Type 0 where
 
 pub record ReferenceTexts : Type 0 where
   pub each-value : Values
+  -- each known code has one tag and each tag one code
+  pub types-sound : SoundTypes channelTypes
+  -- a heading is `REF`, n and n tags, a row is its label and its values, a text is its lines, each with byte 10
+  pub heading-is : (codes : List ℕ) → printHeading referenceWord channelTypes codes
+      ≡ join comma (referenceWord ∷ print (pos (length codes)) ∷ map (tagOf channelTypes) codes)
+  pub row-is : (row : Row) → printRow row ≡ join comma (row .label ∷ map printValue (row .values))
+  pub text-is : (found : ReferenceText)
+      → printText channelTypes found ≡ printLines (printHeading referenceWord channelTypes (codesOf found) ∷ map printRow (rowsOf found))
   -- a heading and a row, printed and read
   pub heading-printed : (line codes : List ℕ) → headingOf referenceWord channelLimit channelTypes line ≡ some codes
       → printHeading referenceWord channelTypes codes ≡ line
@@ -124,10 +133,14 @@ pub record ReferenceTexts : Type 0 where
       → contentOf (printText channelTypes found) ≡ sound found
 
 pub promise-2-7 : ReferenceTexts
-unfolding referenceRead isLabel labelBytes
+unfolding referenceRead isLabel labelBytes printHeading printRow printText
 promise-2-7 =
     record {
       each-value = values;
+      types-sound = house-sound;
+      heading-is = λ codes. refl;
+      row-is = λ row. refl;
+      text-is = λ found. refl;
       heading-printed = heading-printed channelTypes house-sound referenceWord channelLimit;
       heading-read = printed-heading channelTypes house-sound referenceWord channelLimit refl;
       row-printed = row-printed;
