@@ -10,7 +10,6 @@ use Rattle.lent.specs.Filled.{filled}
 use Rattle.ball.specs.Ball.{filledBall}
 use Rattle.checking.specs.Contracts.{CheckPromise}
 use Rattle.drawing.specs.Contracts.{DrawPromise}
-use Rattle.drawing.specs.Draw.{start}
 use Rattle.channel.specs.Channel.{channelTypes}
 use Rattle.reference.specs.Contracts.{referenceRead, valuesIn}
 use Rattle.reference.specs.Reference.{content}

@@ -12,8 +12,6 @@ use Rattle.refusal.specs.Number.{record-form}
 use Rattle.refusal.specs.Outcome.{numberOf, refusedAt}
 use Rattle.refusal.specs.declared.Outcome.the-variants.{Accepted}
 use Rattle.limits.specs.Limits.{rowLimit, total}
-use Rattle.geometry.specs.Figures.{scaledCentre, scaledLowerBound, scaledSquaredRadius}
-use Rattle.geometry.specs.Move.{settled}
 use Rattle.ball.specs.declared.Ball.{Ball}
 use Rattle.checking.specs.Check.{checking}
 use Rattle.text.specs.Lines.{printLines}

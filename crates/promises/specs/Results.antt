@@ -19,7 +19,7 @@ use Rattle.lent.specs.Contracts.{notWritten, written}
 use Rattle.lent.specs.Filled.{filled, filled-refused}
 use Rattle.ball.specs.Ball.{emptyBall, filledBall}
 use Rattle.checking.specs.Check.{notChecked}
-use Rattle.drawing.specs.Draw.{notDrawn, start}
+use Rattle.drawing.specs.Draw.{notDrawn}
 use Rattle.printing.specs.Contracts.{printNumbers}
 use Rattle.reference.specs.Contracts.{refusedReference}
 use Rattle.reference_label.specs.Contracts.{noPart}

@@ -14,7 +14,6 @@ use lib.IntN.{_*ℤ_, _-ℤ_, natAbs, pos, ℤ}
 use lib.ListN.{getD}
 use mathlib.Core.Logic.{_≢_}
 use native.Mathlib.Omega.{arith}
-use Rattle.integers.specs.Solver.{value}
 use Rattle.limits.specs.Limits.{total}
 use Rattle.geometry.specs.Demand.{holds-every-row}
 use Rattle.geometry.specs.Figures.{scaledCentre, scaledSquaredRadius}

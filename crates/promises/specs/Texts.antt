@@ -18,7 +18,6 @@ use Rattle.lists.specs.Padded.{padded}
 use Rattle.refusal.specs.declared.Outcome.the-variants.{Accepted}
 use Rattle.limits.specs.Limits.{channelLimit, rowLimit, textLimit}
 use Rattle.geometry.specs.Table.{rowsWithin}
-use Rattle.drawing.specs.Draw.{start}
 use Rattle.text.specs.Lines.{printLines}
 use Rattle.text.specs.Parts.{comma, cut, join, lineEnd}
 use Rattle.number.specs.Number.{plain, print}
