@@ -118,17 +118,21 @@ module _ {M : Type 1} (𝓤 : URA M) (H : Heap 𝓤) (𝓜 : Model 𝓤 H) (𝓖
         ⌜ r ≡ judged total channelTypes figures text ⌝)
     pub judges-lent : Code judge-lent.ended judge-lent-code.routine
         (λ κs a r e.
-        let n = a .0 in let radius = a .1 .0 in let floor = a .1 .1 .0 in let settled = a .1 .1 .1 .0 in let moves = a .1 .1 .1 .1 .0 in let codes = now (a .1 .1 .1 .1 .1 .0) in let centre = now (a .1 .1 .1 .1 .1 .1 .0) in let text = now (a .1 .1 .1 .1 .1 .1 .1 .0) in
+        let n = a .0 in let radius = a .1 .0 in let floor = a .1 .1 .0 in let settled = a .1 .1 .1 .0 in
+        let moves = a .1 .1 .1 .1 .0 in let codes = now (a .1 .1 .1 .1 .1 .0) in let centre = now (a .1 .1 .1 .1 .1 .1 .0) in
+        let text = now (a .1 .1 .1 .1 .1 .1 .1 .0) in
         ⌜ r ≡ judged total channelTypes (figuresOf n codes (filledBall centre radius floor settled) moves) text ⌝)
     -- record read
     pub reads-record : Code record-read.ended record-read-code.routine
         (λ κs a r e.
-        let rows = now (a .0) in let m = a .1 .0 in let n = a .1 .1 .0 in let codes = now (a .1 .1 .1 .0) in let text = now (a .1 .1 .1 .1 .0) in
+        let rows = now (a .0) in let m = a .1 .0 in let n = a .1 .1 .0 in let codes = now (a .1 .1 .1 .0) in
+        let text = now (a .1 .1 .1 .1 .0) in
         ⌜ r ≡ recordRead total rowLimit channelTypes rows m n codes text ⌝)
     -- record written
     pub writes-record : Code writing.ended writing-code.routine
         (λ κs a r e.
-        let envelope = a .0 in let rows = now (a .1 .0) in let m = a .1 .1 .0 in let buffer = now (a .1 .1 .1 .0) in let buffer-after = now (e .1 .1 .1 .0) in
+        let envelope = a .0 in let rows = now (a .1 .0) in let m = a .1 .1 .0 in let buffer = now (a .1 .1 .1 .0) in
+        let buffer-after = now (e .1 .1 .1 .0) in
         ⌜ r ≡ recordWritten total rowLimit channelTypes rows m envelope (length buffer) ⌝
         ∗ ⌜ buffer-after ≡ filled (numberOf (r .outcome)) (r .length) (recordText channelTypes envelope) buffer ⌝)
     -- chart; by a second form that is lent codes and X
@@ -138,7 +142,8 @@ module _ {M : Type 1} (𝓤 : URA M) (H : Heap 𝓤) (𝓜 : Model 𝓤 H) (𝓖
         ⌜ r ≡ chartMark total channelTypes figures horizontal vertical ⌝)
     pub charts-lent : Code chart-lent.ended chart-lent-code.routine
         (λ κs a r e.
-        let scalars = a .0 in let codes = now (a .1 .0) in let centre = now (a .1 .1 .0) in let horizontal = a .1 .1 .1 .0 in let vertical = a .1 .1 .1 .1 .0 in
+        let scalars = a .0 in let codes = now (a .1 .0) in let centre = now (a .1 .1 .0) in let horizontal = a .1 .1 .1 .0 in
+        let vertical = a .1 .1 .1 .1 .0 in
         ⌜ r ≡ chartMark total channelTypes (lentFigures scalars codes centre) horizontal vertical ⌝)
     -- panel; by a second form that is lent codes and X
     pub shows-panel : Code panel.ended panel-code.routine

@@ -1,4 +1,6 @@
 -- Demand 2, limits: 8 never meets an envelope of ours.
+--     NeverMetBy8      figures within their limits, which no verdict, chart or panel refuses by 8
+--     WeightsLimited   the limits on X, s, M and L of weights
 --     promise-2-14     the limits on figures, kept by every drawing, check and accepted record (`LimitsKept`)
 -- For the total, the row limit and the types of the calls; the figures of any weights for any total.
 use Prim.Native.Nat.{_*_, _<_, _≤_, ℕ}

@@ -69,14 +69,16 @@ module _ {M : Type 1} (𝓤 : URA M) (H : Heap 𝓤) (𝓜 : Model 𝓤 H) (𝓖
         ∗ ⌜ length (drawOutput total rowLimit channelTypes reference) ≤ drawRoom ⌝)
     pub program-verifies : Code program-verify.ended program-verify-code.routine
         (λ κs a r e.
-        let reference = now (a .0) in let text = now (a .1 .0) in let output = now (a .1 .1 .0) in let output-after = now (e .1 .1 .0) in
+        let reference = now (a .0) in let text = now (a .1 .0) in let output = now (a .1 .1 .0) in
+        let output-after = now (e .1 .1 .0) in
         ⌜ r ≡ textWritten (verifyOutput total rowLimit channelTypes reference text) (length output) ⌝
         ∗ ⌜ output-after ≡ filled (numberOf (r .outcome)) (r .length) (verifyOutput total rowLimit channelTypes reference text) output ⌝
         ∗ ⌜ Part output-after (r .length) ⌝
         ∗ ⌜ length (verifyOutput total rowLimit channelTypes reference text) ≤ answerRoom ⌝)
     pub program-judges : Code program-judge.ended program-judge-code.routine
         (λ κs a r e.
-        let reference = now (a .0) in let text = now (a .1 .0) in let readings = now (a .1 .1 .0) in let output = now (a .1 .1 .1 .0) in let output-after = now (e .1 .1 .1 .0) in
+        let reference = now (a .0) in let text = now (a .1 .0) in let readings = now (a .1 .1 .0) in
+        let output = now (a .1 .1 .1 .0) in let output-after = now (e .1 .1 .1 .0) in
         ⌜ r ≡ textWritten (judgeOutput total rowLimit channelTypes reference text readings) (length output) ⌝
         ∗ ⌜ output-after ≡ filled (numberOf (r .outcome)) (r .length) (judgeOutput total rowLimit channelTypes reference text readings) output ⌝
         ∗ ⌜ Part output-after (r .length) ⌝
@@ -84,7 +86,8 @@ module _ {M : Type 1} (𝓤 : URA M) (H : Heap 𝓤) (𝓜 : Model 𝓤 H) (𝓖
         ∗ ⌜ length (judgeOutput total rowLimit channelTypes reference text readings) ≤ readingsRoom readings ⌝)
     pub program-shows-panel : Code program-panel.ended program-panel-code.routine
         (λ κs a r e.
-        let reference = now (a .0) in let text = now (a .1 .0) in let output = now (a .1 .1 .0) in let output-after = now (e .1 .1 .0) in
+        let reference = now (a .0) in let text = now (a .1 .0) in let output = now (a .1 .1 .0) in
+        let output-after = now (e .1 .1 .0) in
         ⌜ r ≡ textWritten (panelOutput total rowLimit channelTypes reference text) (length output) ⌝
         ∗ ⌜ output-after ≡ filled (numberOf (r .outcome)) (r .length) (panelOutput total rowLimit channelTypes reference text) output ⌝
         ∗ ⌜ Part output-after (r .length) ⌝

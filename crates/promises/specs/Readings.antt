@@ -1,5 +1,6 @@
 -- Demand 2, readings, for the total and the types of the calls.
 --     RowAsReading    a reading with the values of a row, against an envelope of n channels of these codes
+--     AcceptedReading what an accepted reading is, and its verdict
 --     promise-2-9     what a reading is and what its verdict says (`ReadingsJudged`)
 use Prim.Native.Nat.{_+_, _<_, _≤_, ℕ}
 use mathlib.Core.Path.{_∙_, _≡_, ap}
@@ -54,7 +55,7 @@ abbrev distance : Figures → List Written → ℕ
 distance f values = scaledSquaredDistance total (f .n) (centreOf (f .ball .«scaled_centre»)) (pointOf values)
 
 -- what an accepted reading is: the printing of a label, the envelope's tags and values within their ranges, `<v` kept
-pub record AcceptedText (f : Figures) (text : List ℕ) : Type 0 where
+pub record AcceptedReading (f : Figures) (text : List ℕ) : Type 0 where
   pub figures-within : figuresKnown total channelTypes f ≡ true
   pub label : List ℕ
   pub values : List Written
@@ -74,7 +75,7 @@ pub record ReadingsJudged : Type 0 where
   pub form-printed : (n : ℕ) (text : List ℕ) (reading : Reading) → readingOf n text ≡ some reading → InForm n reading × (printReading reading ≡ text)
   pub printed-form : (n : ℕ) (reading : Reading) → InForm n reading → readingOf n (printReading reading) ≡ some reading
   -- accepted exactly when it is the printing of a label, the envelope's tags and values within their ranges
-  pub accepted : (f : Figures) (text : List ℕ) → verdictNumber (judged total channelTypes f text) ≡ 0 → AcceptedText f text
+  pub accepted : (f : Figures) (text : List ℕ) → verdictNumber (judged total channelTypes f text) ≡ 0 → AcceptedReading f text
   pub accepts : (f : Figures) → figuresKnown total channelTypes f ≡ true → (label : List ℕ) (values : List Written)
       → isLabel label ≡ true → length values ≡ f .n → valuesInRange channelTypes (channelCodes f) values ≡ true
       → verdictNumber (judged total channelTypes f (textOf (channelCodes f) label values)) ≡ 0

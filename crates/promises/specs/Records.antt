@@ -1,4 +1,6 @@
 -- Demand 2, records, for the total, the row limit and the types of the calls.
+--     Agreeing         a record in form, with what it states, agrees with rows and codes
+--     RecordLines      a record as it is printed, line by line
 --     promise-2-10     what a record in form is, and which one is accepted (`RecordsRead`)
 use Prim.Native.Nat.{ℕ}
 use mathlib.Core.Path.{_∙_, _≡_, ap, refl}

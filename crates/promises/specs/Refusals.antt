@@ -1,5 +1,6 @@
 -- Demand 1, which refusal is returned where several apply, for the total, the row limit and the types of the calls. The laws of a call
 -- stand in the order of its tests; each asks that the tests before it are passed.
+--     DrawingRefused, CheckRefused, RecordRefused, WritingRefused, ChartRefused, PanelRefused     the order of one call
 --     promise-1-4     the order of refusals, call by call (`RefusalOrder`)
 --     promise-1-5     a reading's tags are compared before any value meets its range (`TagsFirst`)
 use Prim.Native.Nat.{_<_, _≤_, ℕ}

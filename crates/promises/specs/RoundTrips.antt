@@ -1,5 +1,9 @@
 -- Demand 2, records that are written, for the total, the row limit and the types of the calls.
---     promise-2-11     what is read gives its own bytes, what is written gives its own envelope (`RecordsWritten`)
+--     AcceptedRecord       every accepted record, written
+--     WrittenEnvelope      every envelope, written and read back
+--     OwnEnvelopes         every envelope that is drawn or that the check gives
+--     ProgramsTogether     the programs on an accepted reference text
+--     promise-2-11         what is read gives its own bytes, what is written gives its own envelope (`RecordsWritten`)
 use Prim.Native.Nat.{_*_, _+_, _<_, _≤_, min, ℕ}
 use mathlib.Core.Path.{_≡_}
 use mathlib.Core.Bool.{true}

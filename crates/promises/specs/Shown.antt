@@ -1,6 +1,9 @@
 -- Demand 2, chart, panel and trial figures.
 --     IsFraction         a binary64 number is z over the total, exactly
 --     ProjectionHeld     the disc of the chart holds each row's projection
+--     ChartShown         an accepted chart
+--     PanelSteps         what the panel shows of each channel
+--     NearestStep        the nearest whole step
 --     promise-2-12       what chart and panel show (`ChartsAndPanels`)
 --     promise-2-13       the starred trial figures (`TrialFigures`)
 -- Channels of a chart count from 1, those of a point and of the panel from 0.

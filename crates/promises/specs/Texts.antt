@@ -1,5 +1,7 @@
 -- Demand 2, the texts: plain numbers, reference texts and their labels, for the row limit and the types of the calls.
 --     promise-2-6     plain numbers, printed and read (`PlainNumbers`)
+--     Values          a value as it is written, its range, and what it reads as
+--     AcceptedText    what an accepted reference text is and gives
 --     promise-2-7     what a value, a heading, a row and a reference text are (`ReferenceTexts`)
 --     promise-2-8     the label of a row as a part of the text (`LabelsOfRows`)
 use Prim.Native.Nat.{_*_, _+_, _-_, _<_, _≤_, ℕ}
