@@ -85,12 +85,12 @@ module _ {M : Type 1} (𝓤 : URA M) (H : Heap 𝓤) (𝓜 : Model 𝓤 H) (𝓖
   Code = Answers 𝓤 H 𝓜 𝓖 𝓡
 
   pub record Calls : Type 1 where
-    -- drawing
+    -- drawing: r ≡ drawing total rowLimit rows m n budget, and where accepted demand 3 and the limits hold of it
     pub draws : Code draw.ended draw-code.routine
         (λ κs a r e.
         let rows = now (a .0) in let m = a .1 .0 in let n = a .1 .1 .0 in let budget = a .1 .1 .1 .0 in
         ⌜ DrawPromise rows m n budget r ⌝)
-    -- check
+    -- check: r ≡ checking total rowLimit rows m n weights, and where accepted demand 3 holds of it
     pub checks : Code check.ended check-code.routine
         (λ κs a r e.
         let rows = now (a .0) in let m = a .1 .0 in let n = a .1 .1 .0 in let weights = now (a .1 .1 .1 .0) in

@@ -1,4 +1,4 @@
--- Demand 2, the drawing and the check, for any total D and row limit.
+-- Demand 2, the drawing and the check, for any total D and row limit. That the code answers by these definitions is in Calls.
 --     promise-2-4     a drawing is the iteration of the move from all weight on row 1 (`DrawingMade`)
 --     promise-2-5     what the check accepts and gives (`CheckMade`)
 use Prim.Native.Nat.{_<_, _≤_, suc, ℕ}
