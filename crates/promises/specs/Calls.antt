@@ -80,6 +80,7 @@ module _ {M : Type 1} (𝓤 : URA M) (H : Heap 𝓤) (𝓜 : Model 𝓤 H) (𝓖
 
   open Notation.Connectives 𝓛 using (⌜_⌝, _∗_)
 
+  -- what is proved of the code of a call, in these models
   abbrev Code : (T : Ended) → Routine
       → ((κs : Lfts (T .signature .lifetimes)) → Args (T .signature) κs → Res (T .signature) κs → AtExit T κs → SProp 𝓤) → Type 1
   Code = Answers 𝓤 H 𝓜 𝓖 𝓡
