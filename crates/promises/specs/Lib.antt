@@ -1,0 +1,22 @@
+-- The promises of docs/PROMISES.md, each id one name: by demand, and what several of them say before them.
+-- ---- demand 1: every call ends with a result or a listed refusal
+pub mod Answering
+pub mod Calls
+pub mod ProgramCalls
+pub mod Exports
+pub mod Programs
+pub mod ToldRefusals
+pub mod Results
+pub mod RefusedTexts
+pub mod RefusedPrograms
+pub mod Refusals
+-- ---- demand 2: exactly the published moves, exactly the written form
+pub mod Moves
+pub mod Drawings
+pub mod Texts
+pub mod Readings
+pub mod Records
+pub mod RoundTrips
+pub mod Tight
+pub mod Shown
+pub mod Limited

@@ -1,0 +1,118 @@
+-- Demand 2, records, for the total, the row limit and the types of the calls.
+--     Agreeing         a record in form, with what it states, agrees with rows and codes
+--     RecordLines      a record as it is printed, line by line
+--     promise-2-10     what a record in form is, and which one is accepted (`RecordsRead`)
+use Prim.Native.Nat.{ℕ}
+use mathlib.Core.Path.{_∙_, _≡_, ap, refl}
+use mathlib.Core.Bool.{_&&_, true}
+use mathlib.Core.List.{List, [], _++_, _∷_, map}
+use mathlib.Core.Option.{some}
+use lib.IntN.{pos, ℤ}
+use lib.ListN.{drop, length, take}
+use native.Mathlib.Omega.{arith}
+use Rattle.refusal.specs.Number.{record-form}
+use Rattle.refusal.specs.Outcome.{numberOf, refusedAt}
+use Rattle.refusal.specs.declared.Outcome.the-variants.{Accepted}
+use Rattle.limits.specs.Limits.{rowLimit, total}
+use Rattle.ball.specs.declared.Ball.{Ball}
+use Rattle.checking.specs.Check.{checking}
+use Rattle.text.specs.Lines.{printLines}
+use Rattle.text.specs.Parts.{comma, join, textWithin}
+use Rattle.number.specs.Number.{print}
+use Rattle.printing.specs.Contracts.{numbersAfter}
+use Rattle.channel.specs.Channel.{channelTypes}
+use Rattle.channel.specs.ChannelLaws.{house-sound}
+use Rattle.heading.specs.Heading.{printHeading}
+use Rattle.agreement.specs.Agreement.{agrees, allZero, ballAgrees}
+use Rattle.record_lines.specs.Lines.{Result, Weight, centreWord, letterOf, printCentre, printResult, printWeight, recordWord, resultWord, weightWord}
+use Rattle.record_form.specs.Record.{Form, Record, Within, faulty, form, printRecord, sound}
+use Rattle.record_form.specs.RecordLaws.{form-printed, printed-form}
+use Rattle.record_form.specs.Weights.{weightsOf}
+use Rattle.record_read.specs.Contracts.{ballOfRecord, formAnswer, givenWithin, notRead, recordRead, statedEnvelope}
+use Rattle.record_read.specs.ReadLaws.{accepted-read, accepting, not-11-printed, printed-not-11, read-accepted, read-form}
+use Rattle.record_read.specs.declared.EnvelopeRead.{EnvelopeRead}
+
+abbrev formOf : List ℕ → Form Record
+formOf = form rowLimit channelTypes
+
+module _ (rows : List ℤ) (m n : ℕ) (codes text : List ℕ) where
+  abbrev answer : EnvelopeRead
+  answer = recordRead total rowLimit channelTypes rows m n codes text
+
+  -- the record r is that of the text, states this ball, and agrees with the rows and the codes
+  pub record Agreeing (r : Record) (ball : Ball) : Type 0 where
+    pub given : givenWithin rowLimit channelTypes rows m n codes ≡ true
+    pub some-text : textWithin text ≡ true
+    pub in-form : formOf text ≡ sound r
+    pub states : ballOfRecord r ≡ some ball
+    pub same-codes : take n codes ≡ r .codes
+    pub agreeing : agrees total rowLimit rows m (length (take n codes)) ball (weightsOf rowLimit (r .weights)) ≡ true
+
+  -- the lines of a record: `ENV`, n, tags; `C` and X; `R`, M, L, moves, `S` or `B`; `W`, row, weight
+  pub record RecordLines : Type 0 where
+    pub whole : (r : Record) → printRecord channelTypes r
+        ≡ printLines (printHeading recordWord channelTypes (r .codes) ∷ printCentre (r .scaledCentre) ∷ printResult (r .result) ∷ map printWeight (r .weights))
+    pub centre : (X : List ℤ) → printCentre X ≡ join comma (centreWord ∷ map print X)
+    pub result : (x : Result) → printResult x
+        ≡ join comma (resultWord ∷ map print (x .scaledSquaredRadius ∷ x .scaledLowerBound ∷ pos (x .moves) ∷ [])) ++ (comma ∷ letterOf (x .settled))
+    pub weight : (x : Weight) → printWeight x ≡ join comma (weightWord ∷ map print (pos (x .row) ∷ pos (x .weight) ∷ []))
+
+  pub record RecordsRead : Type 0 where
+    pub printed-lines : RecordLines
+    -- a text is in form exactly when it is the printing of a record within the limits
+    pub form-printed : (r : Record) → formOf text ≡ sound r → Within rowLimit channelTypes r × (printRecord channelTypes r ≡ text)
+    pub printed-form : (r : Record) → Within rowLimit channelTypes r → formOf (printRecord channelTypes r) ≡ sound r
+    -- else 11 at the first faulty line
+    pub faulty-line : (line : ℕ) → givenWithin rowLimit channelTypes rows m n codes ≡ true → textWithin text ≡ true → formOf text ≡ faulty line
+        → answer ≡ notRead rowLimit (refusedAt record-form line)
+    -- so that a text of 1 to 65,536 bytes is not met by 11 exactly when it is such a printing
+    pub not-11-printed : givenWithin rowLimit channelTypes rows m n codes ≡ true → textWithin text ≡ true
+        → (numberOf (answer .outcome) ≡ record-form → ⊥) → (r : Record) × Within rowLimit channelTypes r × (printRecord channelTypes r ≡ text)
+    pub printed-not-11 : (r : Record) → Within rowLimit channelTypes r → printRecord channelTypes r ≡ text → numberOf (answer .outcome) ≡ record-form → ⊥
+    -- accepted exactly when it agrees with rows and tags; the envelope is what it states
+    pub accepted : answer .outcome ≡ Accepted → (r : Record) × (ball : Ball) × Agreeing r ball × (answer .envelope ≡ statedEnvelope rowLimit r ball)
+    pub accepts : (r : Record) (ball : Ball) → Agreeing r ball → answer ≡ accepting (statedEnvelope rowLimit r ball)
+    -- agreement is with what the check gives of the weights, none of which stands past the m rows
+    pub agreement : (ball : Ball) (ws : List ℕ)
+        → agrees total rowLimit rows m n ball ws ≡ (allZero (drop m ws) && ballAgrees n ball (checking total rowLimit rows m n (take m ws)))
+
+  pub promise-2-10 : RecordsRead
+  unfolding agrees printRecord printCentre printResult printWeight numbersAfter
+  promise-2-10 =
+      record {
+        printed-lines = record { whole = λ r. refl; centre = λ X. refl; result = λ x. refl; weight = λ x. refl };
+        form-printed = form-printed rowLimit channelTypes house-sound text;
+        printed-form = λ r within. printed-form rowLimit channelTypes house-sound r within (omega arith);
+        faulty-line = λ line given some-text is.
+            read-form total rowLimit channelTypes rows m n codes text given some-text ∙ ap (formAnswer total rowLimit rows m (take n codes)) is;
+        not-11-printed = not-11-printed total rowLimit channelTypes house-sound rows m n codes text;
+        printed-not-11 = printed-not-11 total rowLimit channelTypes house-sound rows m n codes text (omega arith);
+        accepted = λ is.
+            let a = accepted-read total rowLimit channelTypes rows m n codes text is in (
+              a .stated,
+              a .ball,
+              record {
+                given = a .given;
+                some-text = a .some-text;
+                in-form = a .in-form;
+                states = a .states;
+                same-codes = a .same-codes;
+                agreeing = a .agreeing;
+              },
+              a .envelope-is,
+            );
+        accepts = λ r ball a.
+            read-accepted total rowLimit channelTypes rows m n codes text (statedEnvelope rowLimit r ball)
+            (record {
+              given = a .given;
+              some-text = a .some-text;
+              stated = r;
+              ball = ball;
+              in-form = a .in-form;
+              states = a .states;
+              same-codes = a .same-codes;
+              agreeing = a .agreeing;
+              envelope-is = refl;
+            });
+        agreement = λ ball ws. refl;
+      }
