@@ -18,7 +18,7 @@ use Rattle.checking.specs.Check.{checking}
 use Rattle.checking.specs.CheckLaws.{checking-checked}
 use Rattle.checking.specs.Demand.{checking-accepted, checking-accepts}
 use Rattle.checking.specs.declared.Checked.{Checked}
-use Rattle.drawing.specs.Demand.{drawing-accepted, drawing-accepts, drawing-is, drawing-spent, drawing-total}
+use Rattle.drawing.specs.Demand.{drawing-accepted, drawing-accepts, drawing-is, drawing-spent, drawing-total, run-total}
 use Rattle.drawing.specs.Draw.{Run, drawing, drawn, runFrom, start}
 use Rattle.drawing.specs.DrawnWeights.{drawing-checks}
 use Rattle.drawing.specs.RunLaws.{ended, run-step, run-stop, run-zero}
@@ -48,7 +48,8 @@ module _ (D limit : ℕ) (rows : List ℤ) (m n : ℕ) where
     -- Budget only when exactly the budget has been moved
     pub budget-spent : drawing D limit rows m n b .outcome ≡ Accepted
         → (drawing D limit rows m n b .moves ≤ b) × (drawing D limit rows m n b .ball .settled ≡ false → drawing D limit rows m n b .moves ≡ b)
-    -- the weights sum to D
+    -- the weights keep their sum through any number of moves, from any weights, so that those of a drawing sum to D
+    pub sum-kept : (left made : ℕ) (ws : List ℕ) → 0 < m → m ≤ length ws → weightsTotal m (running left made ws .weights) ≡ weightsTotal m ws
     pub weights-sum : drawing D limit rows m n b .outcome ≡ Accepted → 0 < D → weightsTotal m (drawing D limit rows m n b .weights) ≡ D
 
   pub promise-2-4 : (b : ℕ) → DrawingMade b
@@ -63,6 +64,7 @@ module _ (D limit : ℕ) (rows : List ℤ) (m n : ℕ) where
         accepted = drawing-accepted D limit rows m n b;
         carries = drawing-is D limit rows m n b;
         budget-spent = drawing-spent D limit rows m n b;
+        sum-kept = run-total D m n (coordinate rows n);
         weights-sum = drawing-total D limit rows m n b;
       }
 
