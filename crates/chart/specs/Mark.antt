@@ -14,7 +14,7 @@ use lib.Dec.{leb}
 use lib.IntN.{ℤ, pos}
 use lib.Ieee.{Float}
 use Rattle.refusal.specs.Number.{outside-limits}
-use Rattle.refusal.specs.Outcome.{choose}
+use Rattle.refusal.specs.Outcome.{require}
 use Rattle.geometry.specs.Places.{centreOf}
 use Rattle.channel.specs.Channel.{Types}
 use Rattle.envelope.specs.Figures.{figuresKnown}
@@ -65,6 +65,5 @@ markOf D point (suc k) = Disc point (fractionOf D (pos (ceilingRoot (suc k))))
 -- 8 for a figure or a channel outside its limits
 unfoldable pub chartMark : ℕ → Types → Figures → ℕ → ℕ → Mark
 chartMark D types f h v =
-    choose (figuresKnown D types f && (channelWithin (f .n) h && channelWithin (f .n) v))
-    (λ _. markOf D (projectedCentre D f h v) (f .ball .«scaled_squared_radius»))
-    (λ _. refusedMark outside-limits)
+    require (figuresKnown D types f && (channelWithin (f .n) h && channelWithin (f .n) v)) (refusedMark outside-limits) (λ _.
+    markOf D (projectedCentre D f h v) (f .ball .«scaled_squared_radius»))

@@ -20,7 +20,7 @@ use lib.Dec.{leb, lit<}
 use lib.IntN.{ℤ, pos, natAbs}
 use Rattle.integers.specs.Tests.{both, nonzero}
 use Rattle.refusal.specs.Number.{outside-limits}
-use Rattle.refusal.specs.Outcome.{choose}
+use Rattle.refusal.specs.Outcome.{require}
 use Rattle.limits.specs.Limits.{total}
 use Rattle.channel.specs.Channel.{Types}
 use Rattle.envelope.specs.Figures.{figuresKnown}
@@ -51,7 +51,7 @@ disc-of D point (suc k) some = refl
 module _ (D : ℕ) (types : Types) (f : Figures) (h v : ℕ) where
   chosen : (b : Bool) → Mark
   chosen b =
-      choose b (λ _. markOf D (projectedCentre D f h v) (f .ball .«scaled_squared_radius»)) (λ _. refusedMark outside-limits)
+      require b (refusedMark outside-limits) (λ _. markOf D (projectedCentre D f h v) (f .ball .«scaled_squared_radius»))
 
   pub chart-marks : figuresKnown D types f ≡ true → channelWithin (f .n) h ≡ true → channelWithin (f .n) v ≡ true
       → chartMark D types f h v ≡ markOf D (projectedCentre D f h v) (f .ball .«scaled_squared_radius»)

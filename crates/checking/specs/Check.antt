@@ -8,7 +8,7 @@ use lib.Dec.{eqb}
 use lib.IntN.{ℤ}
 use lib.ListN.{length}
 use Rattle.refusal.specs.Number.{outside-limits, disagreement}
-use Rattle.refusal.specs.Outcome.{refused, choose}
+use Rattle.refusal.specs.Outcome.{refused, require}
 use Rattle.refusal.specs.declared.Outcome.{Outcome}
 use Rattle.refusal.specs.declared.Outcome.the-variants.{Accepted}
 use Rattle.geometry.specs.Move.{weightOf}
@@ -23,8 +23,6 @@ notChecked o = record { outcome = o; ball = emptyBall }
 -- 8 (a list that is not of m places included), then 12 for a sum other than D, then the figures
 unfoldable pub checking : ℕ → ℕ → List ℤ → ℕ → ℕ → List ℕ → Checked
 checking D limit rows m n ws =
-    choose (rowsWithin limit rows m n && eqb (length ws) m)
-    (λ _. choose (eqb (weightsTotal m ws) D)
-    (λ _. record { outcome = Accepted; ball = ballOf D m n (coordinate rows n) (weightOf ws) })
-    (λ _. notChecked (refused disagreement)))
-    (λ _. notChecked (refused outside-limits))
+    require (rowsWithin limit rows m n && eqb (length ws) m) (notChecked (refused outside-limits)) (λ _.
+    require (eqb (weightsTotal m ws) D) (notChecked (refused disagreement)) (λ _.
+    record { outcome = Accepted; ball = ballOf D m n (coordinate rows n) (weightOf ws) }))

@@ -33,8 +33,10 @@ module _ (D limit : ℕ) (rows : List ℤ) (m n : ℕ) (ws : List ℕ) where
   pub checking-zero : numberOf (checking D limit rows m n ws .outcome) ≡ 0 → checking D limit rows m n ws .outcome ≡ Accepted
   unfolding checking
   checking-zero =
-      each-answer (λ (r : Checked). numberOf (r .outcome) ≡ 0 → r .outcome ≡ Accepted)
-      (rowsWithin limit rows m n && eqb (length ws) m) (eqb (weightsTotal m ws) D) (λ _ _ _. refl) never-zero never-zero
+      let Zero : Checked → Type 0 = λ r. numberOf (r .outcome) ≡ 0 → r .outcome ≡ Accepted in
+      each-answer Zero (rowsWithin limit rows m n && eqb (length ws) m) (λ _. never-zero) (λ _.
+      each-answer Zero (eqb (weightsTotal m ws) D) (λ _. never-zero) (λ _ _.
+      refl))
 
   module _ (accepted : checking D limit rows m n ws .outcome ≡ Accepted) where
     -- what acceptance says; the converse is `checking-accepts`
@@ -43,10 +45,10 @@ module _ (D limit : ℕ) (rows : List ℤ) (m n : ℕ) (ws : List ℕ) where
     checking-accepted =
         let within = rowsWithin limit rows m n in
         let places = eqb (length ws) m in
-        each-answer (λ (r : Checked). r .outcome ≡ Accepted → (within ≡ true) × (length ws ≡ m) × (weightsTotal m ws ≡ D))
-        (within && places) (eqb (weightsTotal m ws) D)
-        (λ h k _. (both within places h .0, eqb-true (length ws) m (both within places h .1), eqb-true (weightsTotal m ws) D k))
-        never-accepted never-accepted accepted
+        let Says : Checked → Type 0 = λ r. r .outcome ≡ Accepted → (within ≡ true) × (length ws ≡ m) × (weightsTotal m ws ≡ D) in
+        each-answer Says (within && places) (λ _. never-accepted) (λ h.
+        each-answer Says (eqb (weightsTotal m ws) D) (λ _. never-accepted) (λ k _.
+        (both within places h .0, eqb-true (length ws) m (both within places h .1), eqb-true (weightsTotal m ws) D k))) accepted
 
     pub checking-tight : 0 < D → Tight D m n (coordinate rows n) (checking D limit rows m n ws .ball)
     checking-tight positive =

@@ -9,7 +9,7 @@
 --     drew                                                  what `drawn_within` puts together
 use Prim.Native.Nat.{ℕ, _+_, _≤_, _<_}
 use mathlib.Core.Path.{_≡_, sym, _∙_, ap, ap₂, subst}
-use mathlib.Core.Bool.{Bool, true, false, _&&_}
+use mathlib.Core.Bool.{Bool, true, false, not, _&&_}
 use mathlib.Core.Logic.{⊎-elim}
 use mathlib.Core.List.{List}
 use native.Mathlib.Omega.{arith}
@@ -18,7 +18,7 @@ use lib.IntN.{ℤ}
 use lib.ListN.{length}
 use Rattle.refusal.specs.declared.Outcome.the-variants.{Accepted}
 use Rattle.geometry.specs.Figures.{scaledCentre}
-use Rattle.geometry.specs.Move.{difference, separation, cappedStep, transfer, settled, moveWeight, moved, weightOf}
+use Rattle.geometry.specs.Move.{isSettled, difference, separation, cappedStep, transfer, settled, moveWeight, moved, weightOf}
 use Rattle.geometry.specs.Table.{coordinate}
 use Rattle.limits.specs.Limits.{total, rowLimit}
 use Rattle.geometry.specs.Places.{centreList}
@@ -36,7 +36,7 @@ use Rattle.ball.specs.Ball.{ballOf}
 use Rattle.drawing.specs.Draw.{start, runFrom, drawn}
 use Rattle.drawing.specs.Contracts.{Ran}
 use Rattle.drawing.specs.RunLaws.{Running, running-start, running-turn, running-stopped, running-spent}
-use Rattle.drawing.specs.DrawLaws.{goes-on, stops, is-settled, not-settled, start-length, start-total}
+use Rattle.drawing.specs.DrawLaws.{goes-on, stops, start-length, start-total}
 
 -- D is at most what the machine's numbers hold the figures of
 pub record Carried (D : ℕ) (rows : List ℤ) (m n budget : ℕ) (weights : List ℕ) (centre : List ℤ) (pair : Pair) (moves : ℕ) : Type 0 where
@@ -83,17 +83,18 @@ module _ {D : ℕ} {rows : List ℤ} {m n budget : ℕ} {weights : List ℕ} {ce
   w = weightOf weights
 
   abbrev test : Bool
-  test = ltb (pair .separation) (pair .difference) && ltb moves budget
+  test = not (isSettled (pair .difference) (pair .separation)) && ltb moves budget
 
-  same : test ≡ (ltb (separation D m n a w) (difference D m n a w) && ltb moves budget)
-  same = ap₂ (λ d g. ltb d g && ltb moves budget) (here .paired .separation-is) (here .paired .difference-is)
+  same : test ≡ (not (settled D m n a w) && ltb moves budget)
+  unfolding settled
+  same = ap₂ (λ g d. not (isSettled g d) && ltb moves budget) (here .paired .difference-is) (here .paired .separation-is)
 
   pub ends : {flag : Bool} → flag ≡ test → flag ≡ false
       → Ran D rowLimit rows m n budget record { weights = weights; «scaled_centre» = centre; pair = pair; moves = moves }
   unfolding runFrom
   ends tells left =
-      let whole = ⊎-elim (λ h. running-stopped (here .running) (is-settled D m n a weights h)) (running-spent (here .running))
-      (stops (separation D m n a w) (difference D m n a w) moves budget (sym same ∙ sym tells ∙ left)) in
+      let whole = ⊎-elim (running-stopped (here .running)) (running-spent (here .running))
+      (stops (settled D m n a w) moves budget (sym same ∙ sym tells ∙ left)) in
       record {
         weights-are = sym (ap (λ r. r .weights) whole);
         moves-are = sym (ap (λ r. r .moves) whole);
@@ -106,17 +107,14 @@ module _ {D : ℕ} {rows : List ℤ} {m n budget : ℕ} {weights : List ℕ} {ce
   centre-good = subst (CentreWithin n) (sym (here .centre-is)) (centre-within table (weights-within (here .total-most) (here .weights-good)))
 
   module _ (goes : test ≡ true) where
-    both : (separation D m n a w < difference D m n a w) × (moves < budget)
-    both = goes-on (separation D m n a w) (difference D m n a w) moves budget (sym same ∙ goes)
-
-    unsettled : settled D m n a w ≡ false
-    unsettled = not-settled D m n a weights (both .0)
+    both : (settled D m n a w ≡ false) × (moves < budget)
+    both = goes-on (settled D m n a w) moves budget (sym same ∙ goes)
 
     pub more : moves < budget
     more = both .1
 
     pub apart : 0 < pair .separation
-    apart = omega (arith, separation-positive D m n a w (here .total-some) (table .some-row) unsettled, here .paired)
+    apart = omega (arith, separation-positive D m n a w (here .total-some) (table .some-row) (both .0), here .paired)
 
     -- whatever rows the turn takes, weights and X stay together; only the near and the far row make it the move
     module _ {t from : ℕ} (stepped : Bounded (w from) t (cappedStep (pair .difference) (pair .separation) (w from))) (hf : from < m) where
@@ -150,7 +148,7 @@ module _ {D : ℕ} {rows : List ℤ} {m n budget : ℕ} {weights : List ℕ} {ce
               record {
                 total-some = here .total-some;
                 total-most = here .total-most;
-                running = running-turn (here .running) unsettled more (move ∙ is-move);
+                running = running-turn (here .running) (both .0) more (move ∙ is-move);
                 places = ap length move ∙ moveWeight-length t from to weights ∙ here .places;
                 centre-is = shifted-is;
                 weights-good = moved-good;

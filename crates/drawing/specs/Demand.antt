@@ -79,16 +79,20 @@ module _ (D limit : ℕ) (rows : List ℤ) (m n b : ℕ) where
   pub drawing-zero : numberOf (drawing D limit rows m n b .outcome) ≡ 0 → drawing D limit rows m n b .outcome ≡ Accepted
   unfolding drawing
   drawing-zero =
-      each-answer (λ (r : Drawing). numberOf (r .outcome) ≡ 0 → r .outcome ≡ Accepted)
-      (rowsWithin limit rows m n) (leb b budgetLimit) (λ _ _ _. refl) never-zero never-zero
+      let Zero : Drawing → Type 0 = λ r. numberOf (r .outcome) ≡ 0 → r .outcome ≡ Accepted in
+      each-answer Zero (rowsWithin limit rows m n) (λ _. never-zero) (λ _.
+      each-answer Zero (leb b budgetLimit) (λ _. never-zero) (λ _ _.
+      refl))
 
   module _ (accepted : drawing D limit rows m n b .outcome ≡ Accepted) where
     -- what acceptance says; the converse is `drawing-accepts`
     pub drawing-accepted : (rowsWithin limit rows m n ≡ true) × (b ≤ budgetLimit)
     unfolding drawing
     drawing-accepted =
-        each-answer (λ (r : Drawing). r .outcome ≡ Accepted → (rowsWithin limit rows m n ≡ true) × (b ≤ budgetLimit))
-        (rowsWithin limit rows m n) (leb b budgetLimit) (λ h k _. (h, leb-true b budgetLimit k)) never-accepted never-accepted accepted
+        let Says : Drawing → Type 0 = λ r. r .outcome ≡ Accepted → (rowsWithin limit rows m n ≡ true) × (b ≤ budgetLimit) in
+        each-answer Says (rowsWithin limit rows m n) (λ _. never-accepted) (λ h.
+        each-answer Says (leb b budgetLimit) (λ _. never-accepted) (λ k _.
+        (h, leb-true b budgetLimit k))) accepted
 
     pub drawing-is : drawing D limit rows m n b ≡ drawn D m n (coordinate rows n) (runFrom D m n (coordinate rows n) b 0 (start limit D))
     drawing-is = drawing-drawn D limit rows m n b (drawing-accepted .0) (drawing-accepted .1)

@@ -5,13 +5,13 @@
 --     drawn D m n a r, notDrawn limit o    an accepted and a refused drawing
 --     drawing D limit rows m n b           what the call answers for a budget of b
 use Prim.Native.Nat.{ℕ, zero, suc}
-use mathlib.Core.Bool.{Bool, true, false}
+use mathlib.Core.Bool.{Bool, cond}
 use mathlib.Core.List.{List}
 use lib.Dec.{leb}
 use lib.IntN.{ℤ}
 use lib.ListN.{replicate, set}
 use Rattle.refusal.specs.Number.{outside-limits, budget-too-large}
-use Rattle.refusal.specs.Outcome.{refused, choose}
+use Rattle.refusal.specs.Outcome.{refused, require}
 use Rattle.refusal.specs.declared.Outcome.{Outcome}
 use Rattle.refusal.specs.declared.Outcome.the-variants.{Accepted}
 use Rattle.geometry.specs.Move.{settled, moved, weightOf}
@@ -30,7 +30,7 @@ pub record Run : Type 0 where
 unfoldable pub run : (List ℕ → Bool) → (List ℕ → List ℕ) → ℕ → ℕ → List ℕ → Run
 run stop next zero made ws = record { weights = ws; moves = made }
 run stop next (suc b) made ws =
-    elim (stop ws) [ true ↦ record { weights = ws; moves = made } | false ↦ run stop next b (suc made) (next ws) ]
+    cond (stop ws) (record { weights = ws; moves = made }) (run stop next b (suc made) (next ws))
 
 -- It starts with all weight on row 1
 unfoldable pub start : ℕ → ℕ → List ℕ
@@ -51,8 +51,6 @@ notDrawn limit o = record { outcome = o; ball = emptyBall; weights = replicate l
 -- 8, then 9, then the drawing
 unfoldable pub drawing : ℕ → ℕ → List ℤ → ℕ → ℕ → ℕ → Drawing
 drawing D limit rows m n b =
-    choose (rowsWithin limit rows m n)
-    (λ _. choose (leb b budgetLimit)
-    (λ _. drawn D m n (coordinate rows n) (runFrom D m n (coordinate rows n) b 0 (start limit D)))
-    (λ _. notDrawn limit (refused budget-too-large)))
-    (λ _. notDrawn limit (refused outside-limits))
+    require (rowsWithin limit rows m n) (notDrawn limit (refused outside-limits)) (λ _.
+    require (leb b budgetLimit) (notDrawn limit (refused budget-too-large)) (λ _.
+    drawn D m n (coordinate rows n) (runFrom D m n (coordinate rows n) b 0 (start limit D))))

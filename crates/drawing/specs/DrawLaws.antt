@@ -1,17 +1,16 @@
 -- Laws of the drawing.
 --     runFrom-spent                               the moves are at most the budget, and all of it where the weights are not Settled
 --     goes-on, stops                              the test for another move
---     is-settled, not-settled                     whether the weights of a list are Settled
 --     start-length, start-total, start-rest       the places of the first weights, their sum, and those past the first row
 --     drawing-limits, -budget, -drawn             the three answers of a drawing
 use Prim.Native.Nat.{ℕ, _≤_, _<_}
 use mathlib.Core.Path.{_≡_, refl, _∙_}
-use mathlib.Core.Bool.{Bool, true, false, _&&_}
+use mathlib.Core.Bool.{Bool, true, false, not, _&&_}
 use mathlib.Core.List.{List}
 use mathlib.Core.Logic.{_⊎_, inl, inr}
 use native.Mathlib.Decide.{decLt}
 use native.Mathlib.Omega.{arith}
-use borrow.Author.Tests.{ltb-true, ltb-false, le-leb, lt-leb}
+use borrow.Author.Tests.{ltb-true, ltb-false, le-leb, lt-leb, not-true}
 use lib.Dec.{ltb}
 use lib.IntN.{ℤ}
 use lib.ListN.{length, replicate, length-set, length-replicate, getD-replicate, List·getD-eq-default}
@@ -19,7 +18,7 @@ use lib.Seq.{getD-set-other}
 use Rattle.integers.specs.SumLaws.{sumℕ-set, sumℕ-zero, sumℕ-cong}
 use Rattle.refusal.specs.Number.{outside-limits, budget-too-large}
 use Rattle.refusal.specs.Outcome.{refused}
-use Rattle.geometry.specs.Move.{difference, separation, settled, moved, weightOf}
+use Rattle.geometry.specs.Move.{settled, moved, weightOf}
 use Rattle.geometry.specs.Table.{coordinate, rowsWithin}
 use Rattle.limits.specs.Limits.{budgetLimit}
 use Rattle.geometry.specs.Places.{weightsTotal}
@@ -27,38 +26,23 @@ use Rattle.integers.specs.Tests.{both}
 use Rattle.drawing.specs.Draw.{start, runFrom, drawn, notDrawn, drawing}
 use Rattle.drawing.specs.RunLaws.{Spent, run-spent}
 
--- ---- the moves of document 01; another move is made where g is above d² and the budget is not used
+-- ---- the moves of document 01; another move is made where the weights are not Settled and the budget is not used
 
 -- the test for another move
-module _ (d g made most : ℕ) where
-  pub goes-on : (ltb d g && ltb made most) ≡ true → (d < g) × (made < most)
-  goes-on h = let t = both (ltb d g) (ltb made most) h in (ltb-true d g (t .0), ltb-true made most (t .1))
+module _ (settles : Bool) (made most : ℕ) where
+  pub goes-on : (not settles && ltb made most) ≡ true → (settles ≡ false) × (made < most)
+  goes-on h = let t = both (not settles) (ltb made most) h in (not-true settles (t .0), ltb-true made most (t .1))
 
-  pub stops : (ltb d g && ltb made most) ≡ false → (g ≤ d) ⊎ (most ≤ made)
-  stops h = either (ltb d g) (ltb made most) (ltb-false d g) (ltb-false made most) h
+  pub stops : (not settles && ltb made most) ≡ false → (settles ≡ true) ⊎ (most ≤ made)
+  stops h = either settles h
     where
-      either : (p q : Bool) → (p ≡ false → g ≤ d) → (q ≡ false → most ≤ made) → (p && q) ≡ false → (g ≤ d) ⊎ (most ≤ made)
-      either true q f k h = inr (k h)
-      either false q f k h = inl (f refl)
+      either : (s : Bool) → (not s && ltb made most) ≡ false → (s ≡ true) ⊎ (most ≤ made)
+      either true h = inl refl
+      either false h = inr (ltb-false made most h)
 
 pub runFrom-spent : (D m n : ℕ) (a : ℕ → ℕ → ℤ) (b made : ℕ) (ws : List ℕ) → Spent (λ ws. settled D m n a (weightOf ws)) made b (runFrom D m n a b made ws)
 unfolding runFrom
 runFrom-spent D m n a b made ws = run-spent (λ ws. settled D m n a (weightOf ws)) (moved D m n a) b made ws
-
-module _ (D m n : ℕ) (a : ℕ → ℕ → ℤ) (ws : List ℕ) where
-  abbrev g : ℕ
-  g = difference D m n a (weightOf ws)
-
-  abbrev d : ℕ
-  d = separation D m n a (weightOf ws)
-
-  pub is-settled : g ≤ d → settled D m n a (weightOf ws) ≡ true
-  unfolding settled
-  is-settled h = le-leb g d h
-
-  pub not-settled : d < g → settled D m n a (weightOf ws) ≡ false
-  unfolding settled
-  not-settled h = lt-leb g d h
 
 -- ---- the start
 

@@ -53,8 +53,10 @@ module _ (D limit : ℕ) (rows : List ℤ) (m n b : ℕ) where
   pub drawing-length : length (drawing D limit rows m n b .weights) ≡ limit
   unfolding drawing
   drawing-length =
-      each-answer (λ (r : Drawing). length (r .weights) ≡ limit) (rowsWithin limit rows m n) (leb b budgetLimit)
-      (λ _ _. run-length D m n (coordinate rows n) limit b) (length-replicate limit 0) (length-replicate limit 0)
+      let Long : Drawing → Type 0 = λ r. length (r .weights) ≡ limit in
+      each-answer Long (rowsWithin limit rows m n) (λ _. length-replicate limit 0) (λ _.
+      each-answer Long (leb b budgetLimit) (λ _. length-replicate limit 0) (λ _.
+      run-length D m n (coordinate rows n) limit b))
 
   module _ (accepted : drawing D limit rows m n b .outcome ≡ Accepted) where
     within : rowsWithin limit rows m n ≡ true

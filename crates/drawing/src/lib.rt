@@ -1,7 +1,8 @@
 // The drawing: moves from all weight on the first row until the weights are Settled or the budget is used.
 ghost use mathlib.Core.Path.{_≡_};
-ghost use mathlib.Core.Bool.{_&&_};
+ghost use mathlib.Core.Bool.{not, _&&_};
 ghost use lib.Dec.{ltb};
+ghost use Rattle.geometry.specs.Move.{isSettled};
 ghost use Rattle.geometry.specs.Table.{coordinate};
 ghost use Rattle.limits.specs.Limits.{total, rowLimit};
 ghost use Rattle.drawing.specs.Draw.{start, runFrom, drawn, notDrawn};
@@ -50,7 +51,7 @@ fn all_on_first() -> [u32; ROWS]
 
 // Whether another move is made: the weights are not Settled and the budget is not used.
 fn goes_on(difference: u64, separation: u64, moves: u32, budget: u32) -> bool
-    ensures { λ r. ⌜ r ≡ (ltb separation difference && ltb moves budget) ⌝ }
+    ensures { λ r. ⌜ r ≡ (not (isSettled difference separation) && ltb moves budget) ⌝ }
 {
     if difference <= separation {
         return false;

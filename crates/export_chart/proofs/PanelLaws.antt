@@ -7,7 +7,7 @@ use mathlib.Core.List.{List}
 use lib.IntN.{ℤ}
 use Rattle.integers.specs.Tests.{nonzero}
 use Rattle.refusal.specs.Number.{outside-limits}
-use Rattle.refusal.specs.Outcome.{numberOf, choose}
+use Rattle.refusal.specs.Outcome.{numberOf, require}
 use Rattle.refusal.specs.declared.Outcome.the-variants.{Accepted}
 use Rattle.limits.specs.Limits.{channelLimit}
 use Rattle.channel.specs.Channel.{Types}
@@ -22,7 +22,7 @@ use Rattle.export_figures.specs.declared.FiguresGiven.{FiguresGiven}
 -- a panel that is shown only where a test holds has the number 0 only there
 shown-where : {P : Type 0} (t : Bool) (shown : PanelShown)
     → (t ≡ true → numberOf (shown .outcome) ≡ 0 → (shown .outcome ≡ Accepted) × P)
-    → let r = choose t (λ _. shown) (λ _. refusedPanel outside-limits) in
+    → let r = require t (refusedPanel outside-limits) (λ _. shown) in
     numberOf (r .outcome) ≡ 0 → (r .outcome ≡ Accepted) × P
 shown-where true shown only z = only refl z
 shown-where false shown only z = nonzero z

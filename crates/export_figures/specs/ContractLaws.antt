@@ -5,7 +5,7 @@ use mathlib.Core.Path.{_≡_, sym, ap, _∙_}
 use mathlib.Core.Bool.{Bool, true, false}
 use mathlib.Core.List.{List}
 use lib.IntN.{ℤ}
-use Rattle.refusal.specs.Outcome.{choose}
+use Rattle.refusal.specs.Outcome.{require}
 use Rattle.envelope.specs.Contracts.{lentFigures}
 use Rattle.envelope.specs.declared.Figures.{Figures}
 use Rattle.envelope.specs.declared.Scalars.{Scalars}
@@ -14,8 +14,8 @@ use Rattle.export_figures.specs.declared.FiguresGiven.{FiguresGiven}
 
 module _ (given : FiguresGiven) (codes : List ℕ) (scaledCentre : List ℤ) {A : Type 0} (answer : Figures → A) (refusal : A) where
   chosen : {b : Bool} → endingKnown given ≡ b
-      → choose b (λ _. answer (figuresGiven given codes scaledCentre)) (λ _. refusal) ≡ answerGiven answer refusal given codes scaledCentre
-  chosen e = ap (λ (b : Bool). choose b (λ _. answer (figuresGiven given codes scaledCentre)) (λ _. refusal)) (sym e)
+      → require b refusal (λ _. answer (figuresGiven given codes scaledCentre)) ≡ answerGiven answer refusal given codes scaledCentre
+  chosen e = ap (λ (b : Bool). require b refusal (λ _. answer (figuresGiven given codes scaledCentre))) (sym e)
 
   pub answer-taken : {s : Scalars} {r : A} → endingKnown given ≡ true → s ≡ scalarsGiven given
       → r ≡ answer (lentFigures s codes scaledCentre) → r ≡ answerGiven answer refusal given codes scaledCentre

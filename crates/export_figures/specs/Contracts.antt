@@ -8,7 +8,7 @@ use mathlib.Core.Bool.{Bool}
 use mathlib.Core.List.{List}
 use lib.Dec.{eqb, leb}
 use lib.IntN.{ℤ}
-use Rattle.refusal.specs.Outcome.{choose}
+use Rattle.refusal.specs.Outcome.{require}
 use Rattle.envelope.specs.Contracts.{lentFigures}
 use Rattle.envelope.specs.declared.Figures.{Figures}
 use Rattle.envelope.specs.declared.Scalars.{Scalars}
@@ -34,4 +34,5 @@ figuresGiven given = lentFigures (scalarsGiven given)
 -- an ending outside its two values is 8, which each call answers in its own form
 abbrev pub answerGiven : {A : Type 0} → (Figures → A) → A → FiguresGiven → List ℕ → List ℤ → A
 answerGiven answer refusal given codes scaledCentre =
-    choose (endingKnown given) (λ _. answer (figuresGiven given codes scaledCentre)) (λ _. refusal)
+    require (endingKnown given) refusal (λ _.
+    answer (figuresGiven given codes scaledCentre))

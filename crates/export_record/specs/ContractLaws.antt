@@ -11,7 +11,7 @@ use lib.IntN.{ℤ}
 use lib.ListN.{length}
 use Rattle.integers.specs.Tests.{both}
 use Rattle.refusal.specs.Number.{outside-limits}
-use Rattle.refusal.specs.Outcome.{refused, choose}
+use Rattle.refusal.specs.Outcome.{refused, require}
 use Rattle.limits.specs.Limits.{channelLimit}
 use Rattle.lent.specs.Contracts.{notWritten}
 use Rattle.channel.specs.Channel.{Types}
@@ -42,13 +42,11 @@ module _ (limit : ℕ) (given : FiguresGiven) (codes : List ℕ) (scaledCentre :
     pub write-chosen : {b : Bool} → envelopeWhole limit given codes scaledCentre ws m ≡ b
         → writeAnswer D limit types given codes scaledCentre ws rows m places
         ≡ writtenInNumbers
-        (choose b
-        (λ _. recordWritten D limit types rows m (envelopeGiven limit given codes scaledCentre ws) places)
-        (λ _. notWritten (refused outside-limits)))
+        (require b (notWritten (refused outside-limits)) (λ _.
+        recordWritten D limit types rows m (envelopeGiven limit given codes scaledCentre ws) places))
     unfolding writeAnswer
     write-chosen e =
         ap (λ (b : Bool). writtenInNumbers
-        (choose b
-        (λ _. recordWritten D limit types rows m (envelopeGiven limit given codes scaledCentre ws) places)
-        (λ _. notWritten (refused outside-limits))))
+        (require b (notWritten (refused outside-limits)) (λ _.
+        recordWritten D limit types rows m (envelopeGiven limit given codes scaledCentre ws) places)))
         e

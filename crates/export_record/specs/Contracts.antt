@@ -12,7 +12,7 @@ use lib.Dec.{leb}
 use lib.IntN.{ℤ, pos}
 use lib.ListN.{length, replicate}
 use Rattle.refusal.specs.Number.{outside-limits}
-use Rattle.refusal.specs.Outcome.{refused, choose}
+use Rattle.refusal.specs.Outcome.{refused, require}
 use Rattle.limits.specs.Limits.{channelLimit}
 use Rattle.lent.specs.Contracts.{notWritten, withRoom}
 use Rattle.lent.specs.Filled.{filled}
@@ -58,7 +58,6 @@ envelopeGiven limit given codes scaledCentre ws =
 
 unfoldable pub writeAnswer : ℕ → ℕ → Types → FiguresGiven → List ℕ → List ℤ → List ℕ → List ℤ → ℕ → ℕ → WrittenAnswer
 writeAnswer D limit types given codes scaledCentre ws rows m places =
-    writtenInNumbers
-    (choose (envelopeWhole limit given codes scaledCentre ws m)
-    (λ _. recordWritten D limit types rows m (envelopeGiven limit given codes scaledCentre ws) places)
-    (λ _. notWritten (refused outside-limits)))
+    writtenInNumbers (
+    require (envelopeWhole limit given codes scaledCentre ws m) (notWritten (refused outside-limits)) (λ _.
+    recordWritten D limit types rows m (envelopeGiven limit given codes scaledCentre ws) places))

@@ -6,7 +6,7 @@
 --     table-filled, codes-filled     what the lent slices hold where both fit
 use Prim.Native.Nat.{ℕ, zero, suc, _*_, _≤_, _<_}
 use mathlib.Core.Path.{_≡_, refl, sym, ap, ap₂, _∙_, subst}
-use mathlib.Core.Bool.{Bool, cond}
+use mathlib.Core.Bool.{Bool}
 use mathlib.Core.List.{List, _++_}
 use native.Mathlib.Omega.{arith}
 use borrow.Author.Tests.{le-leb, lt-leb}
@@ -15,7 +15,7 @@ use lib.IntN.{ℤ}
 use lib.ListN.{length, take, drop}
 use lib.Seq.{take-at, length-take-le}
 use Rattle.refusal.specs.Number.{table-short, buffer-short}
-use Rattle.refusal.specs.Outcome.{numberOf, lineOf, refused}
+use Rattle.refusal.specs.Outcome.{numberOf, lineOf, refused, require}
 use Rattle.limits.specs.Limits.{rowLimit}
 use Rattle.lent.specs.Filled.{filled, filled-refused}
 use Rattle.channel.specs.Channel.{channelTypes}
@@ -68,7 +68,7 @@ module _ (text : List ℕ) (r : Reference) (is : r ≡ answerOf (content rowLimi
   pub short-table : tablePlaces < r .m * r .n
       → refusedAnswer table-short ≡ referenceAnswer (referenceRead rowLimit channelTypes text tablePlaces) codesPlaces
   short-table h =
-      ap (λ (b : Bool). referenceInNumbers (cond b (refusedReference (refused table-short)) (refusedReference (refused buffer-short))))
+      ap (λ (b : Bool). referenceInNumbers (require b (refusedReference (refused buffer-short)) (λ _. refusedReference (refused table-short))))
       (sym (leb·zero codesPlaces))
       ∙ ap (λ (a : Reference). referenceAnswer a codesPlaces) (sym (table-too-short tablePlaces r h) ∙ defined)
 
@@ -77,10 +77,10 @@ module _ (text : List ℕ) (r : Reference) (is : r ≡ answerOf (content rowLimi
     fits = sym (table-fits tablePlaces r h) ∙ defined
 
     chosen : {b : Bool} → leb (r .n) codesPlaces ≡ b
-        → referenceInNumbers (cond b r (refusedReference (refused buffer-short)))
+        → referenceInNumbers (require b (refusedReference (refused buffer-short)) (λ _. r))
         ≡ referenceAnswer (referenceRead rowLimit channelTypes text tablePlaces) codesPlaces
     chosen e =
-        ap (λ (b : Bool). referenceInNumbers (cond b r (refusedReference (refused buffer-short)))) (sym e)
+        ap (λ (b : Bool). referenceInNumbers (require b (refusedReference (refused buffer-short)) (λ _. r))) (sym e)
         ∙ ap (λ (a : Reference). referenceAnswer a codesPlaces) fits
 
     pub short-codes : codesPlaces < r .n

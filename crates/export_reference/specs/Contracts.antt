@@ -5,10 +5,9 @@
 --     refusedAnswer number         a refusal with no line at fault
 --     labelAnswer part             a label's place in numbers
 use Prim.Native.Nat.{ℕ}
-use mathlib.Core.Bool.{cond}
 use lib.Dec.{leb}
 use Rattle.refusal.specs.Number.{buffer-short}
-use Rattle.refusal.specs.Outcome.{refused, numberOf, lineOf}
+use Rattle.refusal.specs.Outcome.{refused, numberOf, lineOf, require}
 use Rattle.reference.specs.Contracts.{refusedReference}
 use Rattle.reference.specs.declared.read.Reference.{Reference}
 use Rattle.reference_label.specs.declared.Part.{Part}
@@ -20,7 +19,7 @@ referenceInNumbers r = record { number = numberOf (r .outcome); line = lineOf (r
 
 -- a refused text has no channel, so that its refusal stays
 abbrev pub withCodes : ℕ → Reference → Reference
-withCodes places r = cond (leb (r .n) places) r (refusedReference (refused buffer-short))
+withCodes places r = require (leb (r .n) places) (refusedReference (refused buffer-short)) (λ _. r)
 
 abbrev pub referenceAnswer : Reference → ℕ → ReferenceAnswer
 referenceAnswer r places = referenceInNumbers (withCodes places r)

@@ -18,7 +18,7 @@ use lib.ListN.{length, take, drop}
 use lib.Seq.{take-length, length-take-le}
 use Rattle.integers.specs.Tests.{nonzero}
 use Rattle.refusal.specs.Number.{buffer-short}
-use Rattle.refusal.specs.Outcome.{refused, numberOf, choose}
+use Rattle.refusal.specs.Outcome.{refused, numberOf, require}
 use Rattle.refusal.specs.declared.Outcome.{Outcome}
 use Rattle.refusal.specs.declared.Outcome.the-variants.{Accepted, Refused}
 use Rattle.lent.specs.Filled.{filled, filled-refused, filled-length}
@@ -29,8 +29,8 @@ use Rattle.lent.specs.declared.TextWritten.{TextWritten}
 
 module _ (text : List ℕ) (places : ℕ) where
   chosen : {b : Bool} → leb (length text) places ≡ b
-      → textWritten text places ≡ choose b (λ _. written (length text)) (λ _. notWritten (refused buffer-short))
-  chosen e = ap (λ (b : Bool). choose b (λ _. written (length text)) (λ _. notWritten (refused buffer-short))) e
+      → textWritten text places ≡ require b (notWritten (refused buffer-short)) (λ _. written (length text))
+  chosen e = ap (λ (b : Bool). require b (notWritten (refused buffer-short)) (λ _. written (length text))) e
 
   pub text-short : places < length text → textWritten text places ≡ notWritten (refused buffer-short)
   text-short h = chosen (lt-leb (length text) places h)
@@ -42,7 +42,7 @@ module _ (text : List ℕ) (places : ℕ) where
   text-most = go (leb (length text) places) refl
     where
       go : (b : Bool) → leb (length text) places ≡ b
-          → let r = choose b (λ _. written (length text)) (λ _. notWritten (refused buffer-short)) in (r .length ≤ places) × (r .length ≤ length text)
+          → let r = require b (notWritten (refused buffer-short)) (λ _. written (length text)) in (r .length ≤ places) × (r .length ≤ length text)
       go true e = (leb-true (length text) places e, omega arith)
       go false e = (zero-le, zero-le)
 

@@ -5,12 +5,12 @@
 --     withRoom room o                 the outcome of a call that fills lent slices: 13, tested last, where they are too short
 use Prim.Native.Nat.{ℕ, _≤_}
 use mathlib.Core.Path.{_≡_}
-use mathlib.Core.Bool.{Bool, cond}
+use mathlib.Core.Bool.{Bool}
 use mathlib.Core.List.{List}
 use lib.Dec.{leb}
 use lib.ListN.{length, take}
 use Rattle.refusal.specs.Number.{buffer-short}
-use Rattle.refusal.specs.Outcome.{refused, choose}
+use Rattle.refusal.specs.Outcome.{refused, require}
 use Rattle.refusal.specs.declared.Outcome.{Outcome}
 use Rattle.refusal.specs.declared.Outcome.the-variants.{Accepted, Refused}
 use Rattle.lent.specs.declared.TextWritten.{TextWritten}
@@ -29,11 +29,10 @@ pub record Part (buffer : List ℕ) (count : ℕ) : Type 0 where
 -- 13, or the whole text
 abbrev pub textWritten : List ℕ → ℕ → TextWritten
 textWritten text places =
-    choose (leb (length text) places)
-    (λ _. written (length text))
-    (λ _. notWritten (refused buffer-short))
+    require (leb (length text) places) (notWritten (refused buffer-short)) (λ _.
+    written (length text))
 
 -- a refusal of the call comes before 13
 abbrev pub withRoom : Bool → Outcome → Outcome
-withRoom room Accepted = cond room Accepted (refused buffer-short)
+withRoom room Accepted = require room (refused buffer-short) (λ _. Accepted)
 withRoom room (Refused r) = Refused r

@@ -8,7 +8,7 @@ use Prim.Native.Nat.{ℕ, suc, _+_, _*_, _/_}
 use lib.IntN.{ℤ, pos, negsuc, negℤ}
 use lib.ListN.{replicate}
 use Rattle.refusal.specs.Number.{outside-limits}
-use Rattle.refusal.specs.Outcome.{choose, refused}
+use Rattle.refusal.specs.Outcome.{refused, require}
 use Rattle.refusal.specs.declared.Outcome.the-variants.{Accepted}
 use Rattle.limits.specs.Limits.{channelLimit}
 use Rattle.geometry.specs.Places.{centreOf, centreList}
@@ -34,4 +34,6 @@ panelOf D f =
 
 -- 8 for a figure outside its limits
 unfoldable pub panelShown : ℕ → Types → Figures → PanelShown
-panelShown D types f = choose (figuresKnown D types f) (λ _. panelOf D f) (λ _. refusedPanel outside-limits)
+panelShown D types f =
+    require (figuresKnown D types f) (refusedPanel outside-limits) (λ _.
+    panelOf D f)

@@ -2,7 +2,7 @@
 -- texts is refused, whatever it is.
 --     readLimit                   the most bytes that a program reads of a text, one more than a text may have
 --     bytesRead text              what it reads of a text
---     within-read                 what a text within the limit gives, and any other not, is given by the bytes read
+--     within-read                 what refuses a text above the limit gives the same for the bytes read
 --     content-read                a reference text
 --     against-read                a reference text and a record
 --     draw-long, verify-long, panel-long, judge-long     the programs
@@ -17,20 +17,20 @@ use lib.IntN.{ℤ}
 use lib.ListN.{length, take}
 use lib.Seq.{take-all, length-take-le}
 use Rattle.integers.specs.Tests.{range-over}
-use Rattle.refusal.specs.Number.{text-length, outside-limits}
-use Rattle.refusal.specs.Outcome.{refused, choose}
-use Rattle.text.specs.Parts.{lineEnd, textWithin, cut}
+use Rattle.refusal.specs.Number.{text-length}
+use Rattle.refusal.specs.Outcome.{refused}
+use Rattle.text.specs.Parts.{textWithin}
 use Rattle.limits.specs.Limits.{textLimit}
 use Rattle.channel.specs.Channel.{Types}
 use Rattle.reference_rows.specs.ReferenceText.{codesOf, channelCount, rowCount, tableOf}
 use Rattle.reference_rows.specs.Rows.{Content, faulty, sound}
-use Rattle.reference.specs.Reference.{contentOf, content}
+use Rattle.reference.specs.Reference.{content}
+use Rattle.reference.specs.RefusalLaws.{refuses-long}
 use Rattle.envelope.specs.declared.Figures.{Figures}
-use Rattle.record_form.specs.Record.{form}
-use Rattle.record_read.specs.Contracts.{notRead, givenWithin, formAnswer, recordRead}
+use Rattle.record_read.specs.Contracts.{notRead, givenWithin, recordRead}
+use Rattle.record_read.specs.ReadLaws.{read-limits, read-length}
 use Rattle.record_read.specs.declared.EnvelopeRead.{EnvelopeRead}
-use Rattle.text.specs.EndedLines.{linesWithEnds}
-use Rattle.program_lines.specs.Lines.{printRefusal, printAccepted, printVerdicts}
+use Rattle.program_lines.specs.Lines.{printRefusal, printAccepted}
 use Rattle.program_draw.specs.Output.{contentOutput, drawOutput}
 use Rattle.program_judge.specs.Output.{judgeOutput}
 use Rattle.program_verdicts.specs.Output.{readingsOutput}
@@ -49,40 +49,37 @@ bytesRead text = take readLimit text
 within-long : (text : List ℕ) → textLimit < length text → textWithin text ≡ false
 within-long text h = range-over 1 textLimit (length text) h
 
-module _ {A : Type 0} (given : List ℕ → A) (refusal : A) where
-  -- what a text gives: this where it is within the limit, else the refusal
-  abbrev answered : List ℕ → A
-  answered text = choose (textWithin text) (λ _. given text) (λ _. refusal)
-
-  long-refused : (text : List ℕ) → textLimit < length text → answered text ≡ refusal
-  long-refused text h = ap (λ (t : Bool). choose t (λ _. given text) (λ _. refusal)) (within-long text h)
-
-  pub within-read : (text : List ℕ) → answered (bytesRead text) ≡ answered text
+module _ {A : Type 0} (given : List ℕ → A) (refusal : A) (refuses : (text : List ℕ) → textLimit < length text → given text ≡ refusal) where
+  pub within-read : (text : List ℕ) → given (bytesRead text) ≡ given text
   unfolding bytesRead
   within-read text = go (leb (length text) readLimit) refl
     where
-      go : (t : Bool) → leb (length text) readLimit ≡ t → answered (take readLimit text) ≡ answered text
-      go true e = ap answered (take-all readLimit text (leb-true (length text) readLimit e))
+      go : (t : Bool) → leb (length text) readLimit ≡ t → given (take readLimit text) ≡ given text
+      go true e = ap given (take-all readLimit text (leb-true (length text) readLimit e))
       go false e =
           let long = leb-false (length text) readLimit e in
-          long-refused (take readLimit text) (omega (arith, length-take-le readLimit text (omega arith)))
-          ∙ sym (long-refused text (omega arith))
+          refuses (take readLimit text) (omega (arith, length-take-le readLimit text (omega arith)))
+          ∙ sym (refuses text (omega arith))
 
 module _ (D limit : ℕ) (types : Types) where
   pub content-read : (reference : List ℕ) → content limit types (bytesRead reference) ≡ content limit types reference
-  unfolding content
-  content-read = within-read (λ text. contentOf limit types (cut lineEnd text)) (faulty text-length 0)
+  content-read = within-read (content limit types) (faulty text-length 0) (refuses-long limit types)
 
   record-read : (rows : List ℤ) (m n : ℕ) (codes text : List ℕ)
       → recordRead D limit types rows m n codes (bytesRead text) ≡ recordRead D limit types rows m n codes text
-  unfolding recordRead
-  record-read rows m n codes text =
-      ap (λ (read : EnvelopeRead). choose (givenWithin limit types rows m n codes) (λ _. read) (λ _. notRead limit (refused outside-limits)))
-      (within-read (λ l. formAnswer D limit rows m (take n codes) (form limit types l)) (notRead limit (refused text-length)) text)
+  record-read rows m n codes text = go (givenWithin limit types rows m n codes) refl
+    where
+      go : (t : Bool) → givenWithin limit types rows m n codes ≡ t
+          → recordRead D limit types rows m n codes (bytesRead text) ≡ recordRead D limit types rows m n codes text
+      go true given =
+          within-read (recordRead D limit types rows m n codes) (notRead limit (refused text-length))
+          (λ text h. read-length D limit types rows m n codes text given (within-long text h)) text
+      go false outside =
+          read-limits D limit types rows m n codes (bytesRead text) outside ∙ sym (read-limits D limit types rows m n codes text outside)
 
   readings-read : (f : Figures) (readings : List ℕ) → readingsOutput D types f (bytesRead readings) ≡ readingsOutput D types f readings
   unfolding readingsOutput
-  readings-read f = within-read (λ l. printVerdicts D types f (linesWithEnds l)) (printRefusal text-length 0)
+  readings-read f = within-read (readingsOutput D types f) (printRefusal text-length 0) (λ readings h. rw (within-long readings h))
 
   pub against-read : (reference text : List ℕ) → recordAgainst D limit types (bytesRead reference) (bytesRead text) ≡ recordAgainst D limit types reference text
   unfolding recordAgainst

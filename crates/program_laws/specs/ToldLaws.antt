@@ -50,8 +50,8 @@ use Rattle.reference.specs.RefusalLaws.{each-refusal}
 use Rattle.envelope.specs.Figures.{channelCodes, figuresKnown}
 use Rattle.envelope.specs.declared.Figures.{Figures}
 use Rattle.envelope.specs.declared.Envelope.{Envelope}
-use Rattle.reading_line.specs.Reading.{readingOf}
 use Rattle.reading.specs.Verdict.{judged}
+use Rattle.reading.specs.VerdictLaws.{quiet-or-alarm, distanceOf, each-verdict}
 use Rattle.reading.specs.declared.Verdict.{Verdict}
 use Rattle.reading.specs.declared.Verdict.the-variants.{Quiet, Alarm, Refused as RefusedReading}
 use Rattle.record_form.specs.Record.{printRecord}
@@ -61,7 +61,6 @@ use Rattle.record_read.specs.declared.EnvelopeRead.{EnvelopeRead}
 use Rattle.panel_steps.specs.Panel.{panelShown}
 use Rattle.text.specs.EndedLines.{withEnds, linesWithEnds}
 use Rattle.program_lines.specs.Lines.{refusalWord, printRefusal, printAccepted, printVerdict, printVerdicts, printSteps}
-use Rattle.program_verdicts.specs.SizeLaws.{each-verdict}
 use Rattle.program_draw.specs.Output.{drawOutput}
 use Rattle.program_judge.specs.Output.{judgeOutput}
 use Rattle.program_verdicts.specs.Output.{readingsOutput}
@@ -125,8 +124,10 @@ OfReading (RefusedReading r) = ofReading (r .number) (r .line) ≡ true
 module _ (D : ℕ) (types : Types) (f : Figures) (within : figuresKnown D types f ≡ true) where
   module _ (text : List ℕ) (some-text : textWithin text ≡ true) where
     judged-told : OfReading (judged D types f text)
-    unfolding judged
-    judged-told = rw (within, some-text) (each-verdict OfReading tt (λ excess. tt) refl refl refl D types f (readingOf (f .n) text))
+    judged-told =
+        each-verdict D types f text OfReading (clash within) (clash some-text) (λ _. refl) (λ _ _. refl) (λ _ _ _. refl)
+        (λ reading _ _ _ _ _.
+        quiet-or-alarm (distanceOf D f (reading .values)) (f .ball .«scaled_squared_radius») OfReading tt (λ _. tt))
 
     pub refusal-of-reading : (r : Refusal) → judged D types f text ≡ RefusedReading r → ofReading (r .number) (r .line) ≡ true
     refusal-of-reading r is = subst OfReading is judged-told

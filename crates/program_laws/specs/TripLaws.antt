@@ -10,7 +10,7 @@
 --     row-quiet                     and one such line, where they are one row
 use Prim.Native.Nat.{ℕ, _+_, _≤_, _<_}
 use mathlib.Core.Path.{_≡_, refl, sym, ap, ap₂, _∙_}
-use mathlib.Core.Bool.{Bool, true, _&&_}
+use mathlib.Core.Bool.{true, _&&_}
 use mathlib.Core.List.{List, [], _∷_, _++_, flatMap, append-assoc, append-nil}
 use mathlib.Core.Option.{Option, none, some}
 use native.Mathlib.Omega.{arith}
@@ -21,9 +21,6 @@ use lib.Seq.{take-length}
 use Rattle.integers.specs.Tests.{unlike}
 use Rattle.lists.specs.Each.{Each, each-cons, each-tail}
 use Rattle.lists.specs.Padded.{padded, padded-length}
-use Rattle.refusal.specs.Number.{text-length, outside-limits}
-use Rattle.refusal.specs.Outcome.{refused, choose}
-use Rattle.geometry.specs.Table.{rowsWithin}
 use Rattle.limits.specs.Limits.{total, rowLimit, channelLimit}
 use Rattle.drawing.specs.Draw.{drawing}
 use Rattle.text.specs.Parts.{lineEnd, textWithin, same, cut, join, free, allFree}
@@ -48,9 +45,8 @@ use Rattle.reading_line.specs.ReadingLaws.{line-text, printed-form, own-form, o
 use Rattle.reading.specs.Verdict.{judged}
 use Rattle.reading.specs.declared.Verdict.{Verdict}
 use Rattle.reading.specs.declared.Verdict.the-variants.{Quiet}
-use Rattle.record_form.specs.Record.{form}
 use Rattle.record_print.specs.Printed.{recordText}
-use Rattle.record_read.specs.Contracts.{notRead, formAnswer, recordRead}
+use Rattle.record_read.specs.Contracts.{recordRead}
 use Rattle.record_read.specs.ReadLaws.{accepting}
 use Rattle.record.specs.HouseLaws.{house-drawn-read}
 use Rattle.record_read.specs.declared.EnvelopeRead.{EnvelopeRead}
@@ -70,13 +66,7 @@ pub first-codes : (D limit : ℕ) (types : Types) (rows : List ℤ) (m n : ℕ) 
     → take n codes ≡ take n others → recordRead D limit types rows m n codes text ≡ recordRead D limit types rows m n others text
 unfolding recordRead
 first-codes D limit types rows m n codes others text some-codes some-others alike =
-    ap₂ readWith (le-leb n (length codes) some-codes ∙ sym (le-leb n (length others) some-others)) alike
-  where
-    readWith : Bool → List ℕ → EnvelopeRead
-    readWith places first =
-        choose (rowsWithin limit rows m n && (places && codesKnown types first))
-        (λ _. choose (textWithin text) (λ _. formAnswer D limit rows m first (form limit types text)) (λ _. notRead limit (refused text-length)))
-        (λ _. notRead limit (refused outside-limits))
+    rw (le-leb n (length codes) some-codes, le-leb n (length others) some-others, alike)
 
 -- ---- readings after each other
 

@@ -1,10 +1,9 @@
--- The verdict on a text and on its line, from what the code reads.
+-- The verdict on a line with its byte 10, from what the code reads.
 --     lineVerdict r v                                  the verdict on a line, by what the line is; v where it is within
 --     byDistance D f reading                           s against M, of a reading in form
---     judged-line                                      the verdict on a line that is read is by what the line is told to be
+--     judged-line                                      the verdict on a line with its byte 10 is by what the line is told to be
 --     PointRead, point-read                            the reading that a line within is, with its values in the lent places, as a row
---     line-last, line-none                             the one line of a text, by its last byte
---     judged-text                                      the verdict on a text, by the tests of the figures and of the text
+--     line-last, line-none                             a text whose last byte is 10, and one whose last byte is another
 use Prim.Native.Nat.{ℕ, suc, _+_, _*_, _≤_, _<_}
 use mathlib.Core.Path.{_≡_, refl, sym, ap, ap₂, _∙_}
 use mathlib.Core.Bool.{Bool, true, false, cond}
@@ -15,8 +14,7 @@ use lib.IntN.{ℤ, pos, natAbs}
 use lib.ListN.{length, getD, take, drop, length-append, length-map, length-drop, List·getD-append, List·getD-map}
 use lib.Seq.{take-all, take-suc, take-append-seam, getD-at}
 use Rattle.integers.specs.Tests.{clash, impossible}
-use Rattle.refusal.specs.Number.{text-length, line-form, value-range, outside-limits, tag-differs}
-use Rattle.refusal.specs.Outcome.{choose}
+use Rattle.refusal.specs.Number.{line-form, value-range, tag-differs}
 use Rattle.geometry.specs.Table.{coordinate}
 use Rattle.limits.specs.Limits.{channelLimit}
 use Rattle.geometry.specs.Places.{centreOf}
@@ -34,7 +32,8 @@ use Rattle.envelope.specs.Figures.{channelCodes, figuresKnown}
 use Rattle.envelope.specs.declared.Figures.{Figures}
 use Rattle.reading_line.specs.Reading.{Reading, oneLine, readingLine, readingOf, tagsAgree}
 use Rattle.reading_line.specs.ReadingLaws.{line-text, text-line}
-use Rattle.reading.specs.Verdict.{refusedVerdict, pointOf, verdictOf, judgedReading, judged}
+use Rattle.reading.specs.Verdict.{refusedVerdict, pointOf, verdictOf, judged}
+use Rattle.reading.specs.VerdictLaws.{refuses-form, refuses-tag, refuses-range, judges}
 use Rattle.reading_line.specs.Contracts.{lineRead, lineAlone, LineRead}
 use Rattle.reading.specs.declared.Verdict.{Verdict}
 use Rattle.reading.specs.declared.Verdict.the-variants.{Quiet}
@@ -54,26 +53,50 @@ byDistance D f none = Quiet
 byDistance D f (some reading) =
     verdictOf (scaledSquaredDistance D (f .n) (centreOf (f .ball .«scaled_centre»)) (pointOf (reading .values))) (f .ball .«scaled_squared_radius»)
 
-by-line : (D : ℕ) (types : Types) (f : Figures) (o : Option Reading)
-    → lineVerdict (lineRead types (channelCodes f) o) (byDistance D f o) ≡ judgedReading D types f o
-by-line D types f none = refl
-by-line D types f (some reading) =
-    go (tagsAgree types (channelCodes f) (reading .tags)) (valuesInRange types (channelCodes f) (reading .values)) (byDistance D f (some reading))
+by-line : (D : ℕ) (types : Types) (f : Figures) (text : List ℕ) → figuresKnown D types f ≡ true → textWithin text ≡ true
+    → (o : Option Reading) → readingOf (f .n) text ≡ o
+    → lineVerdict (lineRead types (channelCodes f) o) (byDistance D f o) ≡ judged D types f text
+by-line D types f text within bytes none is = sym (refuses-form D types f text within bytes is)
+by-line D types f text within bytes (some reading) is =
+    go (tagsAgree types (channelCodes f) (reading .tags)) (valuesInRange types (channelCodes f) (reading .values)) refl refl
   where
-    go : (agree within : Bool) (v : Verdict) → lineVerdict (cond agree (cond within Within OutOfRange) TagDiffers) v
-        ≡ choose agree (λ _. choose within (λ _. v) (λ _. refusedVerdict value-range 1)) (λ _. refusedVerdict tag-differs 1)
-    go true true v = refl
-    go true false v = refl
-    go false within v = refl
+    go : (agree fit : Bool) → tagsAgree types (channelCodes f) (reading .tags) ≡ agree → valuesInRange types (channelCodes f) (reading .values) ≡ fit
+        → lineVerdict (cond agree (cond fit Within OutOfRange) TagDiffers) (byDistance D f (some reading)) ≡ judged D types f text
+    go true true a v = sym (judges D types f text within bytes is a v)
+    go true false a v = sym (refuses-range D types f text within bytes is a v)
+    go false fit a v = sym (refuses-tag D types f text within bytes is a)
 
-pub judged-line : (D : ℕ) (types : Types) (f : Figures) {text : List ℕ} {lent₀ lent : List ℤ} {r : Line}
-    → LineRead types (channelCodes f) text lent₀ lent r → length (channelCodes f) ≡ f .n → (told : Line) → r ≡ told
-    → let reading = readingLine (f .n) (lineAlone text) in lineVerdict told (byDistance D f reading) ≡ judgedReading D types f reading
-judged-line D types f {text} read count told is =
-    let reading = readingLine (f .n) (lineAlone text) in
+-- a line and the byte 10 that ends it
+line-ending : (line : List ℕ) → oneLine (cut lineEnd (line ++ (lineEnd ∷ []))) ≡ lineAlone line
+line-ending line = go (free lineEnd line) refl
+  where
+    text : List ℕ
+    text = line ++ (lineEnd ∷ [])
+
+    other : free lineEnd line ≡ false → (o : Option (List ℕ)) → oneLine (cut lineEnd text) ≡ o → o ≡ none
+    other h none e = refl
+    other h (some first) e =
+        let whole = line-text text first e in
+        let as-long : length first ≡ length line =
+        omega (arith, sym (length-append first (lineEnd ∷ [])) ∙ ap length (whole .0) ∙ length-append line (lineEnd ∷ [])) in
+        let same-line : first ≡ line =
+        sym (take-append-seam first (lineEnd ∷ [])) ∙ ap₂ (λ k (l : List ℕ). take k l) as-long (whole .0) ∙ take-append-seam line (lineEnd ∷ []) in
+        clash (whole .1) (ap (free lineEnd) same-line ∙ h)
+
+    go : (t : Bool) → free lineEnd line ≡ t → oneLine (cut lineEnd text) ≡ cond t (some line) none
+    go true h = text-line line h
+    go false h = other h (oneLine (cut lineEnd text)) refl
+
+pub judged-line : (D : ℕ) (types : Types) (f : Figures) {line : List ℕ} {lent₀ lent : List ℤ} {r : Line}
+    → figuresKnown D types f ≡ true → textWithin (line ++ (lineEnd ∷ [])) ≡ true
+    → LineRead types (channelCodes f) line lent₀ lent r → length (channelCodes f) ≡ f .n → (told : Line) → r ≡ told
+    → lineVerdict told (byDistance D f (readingLine (f .n) (lineAlone line))) ≡ judged D types f (line ++ (lineEnd ∷ []))
+unfolding readingOf
+judged-line D types f {line} within bytes read count told is =
+    let reading = readingLine (f .n) (lineAlone line) in
     ap (λ r. lineVerdict r (byDistance D f reading))
-    (sym is ∙ read .is ∙ ap (λ n. lineRead types (channelCodes f) (readingLine n (lineAlone text))) count)
-    ∙ by-line D types f reading
+    (sym is ∙ read .is ∙ ap (λ n. lineRead types (channelCodes f) (readingLine n (lineAlone line))) count)
+    ∙ by-line D types f (line ++ (lineEnd ∷ [])) within bytes reading (ap (readingLine (f .n)) (line-ending line))
 
 -- ---- a line within
 
@@ -153,57 +176,18 @@ module _ {types : Types} {codes text : List ℕ} {lent₀ lent : List ℤ} (read
 
 -- ---- the text
 
--- a line and the byte 10 that ends it
-line-ending : (line : List ℕ) → oneLine (cut lineEnd (line ++ (lineEnd ∷ []))) ≡ lineAlone line
-line-ending line = go (free lineEnd line) refl
-  where
-    text : List ℕ
-    text = line ++ (lineEnd ∷ [])
-
-    other : free lineEnd line ≡ false → (o : Option (List ℕ)) → oneLine (cut lineEnd text) ≡ o → o ≡ none
-    other h none e = refl
-    other h (some first) e =
-        let whole = line-text text first e in
-        let as-long : length first ≡ length line =
-        omega (arith, sym (length-append first (lineEnd ∷ [])) ∙ ap length (whole .0) ∙ length-append line (lineEnd ∷ [])) in
-        let same-line : first ≡ line =
-        sym (take-append-seam first (lineEnd ∷ [])) ∙ ap₂ (λ k (l : List ℕ). take k l) as-long (whole .0) ∙ take-append-seam line (lineEnd ∷ []) in
-        clash (whole .1) (ap (free lineEnd) same-line ∙ h)
-
-    go : (t : Bool) → free lineEnd line ≡ t → oneLine (cut lineEnd text) ≡ cond t (some line) none
-    go true h = text-line line h
-    go false h = other h (oneLine (cut lineEnd text)) refl
-
 module _ (text : List ℕ) (end : ℕ) (last : length text ≡ end + 1) where
-  pub line-last : getD text end 0 ≡ lineEnd → oneLine (cut lineEnd text) ≡ lineAlone (take end text)
+  pub line-last : getD text end 0 ≡ lineEnd → take end text ++ (lineEnd ∷ []) ≡ text
   line-last h =
-      let whole : text ≡ take end text ++ (lineEnd ∷ []) =
-      sym (take-all (suc end) text (omega arith)) ∙ take-suc text end 0 (omega arith) ∙ ap (λ b. take end text ++ (b ∷ [])) h in
-      ap (λ l. oneLine (cut lineEnd l)) whole ∙ line-ending (take end text)
+      ap (λ b. take end text ++ (b ∷ [])) (sym h) ∙ sym (take-suc text end 0 (omega arith)) ∙ take-all (suc end) text (omega arith)
 
-  pub line-none : (getD text end 0 ≡ lineEnd → ⊥) → oneLine (cut lineEnd text) ≡ none
-  line-none h = go (oneLine (cut lineEnd text)) refl
+  pub line-none : (n : ℕ) → (getD text end 0 ≡ lineEnd → ⊥) → readingOf n text ≡ none
+  unfolding readingOf
+  line-none n h = go (oneLine (cut lineEnd text)) refl
     where
-      go : (o : Option (List ℕ)) → oneLine (cut lineEnd text) ≡ o → o ≡ none
-      go none e = refl
+      go : (o : Option (List ℕ)) → oneLine (cut lineEnd text) ≡ o → readingLine n (oneLine (cut lineEnd text)) ≡ none
+      go none e = ap (readingLine n) e
       go (some line) e =
           let whole = line-text text line e .0 in
           let as-long : length line ≡ end = omega (arith, sym (length-append line (lineEnd ∷ [])) ∙ ap length whole) in
           absurd (h (ap (λ l. getD l end 0) (sym whole) ∙ getD-at line lineEnd [] 0 end as-long))
-
-pub judged-text : (D : ℕ) (types : Types) (f : Figures) (text : List ℕ) {within fitting : Bool} {line : Option (List ℕ)}
-    → figuresKnown D types f ≡ within → textWithin text ≡ fitting → oneLine (cut lineEnd text) ≡ line
-    → choose within
-    (λ _. choose fitting (λ _. judgedReading D types f (readingLine (f .n) line)) (λ _. refusedVerdict text-length 0))
-    (λ _. refusedVerdict outside-limits 0)
-    ≡ judged D types f text
-unfolding judged readingOf
-judged-text D types f text {within} w t l =
-    sym (ap₂ (λ b o. judgement within b (readingLine (f .n) o)) t l)
-    ∙ sym (ap (λ b. judgement b (textWithin text) (readingLine (f .n) (oneLine (cut lineEnd text)))) w)
-  where
-    judgement : Bool → Bool → Option Reading → Verdict
-    judgement within fitting reading =
-        choose within
-        (λ _. choose fitting (λ _. judgedReading D types f reading) (λ _. refusedVerdict text-length 0))
-        (λ _. refusedVerdict outside-limits 0)

@@ -3,18 +3,16 @@
 --     drawn-not-8, checked-not-8               2.14: nor against those of an accepted drawing or check with known codes
 --     tight-row-quiet                          where demand 3 holds of the figures, a reading that is one of the rows is Quiet
 --     drawn-row-quiet, checked-row-quiet       3.2: so it is against an accepted drawing or check of the rows
-use Prim.Native.Nat.{ℕ, _-_, _≤_, _<_}
+use Prim.Native.Nat.{ℕ, _≤_, _<_}
 use mathlib.Core.Path.{_≡_, refl, _∙_}
-use mathlib.Core.Bool.{Bool, true, false, cond}
+use mathlib.Core.Bool.{true}
 use mathlib.Core.List.{List}
-use mathlib.Core.Option.{Option, none, some}
 use native.Mathlib.Nat.{le-trans, le-of-eq}
 use native.Mathlib.Omega.{arith}
-use lib.Dec.{leb}
 use lib.IntN.{ℤ}
 use lib.ListN.{length, take}
+use Rattle.integers.specs.Tests.{clash}
 use Rattle.refusal.specs.Number.{outside-limits}
-use Rattle.refusal.specs.Outcome.{choose}
 use Rattle.refusal.specs.declared.Outcome.the-variants.{Accepted}
 use Rattle.geometry.specs.FigureLaws.{distance-cong}
 use Rattle.geometry.specs.Table.{coordinate}
@@ -25,50 +23,27 @@ use Rattle.ball.specs.Contracts.{Tight}
 use Rattle.drawing.specs.Demand.{drawing-tight}
 use Rattle.checking.specs.Demand.{checking-tight}
 use Rattle.ball.specs.declared.Ball.{Ball}
-use Rattle.text.specs.Parts.{textWithin}
 use Rattle.label.specs.Label.{isLabel}
 use Rattle.channel.specs.Channel.{Types, codesKnown}
 use Rattle.channel.specs.ChannelLaws.{SoundTypes}
 use Rattle.value.specs.Value.{Written}
 use Rattle.value.specs.Values.{valuesInRange}
-use Rattle.envelope.specs.Figures.{channelCodes, figuresKnown, figuresOf}
+use Rattle.envelope.specs.Figures.{figuresKnown, figuresOf}
 use Rattle.envelope.specs.FigureLaws.{drawnFigures, drawn-within, checked-within}
 use Rattle.envelope.specs.declared.Figures.{Figures}
-use Rattle.reading_line.specs.Reading.{Reading, readingOf, tagsAgree, printReading, ownReading}
-use Rattle.reading.specs.Verdict.{verdictNumber, pointOf, verdictOf, judgedReading, judged}
-use Rattle.reading.specs.VerdictLaws.{within-quiet, distanceOf, printed-accepted}
-use Rattle.reading.specs.declared.Verdict.{Verdict}
-use Rattle.reading.specs.declared.Verdict.the-variants.{Quiet, Alarm}
+use Rattle.reading_line.specs.Reading.{printReading, ownReading}
+use Rattle.reading.specs.Verdict.{verdictNumber, pointOf, judged}
+use Rattle.reading.specs.VerdictLaws.{accepted-number, within-quiet, distanceOf, each-verdict, printed-accepted}
+use Rattle.reading.specs.declared.Verdict.the-variants.{Quiet}
 
 -- ---- 2.14: no 8
 
--- the verdict has another number than 8
-abbrev Not8 : Verdict → Type 0
-Not8 v = verdictNumber v ≡ outside-limits → ⊥
-
-either : (t : Bool) (f g : Unit {0} → Verdict) → Not8 (f tt) → Not8 (g tt) → Not8 (choose t f g)
-either true f g p q = p
-either false f g p q = q
-
-verdict-not-8 : (s M : ℕ) → Not8 (verdictOf s M)
-verdict-not-8 s M = go (leb s M) (s - M)
-  where
-    go : (t : Bool) (e : ℕ) → Not8 (cond t Quiet (Alarm e))
-    go true e h = omega arith
-    go false e h = omega arith
-
-module _ (D : ℕ) (types : Types) (f : Figures) where
-  reading-not-8 : (o : Option Reading) → Not8 (judgedReading D types f o)
-  reading-not-8 none h = omega arith
-  reading-not-8 (some reading) h =
-      either (tagsAgree types (channelCodes f) (reading .tags)) _ _
-      (either (valuesInRange types (channelCodes f) (reading .values)) _ _
-      (verdict-not-8 (distanceOf D f (reading .values)) (f .ball .«scaled_squared_radius»)) (λ e. omega arith)) (λ e. omega arith) h
-
-  pub figures-not-8 : figuresKnown D types f ≡ true → (text : List ℕ) → verdictNumber (judged D types f text) ≡ outside-limits → ⊥
-  unfolding judged
-  figures-not-8 within text =
-      rw within (either (textWithin text) _ _ (reading-not-8 (readingOf (f .n) text)) (λ e. omega arith))
+pub figures-not-8 : (D : ℕ) (types : Types) (f : Figures) → figuresKnown D types f ≡ true
+    → (text : List ℕ) → verdictNumber (judged D types f text) ≡ outside-limits → ⊥
+figures-not-8 D types f within text =
+    each-verdict D types f text (λ v. verdictNumber v ≡ outside-limits → ⊥)
+    (λ outside. clash within outside) (λ _ h. omega arith) (λ _ h. omega arith) (λ _ _ h. omega arith) (λ _ _ _ h. omega arith)
+    (λ reading _ _ _ _ _ h. omega (arith, accepted-number (distanceOf D f (reading .values)) (f .ball .«scaled_squared_radius»)))
 
 module _ (D : ℕ) (types : Types) (n : ℕ) (codes : List ℕ) (typed : n ≤ length codes) (k : codesKnown types (take n codes) ≡ true)
     (positive : 0 < D) (limit : ℕ) (rows : List ℤ) (m : ℕ) where

@@ -2,14 +2,14 @@
 // is at most M, else Alarm with s - M. Whoever made the figures and the text, the tags are matched before a value's range counts.
 ghost use mathlib.Core.Path.{_≡_};
 ghost use mathlib.Core.Bool.{true};
+ghost use mathlib.Core.List.{[], _∷_, _++_};
 ghost use Rattle.limits.specs.Limits.{total};
 ghost use Rattle.channel.specs.Channel.{channelTypes};
 ghost use Rattle.ball.specs.Ball.{filledBall};
 ghost use Rattle.envelope.specs.Figures.{figuresKnown, figuresOf};
 ghost use Rattle.envelope.specs.Contracts.{lentFigures};
-ghost use Rattle.reading_line.specs.Reading.{readingLine};
-ghost use Rattle.reading_line.specs.Contracts.{lineAlone};
-ghost use Rattle.reading.specs.Verdict.{refusedVerdict, verdictOf, judgedReading, judged};
+ghost use Rattle.text.specs.Parts.{lineEnd, textWithin};
+ghost use Rattle.reading.specs.Verdict.{refusedVerdict, verdictOf, judged};
 use channel::Code;
 use envelope::Figures;
 use envelope::Scalars;
@@ -48,12 +48,13 @@ fn verdict_of(scaled_squared_distance: u64, scaled_squared_radius: u64) -> Verdi
     }
 }
 
-// The verdict on what stands before a text's last byte 10.
+// The verdict on the text that is this line and its byte 10.
 fn judge_line(scalars: Scalars, codes: &[Code], scaled_centre: &[i64], line: &[u8]) -> Verdict
-    requires { ⌜ figuresKnown total channelTypes (lentFigures scalars (now codes) (now «scaled_centre»)) ≡ true ⌝ }
+    requires { ⌜ (figuresKnown total channelTypes (lentFigures scalars (now codes) (now «scaled_centre»)) ≡ true)
+        × (textWithin (now line ++ (lineEnd ∷ [])) ≡ true) ⌝ }
     ensures { λ r.
-        ⌜ r ≡ judgedReading total channelTypes (lentFigures scalars (now (codes .entry)) (now («scaled_centre» .entry)))
-        (readingLine (scalars .n) (lineAlone (now (line .entry)))) ⌝ }
+        ⌜ r ≡ judged total channelTypes (lentFigures scalars (now (codes .entry)) (now («scaled_centre» .entry)))
+        (now (line .entry) ++ (lineEnd ∷ [])) ⌝ }
 {
     let n = scalars.n;
     let mut values = [0i32; CHANNELS];

@@ -3,6 +3,7 @@
 -- at most 19 digits (`form-printed`, `printed-form`).
 --     Record                                 what a record states
 --     Form                                   what a text is: faulty at a line, or in form
+--     requireSound form refusal rest         the rest for what is in form, else the refusal for the faulty line
 --     lineAs read o                          what a line is read as, if it is there
 --     andLine line o further                 a faulty line, or what follows it
 --     withWeight w weights                   a `W` line before those that follow it
@@ -39,6 +40,10 @@ pub record Record : Type 0 where
 pub data Form (A : Type 0) : Type 0 where
   faulty : ℕ → Form A
   sound : A → Form A
+
+abbrev pub requireSound : {A B : Type 0} → Form A → (ℕ → B) → (A → B) → B
+requireSound (sound a) refusal rest = rest a
+requireSound (faulty line) refusal rest = refusal line
 
 -- ---- what is read
 

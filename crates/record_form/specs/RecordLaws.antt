@@ -1,4 +1,5 @@
 -- A record, both ways: a text is in form exactly when it is the printing of a record within the limits.
+--     each-sound                           what holds of the refusal for a faulty line, and of the rest for what is in form, holds of the answer
 --     line-sound                           what follows a line in form
 --     weights-first, first-weights         weights within the limits are the first within them, and those after it
 --     weights-printed, printed-weights     the parts of `W` lines are the printings of weights within the limits, and an empty part
@@ -58,6 +59,7 @@ use Rattle.record_form.specs.Record.{
   Form,
   faulty,
   sound,
+  requireSound,
   lineAs,
   andLine,
   withWeight,
@@ -74,6 +76,11 @@ use Rattle.record_form.specs.Record.{
 
 faulty-sound : {A P : Type 0} {line : ℕ} {a : A} → faulty line ≡ sound a → P
 faulty-sound e = impossible cc
+
+pub each-sound : {A B : Type 0} (P : B → Type 0) (f : Form A) {refusal : ℕ → B} {rest : A → B}
+    → ((line : ℕ) → f ≡ faulty line → P (refusal line)) → ((a : A) → f ≡ sound a → P (rest a)) → P (requireSound f refusal rest)
+each-sound P (sound a) hr hs = hs a refl
+each-sound P (faulty line) hr hs = hr line refl
 
 pub line-sound : {A B : Type 0} (line : ℕ) (o : Option A) {further : A → Form B} {b : B} → andLine line o further ≡ sound b
     → (a : A) × (o ≡ some a) × (further a ≡ sound b)

@@ -126,7 +126,7 @@ pub record NumbersSoFar (word : List ℕ) (count : ℕ) (line : List ℕ) (lent�
   pub numbers : List ℤ
   pub passed : length numbers ≡ i
   pub within : i ≤ count
-  pub here : from ≡ partStart comma (i + 1) line
+  pub here : from ≡ partStart comma line 0 (i + 1)
   pub continues : numbersStarting word count line
       ≡ Option·map (λ (l : List ℤ). numbers ++ l) (numbersFirst (count - i) (partsFrom comma line from))
   pub same-length : length lent ≡ length lent₀
@@ -137,7 +137,7 @@ not-numbers : {word : List ℕ} {count : ℕ} {line : List ℕ} {lent₀ lent : 
 unfolding numbersNext
 not-numbers {word} {count} {line} e l =
     record {
-      is = sym (ap (λ o. nextOf o (partStart comma (suc count) line)) e);
+      is = sym (ap (λ o. nextOf o (partStart comma line 0 (suc count))) e);
       same-length = l;
       written = λ zs u. impossible (cc);
     }
@@ -198,7 +198,7 @@ module _ {word : List ℕ} {count : ℕ} {line : List ℕ} {lent₀ lent : List 
           numbers = f .numbers ++ (z ∷ []);
           passed = length-append (f .numbers) (z ∷ []) ∙ omega (arith, f .passed);
           within = omega arith;
-          here = add-one e ∙ ap suc (end .is ∙ ap (partEnd comma line) (f .here)) ∙ ap (λ j. partStart comma j line) (sym (add-one (i + 1)));
+          here = add-one e ∙ ap suc (end .is ∙ ap (partEnd comma line) (f .here)) ∙ ap (partStart comma line 0) (sym (add-one (i + 1)));
           continues =
               turn _ (parts-from comma line from e within end) h
               ∙ ap (λ o. Option·map (λ (l : List ℤ). f .numbers ++ l) (andNumber o (numbersFirst (count - (i + 1)) (partsFrom comma line (e + 1))))) k
@@ -222,8 +222,8 @@ module _ {word : List ℕ} {count : ℕ} {line : List ℕ} {lent₀ lent : List 
       ∙ ap some (append-nil (f .numbers)) in
       record {
         is =
-            f .here ∙ ap (λ j. partStart comma j line) (add-one i ∙ ap suc n)
-            ∙ sym (ap (λ o. nextOf o (partStart comma (suc count) line)) all);
+            f .here ∙ ap (partStart comma line 0) (add-one i ∙ ap suc n)
+            ∙ sym (ap (λ o. nextOf o (partStart comma line 0 (suc count))) all);
         same-length = f .same-length;
         written = λ zs u.
             let v : f .numbers ≡ zs = cc (all) in
@@ -238,14 +238,14 @@ module _ (word : List ℕ) (count : ℕ) (line : List ℕ) (zs : List ℤ) (e : 
   start-count = fields-numbers word count (take (suc count) (cut comma line)) zs e .1
 
   -- it ends with them where its fields are no more
-  start-end : eqb (partStart comma (suc count) line) (length line + 1) ≡ eqb (length (cut comma line)) (suc count)
+  start-end : eqb (partStart comma line 0 (suc count)) (length line + 1) ≡ eqb (length (cut comma line)) (suc count)
   start-end = go (leb at (length line)) refl
     where
       fields : List (List ℕ)
       fields = cut comma line
 
       at : ℕ
-      at = partStart comma (suc count) line
+      at = partStart comma line 0 (suc count)
 
       enough : suc count ≤ length fields
       enough =
@@ -261,13 +261,13 @@ module _ (word : List ℕ) (count : ℕ) (line : List ℕ) (zs : List ℤ) (e : 
       go true t =
           let h = leb-true at (length line) t in
           let more = parts-some comma line at h in
-          let n : length (drop (suc count) fields) ≡ suc (length (more .1)) = ap length (sym (part-start comma (suc count) line) ∙ more .2) in
+          let n : length (drop (suc count) fields) ≡ suc (length (more .1)) = ap length (sym (part-start comma line (suc count)) ∙ more .2) in
           ne-eqb at (length line + 1) (λ k. omega arith)
           ∙ sym (ne-eqb (length fields) (suc count) (λ k. omega (arith, length-drop (suc count) fields)))
       go false t =
           let h = leb-false at (length line) t in
-          let n : length (drop (suc count) fields) ≡ 0 = ap length (sym (part-start comma (suc count) line) ∙ parts-none comma line at h) in
-          eq-eqb at (length line + 1) (omega (arith, part-start-most comma (suc count) line enough))
+          let n : length (drop (suc count) fields) ≡ 0 = ap length (sym (part-start comma line (suc count)) ∙ parts-none comma line at h) in
+          eq-eqb at (length line + 1) (omega (arith, part-start-most comma line (suc count) enough))
           ∙ sym (eq-eqb (length fields) (suc count) (omega (arith, enough, length-drop (suc count) fields)))
 
 -- a line is a word and numbers where it starts with them and ends there
@@ -289,7 +289,7 @@ numbers-whole word count line = whole (eqb (length (cut comma line)) (suc count)
         ∙ sym (ap (λ t. cond t (numbersStarting word count line) none) e)
 
     ends : (o : Option (List ℤ)) → numbersStarting word count line ≡ o
-        → cond (eqb (nextOf o (partStart comma (suc count) line)) (length line + 1)) o none ≡ cond (eqb (length (cut comma line)) (suc count)) o none
+        → cond (eqb (nextOf o (partStart comma line 0 (suc count))) (length line + 1)) o none ≡ cond (eqb (length (cut comma line)) (suc count)) o none
     ends none e = cond-same (eqb 0 (length line + 1)) none ∙ sym (cond-same (eqb (length (cut comma line)) (suc count)) none)
     ends (some zs) e = ap (λ t. cond t (some zs) none) (start-end word count line zs e)
 
@@ -301,7 +301,7 @@ module _ {word : List ℕ} {count : ℕ} {line : List ℕ} {lent₀ lent : List 
       go : (o : Option (List ℤ)) → numbersStarting word count line ≡ o → numbersStarting word count line ≡ none
       go none e = e
       go (some zs) e =
-          let z = sym (f .is ∙ ap (λ o. nextOf o (partStart comma (suc count) line)) e) ∙ h in
+          let z = sym (f .is ∙ ap (λ o. nextOf o (partStart comma line 0 (suc count))) e) ∙ h in
           absurd (omega arith)
 
   pub numbers-some : (next ≡ 0 → ⊥) → (zs : List ℤ) × (numbersStarting word count line ≡ some zs)
@@ -309,7 +309,7 @@ module _ {word : List ℕ} {count : ℕ} {line : List ℕ} {lent₀ lent : List 
   numbers-some h = go (numbersStarting word count line) refl
     where
       go : (o : Option (List ℤ)) → numbersStarting word count line ≡ o → (zs : List ℤ) × (numbersStarting word count line ≡ some zs)
-      go none e = absurd (h (f .is ∙ ap (λ o. nextOf o (partStart comma (suc count) line)) e))
+      go none e = absurd (h (f .is ∙ ap (λ o. nextOf o (partStart comma line 0 (suc count))) e))
       go (some zs) e = (zs, e)
 
   -- what the machine reads in the first places
@@ -326,8 +326,8 @@ module _ {word : List ℕ} {count : ℕ} {line : List ℕ} {lent₀ lent : List 
   unfolding numbersNext
   numbers-rest h =
       let there = numbers-some h in
-      ap (partsFrom comma line) (f .is ∙ ap (λ o. nextOf o (partStart comma (suc count) line)) (there .1))
-      ∙ part-start comma (suc count) line
+      ap (partsFrom comma line) (f .is ∙ ap (λ o. nextOf o (partStart comma line 0 (suc count))) (there .1))
+      ∙ part-start comma line (suc count)
 
   pub numbers-end : next ≡ length line + 1
       → (zs : List ℤ) × (numbersStarting word count line ≡ some zs) × (numbersLine word count (cut comma line) ≡ some zs)

@@ -59,7 +59,7 @@ abbrev pub numbersStarting : List ℕ → ℕ → List ℕ → Option (List ℤ)
 numbersStarting word count line = numbersLine word count (take (suc count) (cut comma line))
 
 unfoldable pub numbersNext : List ℕ → ℕ → List ℕ → ℕ
-numbersNext word count line = nextOf (numbersStarting word count line) (partStart comma (suc count) line)
+numbersNext word count line = nextOf (numbersStarting word count line) (partStart comma line 0 (suc count))
 
 pub record NumbersRead (word : List ℕ) (count : ℕ) (line : List ℕ) (lent₀ lent : List ℤ) (r : ℕ) : Type 0 where
   pub is : r ≡ numbersNext word count line

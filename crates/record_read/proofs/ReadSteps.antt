@@ -1,15 +1,16 @@
 -- What a text and a record in form answer, test by test; M and L of the latter are signed numbers of the code.
---     read-faulty, read-sound         a text that is not in form, and one that is
+--     stated-faulty, stated-sound     a text that is not in form, and one that is
 --     read-channels                   n of what is handed over
 --     sign-cast                       what the cast of a number of 0 or more asks
 --     codes-differ                    n or the tags are not those given
 --     radius-below, floor-below       M or L is below 0
 --     Signs s                         both are 0 or more
---     ballRead s, envelopeRead s      the ball of such a record, and the answer where it agrees
+--     ballRead s                      the ball of such a record
+--     envelopeWith s ball             the answer where this ball agrees
 --     disagreeing, agreeing           its figures do not agree with the rows, or they do
 use Prim.Native.Nat.{ℕ, _≤_, zero-le}
 use mathlib.Core.Path.{_≡_, refl, sym, ap, ap₂, subst, _∙_}
-use mathlib.Core.Bool.{Bool, true, false, _&&_}
+use mathlib.Core.Bool.{Bool, true, false, cond, _&&_}
 use mathlib.Core.List.{List}
 use mathlib.Core.Option.{Option, none, some}
 use native.Mathlib.Omega.{arith}
@@ -24,11 +25,10 @@ use mir.Facts.{toZ-ofZ}
 use Rattle.integers.specs.Absolute.{abs-nonneg, fits-abs}
 use Rattle.integers.specs.Reading.{back, number-cast}
 use Rattle.refusal.specs.Number.{record-form, disagreement}
-use Rattle.refusal.specs.Outcome.{refused, refusedAt, choose}
-use Rattle.refusal.specs.declared.Outcome.the-variants.{Accepted}
+use Rattle.refusal.specs.Outcome.{refused, refusedAt, requireSome}
 use Rattle.limits.specs.Limits.{rowLimit, channelLimit}
 use Rattle.ball.specs.declared.Ball.{Ball}
-use Rattle.text.specs.Parts.{same}
+use Rattle.text.specs.Parts.{textWithin, same}
 use Rattle.channel.specs.Channel.{Types}
 use Rattle.channel.specs.ChannelLaws.{SoundTypes}
 use Rattle.envelope.specs.Figures.{figuresOf, envelopeOf}
@@ -41,7 +41,8 @@ use Rattle.record_form.specs.Contracts.{statedForm}
 use Rattle.record_form.specs.declared.form.Stated.{Stated}
 use Rattle.record_read.specs.declared.EnvelopeRead.{EnvelopeRead}
 use Rattle.ball.specs.Ball.{filledBall}
-use Rattle.record_read.specs.Contracts.{notRead, statedBall, formAnswer, ballAnswer, statedAnswer}
+use Rattle.record_read.specs.Contracts.{notRead, statedBall, givenWithin, ballAnswer, statedAnswer, recordRead}
+use Rattle.record_read.specs.ReadLaws.{accepting, read-faulty, read-sound}
 use Rattle.record_read.specs.HeldLaws.{Holding, held-answer}
 
 pub sign-cast : (z : ℤ) → SFits w64 z → ltZ (back w64 z) (pos 0) ≡ false → T (nonNeg (back w64 z)) × Fits w64 (natAbs (back w64 z))
@@ -62,9 +63,8 @@ abbrev pub ballRead : Stated → Ball
 ballRead s =
     filledBall (s .«scaled_centre») (natAbs (back w64 (s .«scaled_squared_radius»))) (natAbs (back w64 (s .«scaled_lower_bound»))) (s .settled)
 
-abbrev pub envelopeRead : Stated → EnvelopeRead
-envelopeRead s =
-    record { outcome = Accepted; envelope = envelopeOf (figuresOf (s .n) (s .codes) (ballRead s) (s .moves)) (s .weights) }
+abbrev pub envelopeWith : Stated → Ball → EnvelopeRead
+envelopeWith s ball = accepting (envelopeOf (figuresOf (s .n) (s .codes) ball (s .moves)) (s .weights))
 
 module _ (D limit : ℕ) (rows : List ℤ) (m : ℕ) (codes : List ℕ) (s : Stated) where
   abbrev turned : EnvelopeRead
@@ -105,17 +105,17 @@ module _ (D limit : ℕ) (rows : List ℤ) (m : ℕ) (codes : List ℕ) (s : Sta
     -- n and the tags are those given
     module _ (n : ℕ) (count : length codes ≡ n) (agreed : same codes (take (s .n) (s .codes)) ≡ true) where
       answer : (t : Bool) → agrees D limit rows m n (ballRead s) (s .weights) ≡ t
-          → choose t (λ _. envelopeRead s) (λ _. turned) ≡ statedAnswer D limit rows m codes s
+          → requireSome (cond t (some (ballRead s)) none) turned (envelopeWith s) ≡ statedAnswer D limit rows m codes s
       unfolding statedAnswer
       answer t h =
-          ap₂ (λ a b. choose (a && b) (λ _. envelopeRead s) (λ _. turned)) (sym agreed)
+          ap₂ (λ a b. requireSome (cond (a && b) (some (ballRead s)) none) turned (envelopeWith s)) (sym agreed)
           (sym h ∙ ap (λ j. agrees D limit rows m j (ballRead s) (s .weights)) (sym count))
           ∙ ap (ballAnswer D limit rows m codes s) (sym stated)
 
       -- the ball as it is made
       module _ {ball : Ball} (is : ball ≡ ballRead s) where
         tested : (t : Bool) → agrees D limit rows m n ball (s .weights) ≡ t
-            → choose t (λ _. envelopeRead s) (λ _. turned) ≡ statedAnswer D limit rows m codes s
+            → requireSome (cond t (some (ballRead s)) none) turned (envelopeWith s) ≡ statedAnswer D limit rows m codes s
         tested t h = answer t (ap (λ (b : Ball). agrees D limit rows m n b (s .weights)) (sym is) ∙ h)
 
         pub disagreeing : agrees D limit rows m n ball (s .weights) ≡ false → turned ≡ statedAnswer D limit rows m codes s
@@ -123,9 +123,9 @@ module _ (D limit : ℕ) (rows : List ℤ) (m : ℕ) (codes : List ℕ) (s : Sta
 
         pub agreeing : {figures : Figures} {envelope : Envelope} → figures ≡ figuresOf (s .n) (s .codes) ball (s .moves)
             → envelope ≡ envelopeOf figures (s .weights) → agrees D limit rows m n ball (s .weights) ≡ true
-            → record { outcome = Accepted; envelope = envelope } ≡ statedAnswer D limit rows m codes s
+            → accepting envelope ≡ statedAnswer D limit rows m codes s
         agreeing f e h =
-            ap (λ (x : Envelope). record { outcome = Accepted; envelope = x })
+            ap accepting
             (e ∙ ap (λ (x : Figures). envelopeOf x (s .weights)) (f ∙ ap (λ (b : Ball). figuresOf (s .n) (s .codes) b (s .moves)) is))
             ∙ tested true h
 
@@ -144,20 +144,28 @@ module _ (types : Types) (text : List ℕ) (s : Stated) (e : s ≡ statedForm (f
       go (faulty line) is = zero-le
       go (sound r) is = form-channels types types-sound text r is
 
-  module _ (D : ℕ) (rows : List ℤ) (m : ℕ) (codes : List ℕ) where
-    pub read-faulty : (s .line ≡ 0 → ⊥)
-        → notRead rowLimit (refusedAt record-form (s .line)) ≡ formAnswer D rowLimit rows m codes (form rowLimit types text)
-    read-faulty h = go (form rowLimit types text) e
-      where
-        go : (f : Form Record) → s ≡ statedForm f → notRead rowLimit (refusedAt record-form (s .line)) ≡ formAnswer D rowLimit rows m codes f
-        go (faulty line) is = ap (λ (x : Stated). notRead rowLimit (refusedAt record-form (x .line))) is
-        go (sound r) is = absurd (h (ap (λ (x : Stated). x .line) is))
-
-    pub read-sound : SoundTypes types → Holding D → s .line ≡ 0
-        → statedAnswer D rowLimit rows m codes s ≡ formAnswer D rowLimit rows m codes (form rowLimit types text)
-    read-sound types-sound holding h = ap (statedAnswer D rowLimit rows m codes) e ∙ go (form rowLimit types text) refl e
+  module _ (D : ℕ) (rows : List ℤ) (m n : ℕ) (codes : List ℕ) (given : givenWithin rowLimit types rows m n codes ≡ true)
+      (within : textWithin text ≡ true) where
+    pub stated-faulty : (s .line ≡ 0 → ⊥)
+        → notRead rowLimit (refusedAt record-form (s .line)) ≡ recordRead D rowLimit types rows m n codes text
+    stated-faulty h = go (form rowLimit types text) refl e
       where
         go : (f : Form Record) → form rowLimit types text ≡ f → s ≡ statedForm f
-            → statedAnswer D rowLimit rows m codes (statedForm f) ≡ formAnswer D rowLimit rows m codes f
-        go (faulty line) is handed = absurd (omega (arith, form-faults rowLimit types text line is, ap (λ (x : Stated). x .line) handed))
-        go (sound r) is handed = held-answer D holding rows m codes r (form-channels types types-sound text r is)
+            → notRead rowLimit (refusedAt record-form (s .line)) ≡ recordRead D rowLimit types rows m n codes text
+        go (faulty line) is handed =
+            ap (λ (x : Stated). notRead rowLimit (refusedAt record-form (x .line))) handed
+            ∙ sym (read-faulty D rowLimit types rows m n codes text given within line is)
+        go (sound r) is handed = absurd (h (ap (λ (x : Stated). x .line) handed))
+
+    pub stated-sound : SoundTypes types → Holding D → s .line ≡ 0
+        → statedAnswer D rowLimit rows m (take n codes) s ≡ recordRead D rowLimit types rows m n codes text
+    stated-sound types-sound holding h = go (form rowLimit types text) refl e
+      where
+        go : (f : Form Record) → form rowLimit types text ≡ f → s ≡ statedForm f
+            → statedAnswer D rowLimit rows m (take n codes) s ≡ recordRead D rowLimit types rows m n codes text
+        go (faulty line) is handed =
+            absurd (omega (arith, h, form-faults rowLimit types text line is, ap (λ (x : Stated). x .line) handed))
+        go (sound r) is handed =
+            ap (statedAnswer D rowLimit rows m (take n codes)) handed
+            ∙ held-answer D holding rows m (take n codes) r (form-channels types types-sound text r is)
+            ∙ sym (read-sound D rowLimit types rows m n codes text given within r is)

@@ -3,8 +3,7 @@
 --     statedBall X M L settled                       the ball of these figures, if M and L are 0 or more
 --     ballOfRecord r                                 the ball that a record states, X in its eight places
 --     statedEnvelope limit r ball                    the envelope that a record states, with this ball
---     agreedRecord D limit rows m codes r ball       a record in form against rows and codes, if there is this ball
---     formAnswer D limit rows m codes form           a text in form or not, against rows and codes
+--     agreedBall D limit rows m codes tags ws ball   this ball, if there is one, and it agrees with rows and codes
 --     givenWithin limit types rows m n codes         the rows and the n codes are within their limits
 --     recordRead D limit types rows m n codes text   what reading answers
 --     ballAnswer D limit rows m codes stated ball    the same for what the reader of the form hands over, if there is this ball
@@ -12,7 +11,7 @@
 --     Agreeing rows m n codes stated                 what is asked of that
 use Prim.Native.Nat.{ℕ, _≤_}
 use mathlib.Core.Path.{_≡_}
-use mathlib.Core.Bool.{Bool, true, _&&_}
+use mathlib.Core.Bool.{Bool, true, cond, _&&_}
 use mathlib.Core.List.{List}
 use mathlib.Core.Option.{Option, none, some}
 use lib.Dec.{leb}
@@ -20,7 +19,7 @@ use lib.IntN.{ℤ, pos, negsuc}
 use lib.ListN.{length, take}
 use Rattle.lists.specs.Padded.{padded}
 use Rattle.refusal.specs.Number.{text-length, outside-limits, record-form, disagreement}
-use Rattle.refusal.specs.Outcome.{refused, refusedAt, choose}
+use Rattle.refusal.specs.Outcome.{refused, refusedAt, require, requireSome}
 use Rattle.refusal.specs.declared.Outcome.{Outcome}
 use Rattle.refusal.specs.declared.Outcome.the-variants.{Accepted}
 use Rattle.geometry.specs.Table.{rowsWithin}
@@ -32,7 +31,7 @@ use Rattle.channel.specs.Channel.{Types, codesKnown}
 use Rattle.envelope.specs.Figures.{figuresOf, envelopeOf, emptyEnvelope}
 use Rattle.agreement.specs.Agreement.{agrees}
 use Rattle.envelope.specs.declared.Envelope.{Envelope}
-use Rattle.record_form.specs.Record.{Record, Form, faulty, sound, form}
+use Rattle.record_form.specs.Record.{Record, requireSound, form}
 use Rattle.record_form.specs.Weights.{weightsOf}
 use Rattle.record_form.specs.declared.form.Stated.{Stated}
 use Rattle.ball.specs.Ball.{filledBall}
@@ -55,17 +54,10 @@ abbrev pub statedEnvelope : ℕ → Record → Ball → Envelope
 statedEnvelope limit r ball =
     envelopeOf (figuresOf (length (r .codes)) (padded channelLimit (r .codes)) ball (r .result .moves)) (weightsOf limit (r .weights))
 
--- n and tags are those given, and figures, letter and rows agree with the check; else 12
-abbrev pub agreedRecord : ℕ → ℕ → List ℤ → ℕ → List ℕ → Record → Option Ball → EnvelopeRead
-agreedRecord D limit rows m codes r none = notRead limit (refused disagreement)
-agreedRecord D limit rows m codes r (some ball) =
-    choose (same codes (r .codes) && agrees D limit rows m (length codes) ball (weightsOf limit (r .weights)))
-    (λ _. record { outcome = Accepted; envelope = statedEnvelope limit r ball })
-    (λ _. notRead limit (refused disagreement))
-
-abbrev pub formAnswer : ℕ → ℕ → List ℤ → ℕ → List ℕ → Form Record → EnvelopeRead
-formAnswer D limit rows m codes (faulty line) = notRead limit (refusedAt record-form line)
-formAnswer D limit rows m codes (sound r) = agreedRecord D limit rows m codes r (ballOfRecord r)
+-- n and tags are those given, and figures, letter and weights are what the check gives
+abbrev pub agreedBall : ℕ → ℕ → List ℤ → ℕ → List ℕ → List ℕ → List ℕ → Option Ball → Option Ball
+agreedBall D limit rows m codes tags ws none = none
+agreedBall D limit rows m codes tags ws (some ball) = cond (same codes tags && agrees D limit rows m (length codes) ball ws) (some ball) none
 
 abbrev pub givenWithin : ℕ → Types → List ℤ → ℕ → ℕ → List ℕ → Bool
 givenWithin limit types rows m n codes = rowsWithin limit rows m n && (leb n (length codes) && codesKnown types (take n codes))
@@ -73,20 +65,18 @@ givenWithin limit types rows m n codes = rowsWithin limit rows m n && (leb n (le
 -- 8, 1, 11, 12
 unfoldable pub recordRead : ℕ → ℕ → Types → List ℤ → ℕ → ℕ → List ℕ → List ℕ → EnvelopeRead
 recordRead D limit types rows m n codes text =
-    choose (givenWithin limit types rows m n codes)
-    (λ _. choose (textWithin text)
-    (λ _. formAnswer D limit rows m (take n codes) (form limit types text))
-    (λ _. notRead limit (refused text-length)))
-    (λ _. notRead limit (refused outside-limits))
+    require (givenWithin limit types rows m n codes) (notRead limit (refused outside-limits)) (λ _.
+    require (textWithin text) (notRead limit (refused text-length)) (λ _.
+    requireSound (form limit types text) (λ line. notRead limit (refusedAt record-form line)) (λ r.
+    requireSome (agreedBall D limit rows m (take n codes) (r .codes) (weightsOf limit (r .weights)) (ballOfRecord r)) (notRead limit (refused disagreement)) (λ ball.
+    record { outcome = Accepted; envelope = statedEnvelope limit r ball }))))
 
 -- ---- reading, by what the reader of the form hands over
 
 abbrev pub ballAnswer : ℕ → ℕ → List ℤ → ℕ → List ℕ → Stated → Option Ball → EnvelopeRead
-ballAnswer D limit rows m codes s none = notRead limit (refused disagreement)
-ballAnswer D limit rows m codes s (some ball) =
-    choose (same codes (take (s .n) (s .codes)) && agrees D limit rows m (length codes) ball (s .weights))
-    (λ _. record { outcome = Accepted; envelope = envelopeOf (figuresOf (s .n) (s .codes) ball (s .moves)) (s .weights) })
-    (λ _. notRead limit (refused disagreement))
+ballAnswer D limit rows m codes s o =
+    requireSome (agreedBall D limit rows m codes (take (s .n) (s .codes)) (s .weights) o) (notRead limit (refused disagreement)) (λ ball.
+    record { outcome = Accepted; envelope = envelopeOf (figuresOf (s .n) (s .codes) ball (s .moves)) (s .weights) })
 
 unfoldable pub statedAnswer : ℕ → ℕ → List ℤ → ℕ → List ℕ → Stated → EnvelopeRead
 statedAnswer D limit rows m codes s = ballAnswer D limit rows m codes s (statedBall (s .«scaled_centre») (s .«scaled_squared_radius») (s .«scaled_lower_bound») (s .settled))

@@ -5,8 +5,9 @@
 --     held-answer                  the record as it is read answers what the record does
 use Prim.Native.Nat.{ℕ, zero, suc, _-_, _≤_, _<_, min}
 use mathlib.Core.Path.{_≡_, refl, sym, ap, ap₂, _∙_}
-use mathlib.Core.Bool.{Bool, true, false, _&&_}
+use mathlib.Core.Bool.{Bool, true, false}
 use mathlib.Core.List.{List, [], _∷_, map}
+use mathlib.Core.Option.{some}
 use native.Mathlib.Omega.{arith}
 use lib.Dec.{lit<}
 use lib.IntN.{ℤ, pos, negsuc, natAbs}
@@ -14,8 +15,7 @@ use lib.ListN.{length, getD, set, replicate, length-map, List·getD-map}
 use lib.Seq.{ext-getD}
 use Rattle.lists.specs.Padded.{padded, padded-take}
 use Rattle.refusal.specs.Number.{disagreement}
-use Rattle.refusal.specs.Outcome.{refused, choose}
-use Rattle.refusal.specs.declared.Outcome.the-variants.{Accepted}
+use Rattle.refusal.specs.Outcome.{refused, requireSome}
 use Rattle.limits.specs.Limits.{total, rowLimit, channelLimit, centreLimit, distanceLimit}
 use Rattle.geometry.specs.Places.{centreList, centreOf}
 use Rattle.geometry.specs.PlacesLaws.{centreList-at, centreList-cong}
@@ -26,14 +26,15 @@ use Rattle.envelope.specs.Figures.{figuresOf, envelopeOf}
 use Rattle.agreement.specs.Agreement.{agrees}
 use Rattle.agreement.specs.AgreementLaws.{agrees-agreed, agreed-tight, agreed-weight}
 use Rattle.record_lines.specs.Lines.{Weight}
-use Rattle.record_form.specs.Record.{Record, sound}
+use Rattle.record_form.specs.Record.{Record}
 use Rattle.record_form.specs.Weights.{placedIn, weightsOf}
 use Rattle.record_lines.specs.Contracts.{heldLimit, heldWeightLimit, held, heldWeight}
 use Rattle.record_lines.specs.ContractLaws.{held-size, held-same, held-negative}
 use Rattle.record_form.specs.Contracts.{heldWeights, heldRecord, statedRecord}
 use Rattle.record_read.specs.declared.EnvelopeRead.{EnvelopeRead}
 use Rattle.ball.specs.Ball.{filledBall}
-use Rattle.record_read.specs.Contracts.{notRead, statedBall, agreedRecord, formAnswer, ballAnswer, statedAnswer}
+use Rattle.record_read.specs.Contracts.{notRead, statedBall, statedEnvelope, agreedBall, ballAnswer, statedAnswer}
+use Rattle.record_read.specs.ReadLaws.{accepting, soundAnswer}
 
 -- ---- numbers
 
@@ -168,13 +169,8 @@ module _ (D : ℕ) (holding : Holding D) (rows : List ℤ) (m : ℕ) (codes : Li
   -- the answer where n and the tags are these, and with this ball and these weights
   abbrev answerWith : List ℕ → Ball → List ℕ → EnvelopeRead
   answerWith tags ball ws =
-      choose (same codes tags && agrees D rowLimit rows m (length codes) ball ws)
-      (λ _.
-      record {
-        outcome = Accepted;
-        envelope = envelopeOf (figuresOf (length (r .codes)) (padded channelLimit (r .codes)) ball (r .result .moves)) ws;
-      })
-      (λ _. notRead rowLimit (refused disagreement))
+      requireSome (agreedBall D rowLimit rows m codes tags ws (some ball)) (notRead rowLimit (refused disagreement)) (λ ball.
+      accepting (envelopeOf (figuresOf (length (r .codes)) (padded channelLimit (r .codes)) ball (r .result .moves)) ws))
 
   turned : (ball : Ball) (ws : List ℕ) → agrees D rowLimit rows m (length (r .codes)) ball ws ≡ false
       → answerWith (r .codes) ball ws ≡ notRead rowLimit (refused disagreement)
@@ -184,15 +180,17 @@ module _ (D : ℕ) (holding : Holding D) (rows : List ℤ) (m : ℕ) (codes : Li
       go true e = rw (e, ap (λ j. agrees D rowLimit rows m j ball ws) (ap length (same-eq codes (r .codes) e)) ∙ h)
       go false e = rw e
 
-  pub held-answer : statedAnswer D rowLimit rows m codes (statedRecord (heldRecord r)) ≡ formAnswer D rowLimit rows m codes (sound r)
+  pub held-answer : statedAnswer D rowLimit rows m codes (statedRecord (heldRecord r)) ≡ soundAnswer D rowLimit rows m codes r
   unfolding statedAnswer
   held-answer = go (r .result .scaledSquaredRadius) (r .result .scaledLowerBound)
     where
       go : (M L : ℤ)
           → ballAnswer D rowLimit rows m codes (statedRecord (heldRecord r))
           (statedBall (centreList (length (r .codes)) (centreOf (map held (r .scaledCentre)))) (held M) (held L) (r .result .settled))
-          ≡ agreedRecord D rowLimit rows m codes r
-          (statedBall (centreList (length (r .codes)) (centreOf (r .scaledCentre))) M L (r .result .settled))
+          ≡ requireSome
+          (agreedBall D rowLimit rows m codes (r .codes) (weightsOf rowLimit (r .weights))
+          (statedBall (centreList (length (r .codes)) (centreOf (r .scaledCentre))) M L (r .result .settled)))
+          (notRead rowLimit (refused disagreement)) (λ ball. accepting (statedEnvelope rowLimit r ball))
       go (pos M) (pos L) =
           ap₂ (λ tags ws. answerWith tags (ballWith (length (r .codes)) (map held (r .scaledCentre)) (min M heldLimit) (min L heldLimit) (r .result .settled)) ws)
           (padded-take channelLimit (r .codes) channels) (weights-held rowLimit (r .weights))

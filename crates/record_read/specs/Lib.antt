@@ -1,4 +1,4 @@
--- What reading a record answers; then the laws: numbers as they are kept, and what is accepted.
+-- What reading a record answers; then the laws: what is accepted, and numbers as they are kept.
 pub mod Contracts
-pub mod HeldLaws
 pub mod ReadLaws
+pub mod HeldLaws

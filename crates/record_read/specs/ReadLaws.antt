@@ -1,9 +1,11 @@
 -- What reading a record answers, for any total D, row limit and sound table of types.
+--     accepting e                    the answer with this envelope
+--     agreed-ball, ball-agreed       a ball that agrees with rows and codes, test by test
+--     soundAnswer D limit ..         what a record in form answers
 --     given-within                   what a record is read against is within its limits, as facts
 --     read-limits, read-length       8 and 1
---     read-form                      past these two, the form decides
+--     read-faulty, read-sound        11, and what is answered past it
 --     Accepting                      what an accepted record is: in form, with the codes given, and in agreement with the rows
---     accepting e                    the answer with this envelope
 --     each-read                      what holds of each answer holds of the call
 --     read-zero                      only an accepted record has the number 0
 --     accepted-read, read-accepted   a record is accepted exactly where it is an accepted one
@@ -11,7 +13,7 @@
 --     printed-not-11                 the printing of a record within the limits is not met by 11
 use Prim.Native.Nat.{ℕ, _≤_, _<_}
 use mathlib.Core.Path.{_≡_, refl, sym, _∙_, ap, ap₂}
-use mathlib.Core.Bool.{Bool, true, false, _&&_}
+use mathlib.Core.Bool.{Bool, true, false, cond, _&&_}
 use mathlib.Core.List.{List}
 use mathlib.Core.Option.{Option, none, some}
 use native.Mathlib.Omega.{arith}
@@ -19,9 +21,10 @@ use borrow.Author.Tests.{leb-true}
 use lib.Dec.{leb}
 use lib.IntN.{ℤ}
 use lib.ListN.{length, take}
-use Rattle.integers.specs.Tests.{both, impossible, nonzero}
+use Rattle.integers.specs.Tests.{both, cond-some, impossible, nonzero, unlike}
 use Rattle.refusal.specs.Number.{text-length, outside-limits, record-form, disagreement}
-use Rattle.refusal.specs.Outcome.{refused, refusedAt, numberOf, choose}
+use Rattle.refusal.specs.Outcome.{refused, refusedAt, numberOf, requireSome}
+use Rattle.refusal.specs.OutcomeLaws.{each-answer, each-found}
 use Rattle.refusal.specs.declared.Outcome.the-variants.{Accepted}
 use Rattle.geometry.specs.Table.{rowsWithin}
 use Rattle.ball.specs.declared.Ball.{Ball}
@@ -33,10 +36,34 @@ use Rattle.channel.specs.ChannelLaws.{SoundTypes}
 use Rattle.agreement.specs.Agreement.{agrees}
 use Rattle.envelope.specs.declared.Envelope.{Envelope}
 use Rattle.record_form.specs.Record.{Record, Form, faulty, sound, form, printRecord, Within}
-use Rattle.record_form.specs.RecordLaws.{form-printed, printed-form}
+use Rattle.record_form.specs.RecordLaws.{each-sound, form-printed, printed-form}
 use Rattle.record_form.specs.Weights.{weightsOf}
-use Rattle.record_read.specs.Contracts.{notRead, ballOfRecord, statedEnvelope, agreedRecord, formAnswer, givenWithin, recordRead}
+use Rattle.record_read.specs.Contracts.{notRead, ballOfRecord, statedEnvelope, agreedBall, givenWithin, recordRead}
 use Rattle.record_read.specs.declared.EnvelopeRead.{EnvelopeRead}
+
+abbrev pub accepting : Envelope → EnvelopeRead
+accepting e = record { outcome = Accepted; envelope = e }
+
+-- ---- 12
+
+module _ (D limit : ℕ) (rows : List ℤ) (m : ℕ) (codes tags ws : List ℕ) where
+  pub agreed-ball : (o : Option Ball) {ball : Ball} → agreedBall D limit rows m codes tags ws o ≡ some ball
+      → (o ≡ some ball) × (codes ≡ tags) × (agrees D limit rows m (length codes) ball ws ≡ true)
+  agreed-ball none e = unlike e
+  agreed-ball (some b) {ball} e =
+      let agreeing = agrees D limit rows m (length codes) b ws in
+      let test = cond-some (same codes tags && agreeing) e in
+      let tests = both (same codes tags) agreeing (test .0) in
+      let is : b ≡ ball = cc (test .1) in
+      (test .1, same-eq codes tags (tests .0), ap (λ (x : Ball). agrees D limit rows m (length codes) x ws) (sym is) ∙ tests .1)
+
+  pub ball-agreed : {o : Option Ball} {ball : Ball} → o ≡ some ball → codes ≡ tags → agrees D limit rows m (length codes) ball ws ≡ true
+      → agreedBall D limit rows m codes tags ws o ≡ some ball
+  ball-agreed {ball = ball} states alike agreeing =
+      ap (agreedBall D limit rows m codes tags ws) states
+      ∙ ap (λ (t : Bool). cond t (some ball) none) (ap₂ _&&_ (ap (same codes) (sym alike) ∙ same-refl codes) agreeing)
+
+-- ---- the order
 
 pub given-within : (limit : ℕ) (types : Types) (rows : List ℤ) (m n : ℕ) (codes : List ℕ) → givenWithin limit types rows m n codes ≡ true
     → (rowsWithin limit rows m n ≡ true) × (n ≤ length codes)
@@ -45,6 +72,12 @@ given-within limit types rows m n codes h =
     let known = codesKnown types (take n codes) in
     let parts = both (rowsWithin limit rows m n) (places && known) h in
     (parts .0, leb-true n (length codes) (both places known (parts .1) .0))
+
+-- a record in form, past 11
+abbrev pub soundAnswer : ℕ → ℕ → List ℤ → ℕ → List ℕ → Record → EnvelopeRead
+soundAnswer D limit rows m codes r =
+    requireSome (agreedBall D limit rows m codes (r .codes) (weightsOf limit (r .weights)) (ballOfRecord r)) (notRead limit (refused disagreement)) (λ ball.
+    accepting (statedEnvelope limit r ball))
 
 module _ (D limit : ℕ) (types : Types) (rows : List ℤ) (m n : ℕ) (codes text : List ℕ) where
   pub read-limits : givenWithin limit types rows m n codes ≡ false → recordRead D limit types rows m n codes text ≡ notRead limit (refused outside-limits)
@@ -56,10 +89,16 @@ module _ (D limit : ℕ) (types : Types) (rows : List ℤ) (m n : ℕ) (codes te
     unfolding recordRead
     read-length h = rw (given, h, recordRead)
 
-    pub read-form : textWithin text ≡ true
-        → recordRead D limit types rows m n codes text ≡ formAnswer D limit rows m (take n codes) (form limit types text)
-    unfolding recordRead
-    read-form h = rw (given, h, recordRead)
+    module _ (within : textWithin text ≡ true) where
+      pub read-faulty : (line : ℕ) → form limit types text ≡ faulty line
+          → recordRead D limit types rows m n codes text ≡ notRead limit (refusedAt record-form line)
+      unfolding recordRead
+      read-faulty line h = rw (given, within, h, recordRead)
+
+      pub read-sound : (r : Record) → form limit types text ≡ sound r
+          → recordRead D limit types rows m n codes text ≡ soundAnswer D limit rows m (take n codes) r
+      unfolding recordRead
+      read-sound r h = rw (given, within, h, recordRead)
 
 -- ---- what may be answered
 
@@ -75,56 +114,32 @@ pub record Accepting (D limit : ℕ) (types : Types) (rows : List ℤ) (m n : �
   pub agreeing : agrees D limit rows m (length (take n codes)) ball (weightsOf limit (stated .weights)) ≡ true
   pub envelope-is : e ≡ statedEnvelope limit stated ball
 
-abbrev pub accepting : Envelope → EnvelopeRead
-accepting e = record { outcome = Accepted; envelope = e }
-
 -- what holds of each answer holds of the call
 module _ (D limit : ℕ) (types : Types) (rows : List ℤ) (m n : ℕ) (codes text : List ℕ) (P : EnvelopeRead → Type 0)
     (outside : P (notRead limit (refused outside-limits))) (no-text : P (notRead limit (refused text-length)))
     (faulted : (line : ℕ) → form limit types text ≡ faulty line → P (notRead limit (refusedAt record-form line)))
     (disagreed : P (notRead limit (refused disagreement)))
     (accepted : (e : Envelope) → Accepting D limit types rows m n codes text e → P (accepting e)) where
-  module _ (given : givenWithin limit types rows m n codes ≡ true) (within : textWithin text ≡ true) where
-    module _ (r : Record) (in-form : form limit types text ≡ sound r) where
-      tested : (ball : Ball) → ballOfRecord r ≡ some ball → (s a : Bool) → same (take n codes) (r .codes) ≡ s
-          → agrees D limit rows m (length (take n codes)) ball (weightsOf limit (r .weights)) ≡ a
-          → P (choose (s && a) (λ _. accepting (statedEnvelope limit r ball)) (λ _. notRead limit (refused disagreement)))
-      tested ball states true true s a =
-          accepted (statedEnvelope limit r ball)
-          record {
-            given = given;
-            some-text = within;
-            stated = r;
-            ball = ball;
-            in-form = in-form;
-            states = states;
-            same-codes = same-eq (take n codes) (r .codes) s;
-            agreeing = a;
-            envelope-is = refl;
-          }
-      tested ball states true false s a = disagreed
-      tested ball states false a s b = disagreed
-
-      ball-read : (o : Option Ball) → ballOfRecord r ≡ o → P (agreedRecord D limit rows m (take n codes) r o)
-      ball-read none states = disagreed
-      ball-read (some ball) states =
-          tested ball states (same (take n codes) (r .codes))
-          (agrees D limit rows m (length (take n codes)) ball (weightsOf limit (r .weights))) refl refl
-
-    by-form : (f : Form Record) → form limit types text ≡ f → P (formAnswer D limit rows m (take n codes) f)
-    by-form (faulty line) e = faulted line e
-    by-form (sound r) e = ball-read r e (ballOfRecord r) refl
-
   pub each-read : P (recordRead D limit types rows m n codes text)
   unfolding recordRead
-  each-read = go (givenWithin limit types rows m n codes) (textWithin text) refl refl
-    where
-      go : (g t : Bool) → givenWithin limit types rows m n codes ≡ g → textWithin text ≡ t
-          → P (choose g (λ _. choose t (λ _. formAnswer D limit rows m (take n codes) (form limit types text))
-          (λ _. notRead limit (refused text-length))) (λ _. notRead limit (refused outside-limits)))
-      go true true g t = by-form g t (form limit types text) refl
-      go true false g t = no-text
-      go false t g h = outside
+  each-read =
+      each-answer P (givenWithin limit types rows m n codes) (λ _. outside) (λ given.
+      each-answer P (textWithin text) (λ _. no-text) (λ within.
+      each-sound P (form limit types text) faulted (λ r in-form.
+      each-found P (agreedBall D limit rows m (take n codes) (r .codes) (weightsOf limit (r .weights)) (ballOfRecord r)) (λ _. disagreed) (λ ball agreed.
+      let agreement = agreed-ball D limit rows m (take n codes) (r .codes) (weightsOf limit (r .weights)) (ballOfRecord r) agreed in
+      accepted (statedEnvelope limit r ball)
+      record {
+        given = given;
+        some-text = within;
+        stated = r;
+        ball = ball;
+        in-form = in-form;
+        states = agreement .0;
+        same-codes = agreement .1;
+        agreeing = agreement .2;
+        envelope-is = refl;
+      }))))
 
 module _ (D limit : ℕ) (types : Types) (rows : List ℤ) (m n : ℕ) (codes text : List ℕ) where
   pub read-zero : numberOf (recordRead D limit types rows m n codes text .outcome) ≡ 0 → recordRead D limit types rows m n codes text .outcome ≡ Accepted
@@ -141,11 +156,9 @@ module _ (D limit : ℕ) (types : Types) (rows : List ℤ) (m n : ℕ) (codes te
 
   pub read-accepted : (e : Envelope) → Accepting D limit types rows m n codes text e → recordRead D limit types rows m n codes text ≡ accepting e
   read-accepted e a =
-      read-form D limit types rows m n codes text (a .given) (a .some-text)
-      ∙ ap (formAnswer D limit rows m (take n codes)) (a .in-form)
-      ∙ ap (agreedRecord D limit rows m (take n codes) (a .stated)) (a .states)
-      ∙ ap (λ (t : Bool). choose t (λ _. accepting (statedEnvelope limit (a .stated) (a .ball))) (λ _. notRead limit (refused disagreement)))
-      (ap₂ _&&_ (ap (same (take n codes)) (sym (a .same-codes)) ∙ same-refl (take n codes)) (a .agreeing))
+      read-sound D limit types rows m n codes text (a .given) (a .some-text) (a .stated) (a .in-form)
+      ∙ ap (λ (o : Option Ball). requireSome o (notRead limit (refused disagreement)) (λ ball. accepting (statedEnvelope limit (a .stated) ball)))
+      (ball-agreed D limit rows m (take n codes) (a .stated .codes) (weightsOf limit (a .stated .weights)) (a .states) (a .same-codes) (a .agreeing))
       ∙ ap accepting (sym (a .envelope-is))
 
 -- ---- 2.10: the form
@@ -158,8 +171,7 @@ module _ (D limit : ℕ) (types : Types) (types-sound : SoundTypes types) (rows 
     where
       go : (f : Form Record) → form limit types text ≡ f → (r : Record) × Within limit types r × (printRecord types r ≡ text)
       go (faulty line) e =
-          absurd (other (ap (λ (a : EnvelopeRead). numberOf (a .outcome)) (read-form D limit types rows m n codes text given within)
-          ∙ ap (λ (f : Form Record). numberOf (formAnswer D limit rows m (take n codes) f .outcome)) e))
+          absurd (other (ap (λ (a : EnvelopeRead). numberOf (a .outcome)) (read-faulty D limit types rows m n codes text given within line e)))
       go (sound r) e = let printed = form-printed limit types types-sound text r e in (r, printed .0, printed .1)
 
   pub printed-not-11 : limit < magnitudeLimit → (r : Record) → Within limit types r → printRecord types r ≡ text

@@ -5,7 +5,7 @@ use mathlib.Core.Bool.{_&&_}
 use mathlib.Core.List.{List}
 use lib.IntN.{ℤ}
 use Rattle.refusal.specs.Number.{outside-limits, disagreement}
-use Rattle.refusal.specs.Outcome.{refused, choose}
+use Rattle.refusal.specs.Outcome.{refused, require}
 use Rattle.geometry.specs.Table.{rowsWithin}
 use Rattle.channel.specs.Channel.{Types}
 use Rattle.envelope.specs.Figures.{figuresKnown}
@@ -18,8 +18,6 @@ use Rattle.lent.specs.declared.TextWritten.{TextWritten}
 -- 8, 12, 13
 unfoldable pub recordWritten : ℕ → ℕ → Types → List ℤ → ℕ → Envelope → ℕ → TextWritten
 recordWritten D limit types rows m e places =
-    choose (figuresKnown D types (e .figures) && rowsWithin limit rows m (e .figures .n))
-    (λ _. choose (agrees D limit rows m (e .figures .n) (e .figures .ball) (e .weights))
-    (λ _. textWritten (recordText types e) places)
-    (λ _. notWritten (refused disagreement)))
-    (λ _. notWritten (refused outside-limits))
+    require (figuresKnown D types (e .figures) && rowsWithin limit rows m (e .figures .n)) (notWritten (refused outside-limits)) (λ _.
+    require (agrees D limit rows m (e .figures .n) (e .figures .ball) (e .weights)) (notWritten (refused disagreement)) (λ _.
+    textWritten (recordText types e) places))

@@ -9,17 +9,18 @@
 --     written-writing, writing-written   an envelope is written exactly then, to a buffer that holds its text
 --     writing-refused                    12 is met only where limits are kept and agreement is not
 use Prim.Native.Nat.{ℕ, _≤_, _<_}
-use mathlib.Core.Path.{_≡_, refl, _∙_, ap}
-use mathlib.Core.Bool.{Bool, true, false, _&&_}
+use mathlib.Core.Path.{_≡_, _∙_, ap}
+use mathlib.Core.Bool.{true, false, _&&_}
 use mathlib.Core.List.{List}
 use native.Mathlib.Omega.{arith}
 use borrow.Author.Tests.{leb-true, leb-false}
 use lib.Dec.{leb}
 use lib.IntN.{ℤ}
 use lib.ListN.{length}
-use Rattle.integers.specs.Tests.{nonzero}
+use Rattle.integers.specs.Tests.{both, nonzero}
 use Rattle.refusal.specs.Number.{outside-limits, disagreement, buffer-short}
-use Rattle.refusal.specs.Outcome.{refused, numberOf, choose}
+use Rattle.refusal.specs.Outcome.{refused, numberOf}
+use Rattle.refusal.specs.OutcomeLaws.{each-answer}
 use Rattle.refusal.specs.declared.Outcome.the-variants.{Accepted}
 use Rattle.geometry.specs.Table.{rowsWithin}
 use Rattle.limits.specs.Limits.{total, rowLimit}
@@ -94,20 +95,15 @@ module _ (D limit : ℕ) (types : Types) (rows : List ℤ) (m : ℕ) (e : Envelo
       pub each-written : P (recordWritten D limit types rows m e places)
       unfolding recordWritten
       each-written =
-          go (figuresKnown D types (e .figures)) (rowsWithin limit rows m (e .figures .n))
-          (agrees D limit rows m (e .figures .n) (e .figures .ball) (e .weights)) (leb (length (recordText types e)) places) refl refl refl refl
-        where
-          go : (f r a l : Bool) → figuresKnown D types (e .figures) ≡ f → rowsWithin limit rows m (e .figures .n) ≡ r
-              → agrees D limit rows m (e .figures .n) (e .figures .ball) (e .weights) ≡ a → leb (length (recordText types e)) places ≡ l
-              → P (choose (f && r) (λ _. choose a (λ _. choose l (λ _. written (length (recordText types e)))
-              (λ _. notWritten (refused buffer-short))) (λ _. notWritten (refused disagreement))) (λ _. notWritten (refused outside-limits)))
-          go true true true true f r a l =
-              whole (record { figures-kept = f; rows-kept = r; agreeing = a }) (leb-true (length (recordText types e)) places l)
-          go true true true false f r a l =
-              short (record { figures-kept = f; rows-kept = r; agreeing = a }) (leb-false (length (recordText types e)) places l)
-          go true true false l f r a h = disagreed f r a
-          go true false a l f r g h = outside
-          go false r a l f s g h = outside
+          let figures = figuresKnown D types (e .figures) in
+          let rows-kept = rowsWithin limit rows m (e .figures .n) in
+          let long = length (recordText types e) in
+          each-answer P (figures && rows-kept) (λ _. outside) (λ kept.
+          let f = both figures rows-kept kept .0 in
+          let r = both figures rows-kept kept .1 in
+          each-answer P (agrees D limit rows m (e .figures .n) (e .figures .ball) (e .weights)) (disagreed f r) (λ a.
+          let w : Writing D limit types rows m e = record { figures-kept = f; rows-kept = r; agreeing = a } in
+          each-answer P (leb long places) (λ h. short w (leb-false long places h)) (λ h. whole w (leb-true long places h))))
 
     pub written-writing : recordWritten D limit types rows m e places .outcome ≡ Accepted → Writing D limit types rows m e
     written-writing h =

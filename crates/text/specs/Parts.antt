@@ -9,7 +9,7 @@
 --     free c l, allFree c parts    no byte c stands in l, in any of the parts
 --     partEnd c s at               where the part of s that starts at index at ends
 --     partsFrom c s at             the parts of s from index at on; none past the end
---     partStart c k s              where part k of s, counted from 0, starts; past the end where there is no such part
+--     partStart c s at k           where part k of s from an index on, counted from 0, starts; past the end where there is no such part
 use Prim.Native.Nat.{ℕ, zero, suc, _+_}
 use mathlib.Core.Bool.{Bool, true, false, not, cond, _&&_}
 use mathlib.Core.List.{List, [], _∷_, _++_}
@@ -65,6 +65,6 @@ unfoldable pub partsFrom : ℕ → List ℕ → ℕ → List (List ℕ)
 partsFrom c s at = cond (leb at (length s)) (cut c (drop at s)) []
 
 -- each part starts after the separator that ends the part before it
-unfoldable pub partStart : ℕ → ℕ → List ℕ → ℕ
-partStart c zero s = 0
-partStart c (suc k) s = suc (partEnd c s (partStart c k s))
+unfoldable pub partStart : ℕ → List ℕ → ℕ → ℕ → ℕ
+partStart c s at zero = at
+partStart c s at (suc k) = suc (partEnd c s (partStart c s at k))

@@ -26,6 +26,8 @@
 --     Followed, followed               one that ends before it is followed by another
 --     part-start                       the parts from where part k starts are all but the first k
 --     part-start-most                  part k starts within the text or just past it, as long as there are k parts
+--     part-start-next                  the parts from past the end of a part start where those after it do
+--     part-start-drop                  the text from where part k starts is the parts from that one on, joined
 use Prim.Native.Nat.{ℕ, zero, suc, _+_, _-_, _≤_, _<_, zero-le}
 use mathlib.Core.Path.{_≡_, refl, sym, ap, ap₂, _∙_}
 use mathlib.Core.Bool.{Bool, true, false, not, cond, _&&_, and-assoc}
@@ -396,19 +398,37 @@ parts-rest c s at = go (leb at (length s)) refl
         let h = leb-false at (length s) k in
         ap (drop 1) (parts-none c s at h) ∙ sym (parts-none c s (suc (partEnd c s at)) (omega arith))
 
-pub part-start : (c k : ℕ) (s : List ℕ) → partsFrom c s (partStart c k s) ≡ drop k (cut c s)
-unfolding partStart
-part-start c zero s = parts-whole c s
-part-start c (suc k) s =
-    sym (parts-rest c s (partStart c k s)) ∙ ap (drop 1) (part-start c k s) ∙ drop-drop 1 k (cut c s) ∙ ap (λ i. drop i (cut c s)) (add-one k)
+module _ (c : ℕ) (s : List ℕ) where
+  pub part-start : (k : ℕ) → partsFrom c s (partStart c s 0 k) ≡ drop k (cut c s)
+  unfolding partStart
+  part-start zero = parts-whole c s
+  part-start (suc k) =
+      sym (parts-rest c s (partStart c s 0 k)) ∙ ap (drop 1) (part-start k) ∙ drop-drop 1 k (cut c s) ∙ ap (λ i. drop i (cut c s)) (add-one k)
 
-pub part-start-most : (c k : ℕ) (s : List ℕ) → k ≤ length (cut c s) → partStart c k s ≤ length s + 1
-unfolding partStart
-part-start-most c zero s h = omega arith
-part-start-most c (suc k) s h = go (partStart c k s) (part-start c k s) (leb (partStart c k s) (length s)) refl
-  where
-    go : (at : ℕ) → partsFrom c s at ≡ drop k (cut c s) → (t : Bool) → leb at (length s) ≡ t → suc (partEnd c s at) ≤ length s + 1
-    go at f true e = omega (arith, part-end c s at (leb-true at (length s) e) .high)
-    go at f false e =
-        let n : length (drop k (cut c s)) ≡ 0 = ap length (sym f ∙ parts-none c s at (leb-false at (length s) e)) in
-        absurd (omega (arith, length-drop k (cut c s)))
+  pub part-start-most : (k : ℕ) → k ≤ length (cut c s) → partStart c s 0 k ≤ length s + 1
+  unfolding partStart
+  part-start-most zero h = omega arith
+  part-start-most (suc k) h = go (partStart c s 0 k) (part-start k) (leb (partStart c s 0 k) (length s)) refl
+    where
+      go : (at : ℕ) → partsFrom c s at ≡ drop k (cut c s) → (t : Bool) → leb at (length s) ≡ t → suc (partEnd c s at) ≤ length s + 1
+      go at f true e = omega (arith, part-end c s at (leb-true at (length s) e) .high)
+      go at f false e =
+          let n : length (drop k (cut c s)) ≡ 0 = ap length (sym f ∙ parts-none c s at (leb-false at (length s) e)) in
+          absurd (omega (arith, length-drop k (cut c s)))
+
+  pub part-start-next : (at k : ℕ) → partStart c s (suc (partEnd c s at)) k ≡ partStart c s at (suc k)
+  unfolding partStart
+  part-start-next at zero = refl
+  part-start-next at (suc k) = ap (λ i. suc (partEnd c s i)) (part-start-next at k)
+
+  pub part-start-drop : (k : ℕ) → k < length (cut c s) → drop (partStart c s 0 k) s ≡ join c (drop k (cut c s))
+  part-start-drop k h = go (leb (partStart c s 0 k) (length s)) refl
+    where
+      go : (t : Bool) → leb (partStart c s 0 k) (length s) ≡ t → drop (partStart c s 0 k) s ≡ join c (drop k (cut c s))
+      go true e =
+          sym (join-cut c (drop (partStart c s 0 k) s))
+          ∙ ap (join c) (sym (parts-within c s (partStart c s 0 k) (leb-true (partStart c s 0 k) (length s) e)) ∙ part-start k)
+      go false e =
+          let none : length (drop k (cut c s)) ≡ 0 =
+          ap length (sym (part-start k) ∙ parts-none c s (partStart c s 0 k) (leb-false (partStart c s 0 k) (length s) e)) in
+          absurd (omega (arith, length-drop k (cut c s)))

@@ -2,11 +2,12 @@
 -- weights sum to the total, and X and the pair of rows are theirs. The measure is the number of moves left.
 use Prim.Native.Nat.{_-_}
 use mathlib.Core.Path.{_≡_, refl, sym, _∙_}
-use mathlib.Core.Bool.{true, _&&_}
+use mathlib.Core.Bool.{true, not, _&&_}
 use borrow.Author.Needs.{needs}
 use native.Mathlib.Omega.{arith}
 use native.Mathlib.Nat.{le-refl}
 use lib.Dec.{ltb, lit≤}
+use Rattle.geometry.specs.Move.{isSettled}
 use Rattle.geometry.specs.TableLaws.{table-row, weights-within}
 use Rattle.limits.specs.Limits.{total}
 use Rattle.drawing.proofs.Laws.{Carried, start-good, begins, ends, centre-good, more, apart, transfer-most, can-move, moved-good, shifted-is, again}
@@ -29,7 +30,7 @@ entry c =
 abbrev head : tie.Then1 Inv-loop μ-loop → tie.At-loop Inv-loop μ-loop
 head c = c .before .before
 
-goes : (c : tie.Then1 Inv-loop μ-loop) → (ltb (head c .loop .pair .separation) (head c .loop .pair .difference) && ltb (head c .loop .moves) (entry c .args .budget)) ≡ true
+goes : (c : tie.Then1 Inv-loop μ-loop) → (not (isSettled (head c .loop .pair .difference) (head c .loop .pair .separation)) && ltb (head c .loop .moves) (entry c .args .budget)) ≡ true
 goes c = sym (c .before .goes-on .ensures) ∙ c .if1 .taken
 
 scaled-centre-requires : tie.Need-scaled-centre-requires Inv-loop μ-loop

@@ -1,22 +1,25 @@
--- The tests of the figures and of the text's length are the definition's own. A text whose last byte is not 10 is no line with its
--- byte 10; what stands before a last byte 10 is the text's one line where there is no byte 10 in it, and the verdict is that on it.
+-- The tests of the figures and of the text's length are the definition's own. A text whose last byte is not 10 is not in form; a text
+-- whose last byte is 10 is what stands before it and that byte, and the verdict is that on these.
 use Prim.Native.Nat.{_-_, _≤_}
-use mathlib.Core.Path.{_≡_, refl, sym, _∙_}
+use mathlib.Core.Path.{_≡_, sym, ap, _∙_}
 use mathlib.Core.Bool.{true}
+use mathlib.Core.List.{[], _∷_, _++_}
 use native.Mathlib.Omega.{arith}
 use borrow.Author.Needs.{needs}
 use borrow.Author.Tests.{not-true, not-false}
-use lib.ListN.{length}
+use lib.ListN.{length, take}
 use lib.Seq.{length-take-le}
 use denote.Ref.{now}
 use Rattle.limits.specs.Limits.{total}
-use Rattle.text.specs.Parts.{textWithin}
+use Rattle.text.specs.Parts.{lineEnd, textWithin}
 use Rattle.text.specs.PartsLaws.{text-within}
 use Rattle.channel.specs.Channel.{channelTypes}
 use Rattle.ball.specs.Ball.{filledBall}
 use Rattle.envelope.specs.Figures.{figuresKnown, figuresOf}
 use Rattle.envelope.specs.declared.Figures.{Figures}
-use Rattle.reading.proofs.VerdictSteps.{line-last, line-none, judged-text}
+use Rattle.reading.specs.Verdict.{judged}
+use Rattle.reading.specs.VerdictLaws.{refuses-figures, refuses-length, refuses-form}
+use Rattle.reading.proofs.VerdictSteps.{line-last, line-none}
 use Rattle.reading.proofs.judge_lent.Statement.{statement}
 use Rattle.reading.proofs.judge_lent.Tie as tie
 
@@ -31,8 +34,8 @@ returns c =
     let test = c .before .before in
     let start = test .before .before .before in
     c .refused .ensures
-    ∙ judged-text total channelTypes (figures start) (now (start .args .text))
-    (sym (test .figures-known-lent .ensures) ∙ not-true _ (c .before .if1 .taken)) refl refl
+    ∙ sym (refuses-figures total channelTypes (figures start) (now (start .args .text))
+    (sym (test .figures-known-lent .ensures) ∙ not-true _ (c .before .if1 .taken)))
 
 -- past the test of the figures
 within : (c : tie.Else1) → figuresKnown total channelTypes (figures (c .before .before .before .before)) ≡ true
@@ -48,8 +51,8 @@ returns-2 c =
     let test = c .before .before in
     let start = start-of test in
     c .refused2 .ensures
-    ∙ judged-text total channelTypes (figures start) (now (start .args .text)) (within (test .before))
-    (sym (test .text-within .ensures) ∙ not-true _ (c .before .if2 .taken)) refl
+    ∙ sym (refuses-length total channelTypes (figures start) (now (start .args .text)) (within (test .before))
+    (sym (test .text-within .ensures) ∙ not-true _ (c .before .if2 .taken)))
 
 -- past the test of the text
 fitting : (c : tie.Else2) → textWithin (now (start-of (c .before) .args .text)) ≡ true
@@ -72,26 +75,30 @@ returns-3 c =
     let start = figures-test .before .before .before .before in
     let text = now (start .args .text) in
     c .refused3 .ensures
-    ∙ judged-text total channelTypes (figures start) text (within figures-test) (fitting text-test)
-    (line-none text (length text - 1) (omega (arith, some-byte text-test)) (c .before .if3 .taken))
+    ∙ sym (refuses-form total channelTypes (figures start) text (within figures-test) (fitting text-test)
+    (line-none text (length text - 1) (omega (arith, some-byte text-test)) (start .args .n) (c .before .if3 .taken)))
 
 slice-aggregate-judge-line : tie.Need-slice-aggregate-judge-line
 slice-aggregate-judge-line c = sym (length-take-le _ _ (omega arith))
 
+-- the text is the line before its last byte 10, and that byte
+whole : (c : tie.Else3) → let text = now (start-of (c .before .before .before) .args .text) in
+    take (length text - 1) text ++ (lineEnd ∷ []) ≡ text
+whole c =
+    let text-test = c .before .before in
+    let text = now (start-of (text-test .before) .args .text) in
+    line-last text (length text - 1) (omega (arith, some-byte text-test)) (c .if3 .left)
+
 judge-line-requires : tie.Need-judge-line-requires
 judge-line-requires c κs =
-    let at-text-within = c .before .before .before .before in
-    within (at-text-within .before)
+    let text-test = c .before .before .before in
+    (within (text-test .before .before), ap textWithin (whole (c .before)) ∙ fitting text-test)
 
 returns-4 : tie.Need-returns-4
 returns-4 c =
-    let text-test = c .before .before .before .before in
-    let figures-test = text-test .before .before in
-    let start = figures-test .before .before .before .before in
-    let text = now (start .args .text) in
-    c .judge-line .ensures
-    ∙ judged-text total channelTypes (figures start) text (within figures-test) (fitting text-test)
-    (line-last text (length text - 1) (omega (arith, some-byte text-test)) (c .before .before .if3 .left))
+    let last-test = c .before .before in
+    let start = start-of (last-test .before .before .before) in
+    c .judge-line .ensures ∙ ap (judged total channelTypes (figures start)) (whole last-test)
 
 pub judge-lent-spec : {M : Type 1} → statement M
 judge-lent-spec =

@@ -1,6 +1,7 @@
 -- The figures are within their limits and their codes known. What the line is decides the verdict; the values of a line within stand
 -- in the first n of the channels' places, as the one row whose s is compared with M.
 use mathlib.Core.Path.{_≡_, sym, ap, _∙_}
+use mathlib.Core.List.{[], _∷_, _++_}
 use mathlib.Core.Option.{Option}
 use native.Mathlib.Omega.{arith}
 use borrow.Author.Needs.{needs}
@@ -9,6 +10,7 @@ use lib.Seq.{length-take-le}
 use denote.Ref.{now}
 use Rattle.limits.specs.Limits.{total}
 use Rattle.geometry.specs.Places.{centreOf}
+use Rattle.text.specs.Parts.{lineEnd}
 use Rattle.channel.specs.Channel.{channelTypes}
 use Rattle.channel.specs.ChannelLaws.{house-sound}
 use Rattle.envelope.specs.Figures.{channelCodes}
@@ -16,7 +18,7 @@ use Rattle.envelope.specs.Contracts.{lentFigures}
 use Rattle.envelope.specs.FigureLaws.{Within as FiguresWithin, Coded, known-within, known-coded, within-centre}
 use Rattle.envelope.specs.declared.Figures.{Figures}
 use Rattle.reading_line.specs.Reading.{Reading, readingLine}
-use Rattle.reading.specs.Verdict.{verdictOf, judgedReading}
+use Rattle.reading.specs.Verdict.{verdictOf, judged}
 use Rattle.reading_line.specs.Contracts.{lineAlone}
 use Rattle.reading_line.specs.declared.Line.{Line}
 use Rattle.reading_line.specs.declared.Line.the-variants.{Malformed, TagDiffers, OutOfRange, Within}
@@ -35,10 +37,10 @@ abbrev figures : tie.After-read-line → Figures
 figures c = lent (start-of c)
 
 limits : (c : tie.Start) → FiguresWithin total (lent c)
-limits c = known-within total channelTypes (lent c) (c .pre)
+limits c = known-within total channelTypes (lent c) (c .pre .0)
 
 coded : (c : tie.Start) → Coded channelTypes (lent c)
-coded c = known-coded total channelTypes (lent c) (c .pre)
+coded c = known-coded total channelTypes (lent c) (c .pre .0)
 
 read-line-requires : tie.Need-read-line-requires
 read-line-requires c κs =
@@ -55,8 +57,9 @@ reading c = readingLine (figures c .n) (lineAlone (now (start-of c .args .line))
 
 -- the verdict, by what the line is told to be
 decided : (c : tie.After-read-line) (told : Line) → c .read-line .result ≡ told
-    → lineVerdict told (byDistance total (figures c) (reading c)) ≡ judgedReading total channelTypes (figures c) (reading c)
-decided c = judged-line total channelTypes (figures c) (c .read-line .ensures) (count c)
+    → lineVerdict told (byDistance total (figures c) (reading c))
+    ≡ judged total channelTypes (figures c) (now (start-of c .args .line) ++ (lineEnd ∷ []))
+decided c = judged-line total channelTypes (figures c) (start-of c .pre .0) (start-of c .pre .1) (c .read-line .ensures) (count c)
 
 -- the places of a line within
 point : (c : tie.After-read-line) → c .read-line .result ≡ Within

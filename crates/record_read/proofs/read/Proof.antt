@@ -13,8 +13,8 @@ use Rattle.channel.specs.Channel.{channelTypes}
 use Rattle.channel.specs.ChannelLaws.{house-sound}
 use Rattle.record_read.specs.Contracts.{givenWithin}
 use Rattle.record_read.specs.HeldLaws.{holding-total}
-use Rattle.record_read.specs.ReadLaws.{given-within, read-limits, read-length, read-form}
-use Rattle.record_read.proofs.ReadSteps.{read-faulty, read-channels, read-sound}
+use Rattle.record_read.specs.ReadLaws.{given-within, read-limits, read-length}
+use Rattle.record_read.proofs.ReadSteps.{stated-faulty, read-channels, stated-sound}
 use Rattle.record_read.proofs.read.Statement.{statement}
 use Rattle.record_read.proofs.read.Tie as tie
 
@@ -51,10 +51,8 @@ returns-3 c =
     let past-given = at-form .before .before .before in
     let args = past-given .before .before .before .before .args in
     c .not-read3 .ensures
-    ∙ read-faulty channelTypes (now (args .text)) (at-form .read-form .result) (at-form .read-form .ensures) total (now (args .rows)) (args .m)
-    (take (args .n) (now (args .codes))) (c .before .if3 .taken)
-    ∙ sym (read-form total rowLimit channelTypes (now (args .rows)) (args .m) (args .n) (now (args .codes)) (now (args .text)) (within past-given)
-    (fitting (at-form .before)))
+    ∙ stated-faulty channelTypes (now (args .text)) (at-form .read-form .result) (at-form .read-form .ensures) total (now (args .rows)) (args .m)
+    (args .n) (now (args .codes)) (within past-given) (fitting (at-form .before)) (c .before .if3 .taken)
 
 -- there are n codes
 count : (c : tie.Else1) → let args = c .before .before .before .before .args in length (take (args .n) (now (args .codes))) ≡ args .n
@@ -85,10 +83,8 @@ returns-4 c =
     let past-given = at-form .before .before .before in
     let args = past-given .before .before .before .before .args in
     c .agreed .ensures
-    ∙ read-sound channelTypes (now (args .text)) (at-form .read-form .result) (at-form .read-form .ensures) total (now (args .rows)) (args .m)
-    (take (args .n) (now (args .codes))) house-sound holding-total (c .before .before .if3 .left)
-    ∙ sym (read-form total rowLimit channelTypes (now (args .rows)) (args .m) (args .n) (now (args .codes)) (now (args .text)) (within past-given)
-    (fitting (at-form .before)))
+    ∙ stated-sound channelTypes (now (args .text)) (at-form .read-form .result) (at-form .read-form .ensures) total (now (args .rows)) (args .m)
+    (args .n) (now (args .codes)) (within past-given) (fitting (at-form .before)) house-sound holding-total (c .before .before .if3 .left)
 
 pub read-spec : {M : Type 1} → statement M
 read-spec =
