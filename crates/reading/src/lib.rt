@@ -95,10 +95,12 @@ pub fn judge_lent(
         settled,
         scaled_lower_bound,
     };
-    if !figures_known_lent(scalars, codes, scaled_centre) {
+    let known = figures_known_lent(scalars, codes, scaled_centre);
+    let within = text_within(text);
+    if !known {
         return refused(refusal::OUTSIDE_LIMITS, 0);
     }
-    if !text_within(text) {
+    if !within {
         return refused(refusal::TEXT_LENGTH, 0);
     }
     let end = text.len() - 1;

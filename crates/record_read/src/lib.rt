@@ -88,10 +88,12 @@ pub fn read(rows: &[i32], m: usize, n: usize, codes: &[Code], text: &[u8]) -> En
     ensures { λ r.
         ⌜ r ≡ recordRead total rowLimit channelTypes (now (rows .entry)) m n (now (codes .entry)) (now (text .entry)) ⌝ }
 {
-    if !given_within(rows, m, n, codes) {
+    let given = given_within(rows, m, n, codes);
+    let within = text_within(text);
+    if !given {
         return not_read(refusal::OUTSIDE_LIMITS, 0);
     }
-    if !text_within(text) {
+    if !within {
         return not_read(refusal::TEXT_LENGTH, 0);
     }
     let stated = read_form(text);
