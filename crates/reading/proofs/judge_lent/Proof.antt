@@ -29,38 +29,37 @@ figures c =
     let a = c .args in
     figuresOf (a .n) (now (a .codes)) (filledBall (now (a .scaled-centre)) (a .scaled-squared-radius) (a .scaled-lower-bound) (a .settled)) (a .moves)
 
+-- from where both tests are known
+abbrev start-of : tie.After-text-within → tie.Start
+start-of c = c .before .before .before .before
+
 returns : tie.Need-returns
 returns c =
-    let test = c .before .before in
-    let start = test .before .before .before in
+    let tests = c .before .before in
+    let start = start-of tests in
     c .refused .ensures
     ∙ sym (refuses-figures total channelTypes (figures start) (now (start .args .text))
-    (sym (test .figures-known-lent .ensures) ∙ not-true _ (c .before .if1 .taken)))
+    (sym (tests .before .figures-known-lent .ensures) ∙ not-true _ (c .before .if1 .taken)))
 
 -- past the test of the figures
-within : (c : tie.Else1) → figuresKnown total channelTypes (figures (c .before .before .before .before)) ≡ true
-within c = sym (c .before .figures-known-lent .ensures) ∙ not-false _ (c .if1 .left)
-
-abbrev start-of : tie.After-text-within → tie.Start
-start-of c =
-    let at-figures-known-lent = c .before .before in
-    at-figures-known-lent .before .before .before
+within : (c : tie.Else1) → figuresKnown total channelTypes (figures (start-of (c .before))) ≡ true
+within c = sym (c .before .before .figures-known-lent .ensures) ∙ not-false _ (c .if1 .left)
 
 returns-2 : tie.Need-returns-2
 returns-2 c =
-    let test = c .before .before in
-    let start = start-of test in
+    let past-figures = c .before .before in
+    let start = start-of (past-figures .before) in
     c .refused2 .ensures
-    ∙ sym (refuses-length total channelTypes (figures start) (now (start .args .text)) (within (test .before))
-    (sym (test .text-within .ensures) ∙ not-true _ (c .before .if2 .taken)))
+    ∙ sym (refuses-length total channelTypes (figures start) (now (start .args .text)) (within past-figures)
+    (sym (past-figures .before .text-within .ensures) ∙ not-true _ (c .before .if2 .taken)))
 
 -- past the test of the text
-fitting : (c : tie.Else2) → textWithin (now (start-of (c .before) .args .text)) ≡ true
-fitting c = sym (c .before .text-within .ensures) ∙ not-false _ (c .if2 .left)
+fitting : (c : tie.Else2) → textWithin (now (start-of (c .before .before) .args .text)) ≡ true
+fitting c = sym (c .before .before .text-within .ensures) ∙ not-false _ (c .if2 .left)
 
 -- the text has a last byte
-some-byte : (c : tie.Else2) → 1 ≤ length (now (start-of (c .before) .args .text))
-some-byte c = text-within (now (start-of (c .before) .args .text)) (fitting c) .0
+some-byte : (c : tie.Else2) → 1 ≤ length (now (start-of (c .before .before) .args .text))
+some-byte c = text-within (now (start-of (c .before .before) .args .text)) (fitting c) .0
 
 sub-end : tie.Need-sub-end
 sub-end c = some-byte c
@@ -70,34 +69,34 @@ shared-slice-read-if3 c = omega (arith, some-byte (c .before))
 
 returns-3 : tie.Need-returns-3
 returns-3 c =
-    let text-test = c .before .before .before in
-    let figures-test = text-test .before .before in
-    let start = figures-test .before .before .before .before in
+    let past-text = c .before .before .before in
+    let past-figures = past-text .before in
+    let start = start-of (past-figures .before) in
     let text = now (start .args .text) in
     c .refused3 .ensures
-    ∙ sym (refuses-form total channelTypes (figures start) text (within figures-test) (fitting text-test)
-    (line-none text (length text - 1) (omega (arith, some-byte text-test)) (start .args .n) (c .before .if3 .taken)))
+    ∙ sym (refuses-form total channelTypes (figures start) text (within past-figures) (fitting past-text)
+    (line-none text (length text - 1) (omega (arith, some-byte past-text)) (start .args .n) (c .before .if3 .taken)))
 
 slice-aggregate-judge-line : tie.Need-slice-aggregate-judge-line
 slice-aggregate-judge-line c = sym (length-take-le _ _ (omega arith))
 
 -- the text is the line before its last byte 10, and that byte
-whole : (c : tie.Else3) → let text = now (start-of (c .before .before .before) .args .text) in
+whole : (c : tie.Else3) → let text = now (start-of (c .before .before .before .before) .args .text) in
     take (length text - 1) text ++ (lineEnd ∷ []) ≡ text
 whole c =
-    let text-test = c .before .before in
-    let text = now (start-of (text-test .before) .args .text) in
-    line-last text (length text - 1) (omega (arith, some-byte text-test)) (c .if3 .left)
+    let past-text = c .before .before in
+    let text = now (start-of (past-text .before .before) .args .text) in
+    line-last text (length text - 1) (omega (arith, some-byte past-text)) (c .if3 .left)
 
 judge-line-requires : tie.Need-judge-line-requires
 judge-line-requires c κs =
-    let text-test = c .before .before .before in
-    (within (text-test .before .before), ap textWithin (whole (c .before)) ∙ fitting text-test)
+    let past-text = c .before .before .before in
+    (within (past-text .before), ap textWithin (whole (c .before)) ∙ fitting past-text)
 
 returns-4 : tie.Need-returns-4
 returns-4 c =
     let last-test = c .before .before in
-    let start = start-of (last-test .before .before .before) in
+    let start = start-of (last-test .before .before .before .before) in
     c .judge-line .ensures ∙ ap (judged total channelTypes (figures start)) (whole last-test)
 
 pub judge-lent-spec : {M : Type 1} → statement M
@@ -106,8 +105,8 @@ judge-lent-spec =
     (tie.spec
     (λ c κs. search needs)
     (λ c κs. search needs)
-    returns
     (λ c κs. search needs)
+    returns
     (λ c κs. search needs)
     returns-2
     sub-end
