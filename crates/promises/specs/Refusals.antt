@@ -38,7 +38,7 @@ use Rattle.record_form.specs.Record.{Record, faulty, form, sound}
 use Rattle.record_form.specs.Weights.{weightsOf}
 use Rattle.record_print.specs.Printed.{recordText}
 use Rattle.record_read.specs.Contracts.{ballOfRecord, givenWithin, notRead, recordRead}
-use Rattle.record_read.specs.ReadLaws.{read-form, read-length, read-limits}
+use Rattle.record_read.specs.ReadLaws.{read-faulty, read-length, read-limits, read-sound}
 use Rattle.record_write.specs.Contracts.{recordWritten}
 use Rattle.record_write.specs.WriteLaws.{Writing, outside-figures, outside-rows, refused-writing, short-writing, writing-written}
 use Rattle.chart.specs.Mark.{channelWithin, chartMark, markNumber, refusedMark}
@@ -141,13 +141,13 @@ promise-1-4 =
       of-reference = reference-refused;
       of-reading = reading-refused;
       of-record = λ rows m n codes text.
-          let in-form = read-form total rowLimit channelTypes rows m n codes text in
+          let in-form = read-sound total rowLimit channelTypes rows m n codes text in
           record {
             limits-8 = read-limits total rowLimit channelTypes rows m n codes text;
             length-1 = read-length total rowLimit channelTypes rows m n codes text;
-            form-11 = λ given bytes line is. in-form given bytes ∙ rw is;
-            negative-12 = λ given bytes r is none-stated. in-form given bytes ∙ rw (is, none-stated);
-            disagrees-12 = λ given bytes r is ball states other. in-form given bytes ∙ rw (is, states, other);
+            form-11 = read-faulty total rowLimit channelTypes rows m n codes text;
+            negative-12 = λ given bytes r is none-stated. in-form given bytes r is ∙ rw none-stated;
+            disagrees-12 = λ given bytes r is ball states other. in-form given bytes r is ∙ rw (states, other);
           };
       of-writing = λ rows m e places.
           record {

@@ -21,7 +21,7 @@ use Rattle.refusal.specs.declared.Outcome.the-variants.{Accepted}
 use Rattle.limits.specs.Limits.{channelLimit, rowLimit, textLimit}
 use Rattle.geometry.specs.Table.{rowsWithin}
 use Rattle.text.specs.Lines.{printLines}
-use Rattle.text.specs.Parts.{comma, cut, join, lineEnd}
+use Rattle.text.specs.Parts.{comma, join}
 use Rattle.number.specs.Number.{plain, print}
 use Rattle.number.specs.NumberLaws.{plain-print, print-plain}
 use Rattle.label.specs.Label.{isLabel, labelBytes}
@@ -36,10 +36,10 @@ use Rattle.heading.specs.HeadingLaws.{heading-printed, printed-heading}
 use Rattle.reference_row.specs.Row.{Row, printRow, rowOf}
 use Rattle.reference_row.specs.RowLaws.{printed-row, row-printed}
 use Rattle.reference_rows.specs.ReferenceText.{ReferenceText, channelCount, codesOf, labelAt, rowAt, rowCount, rowsOf, tableOf}
-use Rattle.reference_rows.specs.Rows.{Content, faulty, sound}
+use Rattle.reference_rows.specs.Rows.{Content, faulty, rowStart, sound}
 use Rattle.reference.specs.ContractLaws.{table-fits}
 use Rattle.reference.specs.Contracts.{answerOf, referenceRead, withTable}
-use Rattle.reference.specs.LineLaws.{label-in-text, label-is, label-some, startOf}
+use Rattle.reference.specs.LineLaws.{label-in-text, label-is, label-some}
 use Rattle.reference.specs.Printing.{Within, printText}
 use Rattle.reference.specs.Reference.{content, referenceWord}
 use Rattle.reference.specs.ReferenceLaws.{accepted-labels, accepted-printed, accepted-rows, printed-accepted}
@@ -176,21 +176,21 @@ pub promise-2-8 : (text : List ℕ) (row : ℕ) → LabelsOfRows text row
 unfolding labelPart
 promise-2-8 text row =
     record {
-      refused-text = λ number line is. ap (labelIn (cut lineEnd text) row) is;
-      no-row = λ found is outside. ap (labelIn (cut lineEnd text) row) is ∙ past found outside;
+      refused-text = λ number line is. ap (labelIn text row) is;
+      no-row = λ found is outside. ap (labelIn text row) is ∙ past found outside;
       is-part = λ found is low high.
           subst (λ (p : Part). (take (p .length) (drop (p .start) text) ≡ labelAt found (row - 1)) × (1 ≤ p .length) × (p .start + p .length ≤ length text))
-          (sym (ap (labelIn (cut lineEnd text) row) is ∙ there found low high)) (
+          (sym (ap (labelIn text row) is ∙ there found low high)) (
             label-is rowLimit channelTypes text found is (row - 1) (omega arith),
             label-some rowLimit channelTypes text found is (row - 1) (omega arith),
             label-in-text rowLimit channelTypes text found is (row - 1) (omega arith),
           );
     }
   where
-    past : (found : ReferenceText) → (row ≡ 0) ⊎ (rowCount found < row) → labelIn (cut lineEnd text) row (sound found) ≡ noPart
+    past : (found : ReferenceText) → (row ≡ 0) ⊎ (rowCount found < row) → labelIn text row (sound found) ≡ noPart
     past found (inl h) = rw (lt-leb 1 row (omega arith))
     past found (inr h) = rw (lt-leb row (rowCount found) h, and-false (leb 1 row))
 
     there : (found : ReferenceText) → 1 ≤ row → row ≤ rowCount found
-        → labelIn (cut lineEnd text) row (sound found) ≡ record { start = startOf found text (row - 1); length = length (labelAt found (row - 1)) }
+        → labelIn text row (sound found) ≡ record { start = rowStart found text (row - 1); length = length (labelAt found (row - 1)) }
     there found low high = rw (le-leb 1 row low, le-leb row (rowCount found) high)
