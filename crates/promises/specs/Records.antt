@@ -25,15 +25,13 @@ use Rattle.channel.specs.ChannelLaws.{house-sound}
 use Rattle.heading.specs.Heading.{printHeading}
 use Rattle.agreement.specs.Agreement.{agrees, allZero, ballAgrees}
 use Rattle.record_lines.specs.Lines.{Result, Weight, centreWord, letterOf, printCentre, printResult, printWeight, recordWord, resultWord, weightWord}
-use Rattle.record_form.specs.Record.{Form, Record, Within, faulty, form, printRecord, sound}
+use Rattle.record_form.specs.Record.{Record, Within, faulty, printRecord, sound}
 use Rattle.record_form.specs.RecordLaws.{form-printed, printed-form}
 use Rattle.record_form.specs.Weights.{weightsOf}
 use Rattle.record_read.specs.Contracts.{ballOfRecord, givenWithin, notRead, recordRead, statedEnvelope}
 use Rattle.record_read.specs.ReadLaws.{accepted-read, accepting, not-11-printed, printed-not-11, read-accepted, read-faulty}
 use Rattle.record_read.specs.declared.EnvelopeRead.{EnvelopeRead}
-
-abbrev formOf : List ℕ → Form Record
-formOf = form rowLimit channelTypes
+use Rattle.promises.specs.House.{formOf}
 
 module _ (rows : List ℤ) (m n : ℕ) (codes text : List ℕ) where
   abbrev answer : EnvelopeRead

@@ -36,17 +36,18 @@ use Rattle.heading.specs.HeadingLaws.{heading-printed, printed-heading}
 use Rattle.reference_row.specs.Row.{Row, printRow, rowOf}
 use Rattle.reference_row.specs.RowLaws.{printed-row, row-printed}
 use Rattle.reference_rows.specs.ReferenceText.{ReferenceText, channelCount, codesOf, labelAt, rowAt, rowCount, rowsOf, tableOf}
-use Rattle.reference_rows.specs.Rows.{Content, faulty, rowStart, sound}
+use Rattle.reference_rows.specs.Rows.{faulty, rowStart, sound}
 use Rattle.reference.specs.ContractLaws.{table-fits}
 use Rattle.reference.specs.Contracts.{answerOf, referenceRead, withTable}
 use Rattle.reference.specs.LineLaws.{label-in-text, label-is, label-some}
 use Rattle.reference.specs.Printing.{Within, printText}
-use Rattle.reference.specs.Reference.{content, referenceWord}
+use Rattle.reference.specs.Reference.{referenceWord}
 use Rattle.reference.specs.ReferenceLaws.{accepted-labels, accepted-printed, accepted-rows, printed-accepted}
 use Rattle.reference.specs.TableLaws.{table-at, table-in-range, table-length}
 use Rattle.reference_label.specs.Contracts.{labelIn, labelPart, noPart}
 use Rattle.reference_label.specs.declared.Part.{Part}
 use Rattle.reference_table.specs.AcceptedTable.{accepted-table}
+use Rattle.promises.specs.House.{contentOf}
 
 -- ---- 2.6
 
@@ -84,10 +85,6 @@ values =
       number-reads = λ z. refl;
       below-reads = λ z. refl;
     }
-
--- what the text is: refused with number and line, or accepted
-abbrev contentOf : List ℕ → Content
-contentOf = content rowLimit channelTypes
 
 -- what an accepted text gives; rows and channels count from 0
 pub record AcceptedText (text : List ℕ) (found : ReferenceText) : Type 0 where
