@@ -164,10 +164,11 @@ pub record LabelsOfRows (text : List ℕ) (row : ℕ) : Type 0 where
   -- empty when the text is refused, 7 not tested, or there is no such row
   pub refused-text : (number line : ℕ) → contentOf text ≡ faulty number line → labelPart rowLimit channelTypes text row ≡ noPart
   pub no-row : (found : ReferenceText) → contentOf text ≡ sound found → (row ≡ 0) ⊎ (rowCount found < row) → labelPart rowLimit channelTypes text row ≡ noPart
-  -- else the part of the caller's text, not empty, whose bytes are the label of the row
+  -- else the part of the caller's text, not empty, at the start of the row's line, whose bytes are the label of the row
   pub is-part : (found : ReferenceText) → contentOf text ≡ sound found → 1 ≤ row → row ≤ rowCount found
       → let part = labelPart rowLimit channelTypes text row in
-      (take (part .length) (drop (part .start) text) ≡ labelAt found (row - 1)) × (1 ≤ part .length) × (part .start + part .length ≤ length text)
+      (part .start ≡ rowStart found text (row - 1)) × (take (part .length) (drop (part .start) text) ≡ labelAt found (row - 1)) × (1 ≤ part .length)
+      × (part .start + part .length ≤ length text)
 
 pub promise-2-8 : (text : List ℕ) (row : ℕ) → LabelsOfRows text row
 unfolding labelPart
@@ -176,8 +177,11 @@ promise-2-8 text row =
       refused-text = λ number line is. ap (labelIn text row) is;
       no-row = λ found is outside. ap (labelIn text row) is ∙ past found outside;
       is-part = λ found is low high.
-          subst (λ (p : Part). (take (p .length) (drop (p .start) text) ≡ labelAt found (row - 1)) × (1 ≤ p .length) × (p .start + p .length ≤ length text))
+          subst
+          (λ (p : Part). (p .start ≡ rowStart found text (row - 1)) × (take (p .length) (drop (p .start) text) ≡ labelAt found (row - 1)) × (1 ≤ p .length)
+          × (p .start + p .length ≤ length text))
           (sym (ap (labelIn text row) is ∙ there found low high)) (
+            refl,
             label-is rowLimit channelTypes text found is (row - 1) (omega arith),
             label-some rowLimit channelTypes text found is (row - 1) (omega arith),
             label-in-text rowLimit channelTypes text found is (row - 1) (omega arith),
