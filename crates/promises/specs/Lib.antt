@@ -1,4 +1,6 @@
 -- The promises of docs/PROMISES.md, each id one name: by demand, and what several of them say before them.
+-- ---- the words of several demands
+pub mod House
 -- ---- demand 1: every call ends with a result or a listed refusal
 pub mod Answering
 pub mod Calls

@@ -3,7 +3,7 @@
 --     RecordLines      a record as it is printed, line by line
 --     promise-2-10     what a record in form is, and which one is accepted (`RecordsRead`)
 use Prim.Native.Nat.{ℕ}
-use mathlib.Core.Path.{_∙_, _≡_, ap, refl}
+use mathlib.Core.Path.{_≡_, refl}
 use mathlib.Core.Bool.{_&&_, true}
 use mathlib.Core.List.{List, [], _++_, _∷_, map}
 use mathlib.Core.Option.{some}
@@ -25,15 +25,13 @@ use Rattle.channel.specs.ChannelLaws.{house-sound}
 use Rattle.heading.specs.Heading.{printHeading}
 use Rattle.agreement.specs.Agreement.{agrees, allZero, ballAgrees}
 use Rattle.record_lines.specs.Lines.{Result, Weight, centreWord, letterOf, printCentre, printResult, printWeight, recordWord, resultWord, weightWord}
-use Rattle.record_form.specs.Record.{Form, Record, Within, faulty, form, printRecord, sound}
+use Rattle.record_form.specs.Record.{Record, Within, faulty, printRecord, sound}
 use Rattle.record_form.specs.RecordLaws.{form-printed, printed-form}
 use Rattle.record_form.specs.Weights.{weightsOf}
-use Rattle.record_read.specs.Contracts.{ballOfRecord, formAnswer, givenWithin, notRead, recordRead, statedEnvelope}
-use Rattle.record_read.specs.ReadLaws.{accepted-read, accepting, not-11-printed, printed-not-11, read-accepted, read-form}
+use Rattle.record_read.specs.Contracts.{ballOfRecord, givenWithin, notRead, recordRead, statedEnvelope}
+use Rattle.record_read.specs.ReadLaws.{accepted-read, accepting, not-11-printed, printed-not-11, read-accepted, read-faulty}
 use Rattle.record_read.specs.declared.EnvelopeRead.{EnvelopeRead}
-
-abbrev formOf : List ℕ → Form Record
-formOf = form rowLimit channelTypes
+use Rattle.promises.specs.House.{formOf}
 
 module _ (rows : List ℤ) (m n : ℕ) (codes text : List ℕ) where
   abbrev answer : EnvelopeRead
@@ -83,8 +81,7 @@ module _ (rows : List ℤ) (m n : ℕ) (codes text : List ℕ) where
         printed-lines = record { whole = λ r. refl; centre = λ X. refl; result = λ x. refl; weight = λ x. refl };
         form-printed = form-printed rowLimit channelTypes house-sound text;
         printed-form = λ r within. printed-form rowLimit channelTypes house-sound r within (omega arith);
-        faulty-line = λ line given some-text is.
-            read-form total rowLimit channelTypes rows m n codes text given some-text ∙ ap (formAnswer total rowLimit rows m (take n codes)) is;
+        faulty-line = λ line given some-text. read-faulty total rowLimit channelTypes rows m n codes text given some-text line;
         not-11-printed = not-11-printed total rowLimit channelTypes house-sound rows m n codes text;
         printed-not-11 = printed-not-11 total rowLimit channelTypes house-sound rows m n codes text (omega arith);
         accepted = λ is.

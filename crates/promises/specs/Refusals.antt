@@ -34,17 +34,18 @@ use Rattle.envelope.specs.declared.Figures.{Figures}
 use Rattle.agreement.specs.Agreement.{agrees}
 use Rattle.reading.specs.Verdict.{judged, refusedVerdict, verdictNumber}
 use Rattle.reading.specs.VerdictLaws.{range-after-tags, tags-before-range}
-use Rattle.record_form.specs.Record.{Record, faulty, form, sound}
+use Rattle.record_form.specs.Record.{Record, faulty, sound}
 use Rattle.record_form.specs.Weights.{weightsOf}
 use Rattle.record_print.specs.Printed.{recordText}
 use Rattle.record_read.specs.Contracts.{ballOfRecord, givenWithin, notRead, recordRead}
-use Rattle.record_read.specs.ReadLaws.{read-form, read-length, read-limits}
+use Rattle.record_read.specs.ReadLaws.{read-faulty, read-length, read-limits, read-sound}
 use Rattle.record_write.specs.Contracts.{recordWritten}
 use Rattle.record_write.specs.WriteLaws.{Writing, outside-figures, outside-rows, refused-writing, short-writing, writing-written}
 use Rattle.chart.specs.Mark.{channelWithin, chartMark, markNumber, refusedMark}
 use Rattle.chart.specs.MarkLaws.{accepted, accepts, refuses-figures, refuses-horizontal, refuses-vertical}
 use Rattle.panel_steps.specs.Panel.{panelOf, panelShown, refusedPanel}
 use Rattle.panel_steps.specs.PanelLaws.{panel-refuses, panel-shows}
+use Rattle.promises.specs.House.{formOf}
 use Rattle.promises.specs.RefusedPrograms.{ProgramsRefused, programs-refused}
 use Rattle.promises.specs.RefusedTexts.{ReadingRefused, ReferenceRefused, reading-refused, reference-refused}
 
@@ -74,11 +75,11 @@ pub record RecordRefused (rows : List ℤ) (m n : ℕ) (codes text : List ℕ) :
       → recordRead total rowLimit channelTypes rows m n codes text ≡ notRead rowLimit (refused outside-limits)
   pub length-1 : givenWithin rowLimit channelTypes rows m n codes ≡ true → textWithin text ≡ false
       → recordRead total rowLimit channelTypes rows m n codes text ≡ notRead rowLimit (refused text-length)
-  pub form-11 : givenWithin rowLimit channelTypes rows m n codes ≡ true → textWithin text ≡ true → (line : ℕ) → form rowLimit channelTypes text ≡ faulty line
+  pub form-11 : givenWithin rowLimit channelTypes rows m n codes ≡ true → textWithin text ≡ true → (line : ℕ) → formOf text ≡ faulty line
       → recordRead total rowLimit channelTypes rows m n codes text ≡ notRead rowLimit (refusedAt record-form line)
-  pub negative-12 : givenWithin rowLimit channelTypes rows m n codes ≡ true → textWithin text ≡ true → (r : Record) → form rowLimit channelTypes text ≡ sound r
+  pub negative-12 : givenWithin rowLimit channelTypes rows m n codes ≡ true → textWithin text ≡ true → (r : Record) → formOf text ≡ sound r
       → ballOfRecord r ≡ none → recordRead total rowLimit channelTypes rows m n codes text ≡ notRead rowLimit (refused disagreement)
-  pub disagrees-12 : givenWithin rowLimit channelTypes rows m n codes ≡ true → textWithin text ≡ true → (r : Record) → form rowLimit channelTypes text ≡ sound r
+  pub disagrees-12 : givenWithin rowLimit channelTypes rows m n codes ≡ true → textWithin text ≡ true → (r : Record) → formOf text ≡ sound r
       → (ball : Ball) → ballOfRecord r ≡ some ball
       → (same (take n codes) (r .codes) && agrees total rowLimit rows m (length (take n codes)) ball (weightsOf rowLimit (r .weights))) ≡ false
       → recordRead total rowLimit channelTypes rows m n codes text ≡ notRead rowLimit (refused disagreement)
@@ -141,13 +142,13 @@ promise-1-4 =
       of-reference = reference-refused;
       of-reading = reading-refused;
       of-record = λ rows m n codes text.
-          let in-form = read-form total rowLimit channelTypes rows m n codes text in
+          let in-form = read-sound total rowLimit channelTypes rows m n codes text in
           record {
             limits-8 = read-limits total rowLimit channelTypes rows m n codes text;
             length-1 = read-length total rowLimit channelTypes rows m n codes text;
-            form-11 = λ given bytes line is. in-form given bytes ∙ rw is;
-            negative-12 = λ given bytes r is none-stated. in-form given bytes ∙ rw (is, none-stated);
-            disagrees-12 = λ given bytes r is ball states other. in-form given bytes ∙ rw (is, states, other);
+            form-11 = read-faulty total rowLimit channelTypes rows m n codes text;
+            negative-12 = λ given bytes r is none-stated. in-form given bytes r is ∙ rw none-stated;
+            disagrees-12 = λ given bytes r is ball states other. in-form given bytes r is ∙ rw (states, other);
           };
       of-writing = λ rows m e places.
           record {

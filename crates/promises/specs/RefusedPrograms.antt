@@ -21,17 +21,14 @@ use Rattle.text.specs.Parts.{textWithin}
 use Rattle.channel.specs.Channel.{channelTypes}
 use Rattle.channel.specs.ChannelLaws.{house-sound}
 use Rattle.reference_rows.specs.ReferenceText.{ReferenceText, channelCount, codesOf, rowCount, tableOf}
-use Rattle.reference_rows.specs.Rows.{Content, faulty, sound}
-use Rattle.reference.specs.Reference.{content}
+use Rattle.reference_rows.specs.Rows.{faulty, sound}
 use Rattle.envelope.specs.FigureLaws.{drawnEnvelope}
 use Rattle.envelope.specs.Figures.{channelCodes, figuresKnown}
 use Rattle.envelope.specs.declared.Figures.{Figures}
 use Rattle.record_print.specs.Printed.{recordText}
 use Rattle.record_read.specs.Contracts.{notRead, recordRead}
-use Rattle.record_read.specs.declared.EnvelopeRead.{EnvelopeRead}
 use Rattle.panel_steps.specs.Panel.{panelShown}
 use Rattle.program_lines.specs.Lines.{printAccepted, printRefusal, printSteps, printVerdicts}
-use Rattle.program_record.specs.Against.{recordAgainst}
 use Rattle.program_record.specs.AgainstLaws.{against-faulty, against-sound, against-within}
 use Rattle.program_draw.specs.Output.{drawBudget, drawOutput}
 use Rattle.program_draw.specs.OutputLaws.{draw-accepted, draw-faulty, draw-record}
@@ -43,13 +40,7 @@ use Rattle.program_verdicts.specs.Output.{readingsOutput}
 use Rattle.program_verdicts.specs.OutputLaws.{readings-judged, readings-refused}
 use Rattle.program_judge.specs.Output.{judgeOutput}
 use Rattle.program_judge.specs.OutputLaws.{judge-by}
-
-abbrev contentOf : List ℕ → Content
-contentOf = content rowLimit channelTypes
-
--- the record, read against the reference text
-abbrev against : List ℕ → List ℕ → EnvelopeRead
-against = recordAgainst total rowLimit channelTypes
+use Rattle.promises.specs.House.{against, contentOf}
 
 pub record ProgramsRefused (reference : List ℕ) : Type 0 where
   -- a refused reference text first

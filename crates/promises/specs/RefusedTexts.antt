@@ -21,20 +21,18 @@ use Rattle.heading.specs.Heading.{headingOf}
 use Rattle.reading_line.specs.Reading.{Reading, readingOf, tagsAgree}
 use Rattle.reference_row.specs.Row.{Row, rowOf}
 use Rattle.reference_rows.specs.ReferenceText.{ReferenceText, channelCount, codesOf, firstRowLine, labelsOf, rowCount}
-use Rattle.reference_rows.specs.Rows.{Content, faulty, nextLine, sound}
+use Rattle.reference_rows.specs.Rows.{faulty, nextLine, sound}
 use Rattle.reference.specs.ContractLaws.{table-fits, table-too-short}
 use Rattle.reference.specs.Contracts.{answerOf, referenceRead, refusedReference, withTable}
-use Rattle.reference.specs.Reference.{content, referenceWord}
+use Rattle.reference.specs.Reference.{referenceWord}
 use Rattle.reference.specs.ReferenceLaws.{Begins}
 use Rattle.reference.specs.RefusalLaws.{refuses-count, refuses-count-unended, refuses-empty, refuses-form, refuses-heading, refuses-headless, refuses-label, refuses-long, refuses-none, refuses-range, refuses-unended}
 use Rattle.envelope.specs.Figures.{channelCodes, figuresKnown}
 use Rattle.envelope.specs.declared.Figures.{Figures}
 use Rattle.reading.specs.Verdict.{judged, refusedVerdict}
 use Rattle.reading.specs.VerdictLaws.{refuses-length, refuses-tag}
+use Rattle.promises.specs.House.{contentOf}
 use Rattle.reading.specs.VerdictLaws as verdict-laws
-
-abbrev contentOf : List ℕ → Content
-contentOf = content rowLimit channelTypes
 
 -- `Begins rowLimit channelTypes found text parts`: the text begins with the heading and the rows of `found`, all within the limits, and
 -- then has these parts between bytes 10

@@ -29,7 +29,6 @@ use Rattle.channel.specs.ChannelLaws.{house-sound}
 use Rattle.reading_line.specs.Reading.{ownReading, printReading}
 use Rattle.reference_rows.specs.ReferenceText.{ReferenceText, channelCount, codesOf, labelAt, rowAt, rowCount, tableOf}
 use Rattle.reference_rows.specs.Rows.{sound}
-use Rattle.reference.specs.Reference.{content}
 use Rattle.envelope.specs.FigureLaws.{drawnEnvelope, drawnFigures}
 use Rattle.envelope.specs.Figures.{envelopeOf, figuresKnown, figuresOf}
 use Rattle.envelope.specs.declared.Envelope.{Envelope}
@@ -50,6 +49,7 @@ use Rattle.program_draw.specs.Output.{drawBudget, drawOutput}
 use Rattle.program_verify.specs.Output.{verifyOutput}
 use Rattle.program_judge.specs.Output.{judgeOutput}
 use Rattle.program_laws.specs.TripLaws.{draw-judged, draw-verified, rows-quiet}
+use Rattle.promises.specs.House.{contentOf}
 
 abbrev readBack : List ℤ → ℕ → ℕ → List ℕ → List ℕ → EnvelopeRead
 readBack = recordRead total rowLimit channelTypes
@@ -127,7 +127,7 @@ pub record RecordsWritten : Type 0 where
   pub accepted : (rows : List ℤ) (m n : ℕ) (codes text : List ℕ) → readBack rows m n codes text .outcome ≡ Accepted → AcceptedRecord rows m n codes text
   pub envelopes : (rows : List ℤ) (m : ℕ) (e : Envelope) → Arrays e → (places : ℕ) → WrittenEnvelope rows m e places
   pub own : (rows : List ℤ) (m n : ℕ) (codes : List ℕ) → length codes ≡ n → codesKnown channelTypes codes ≡ true → OwnEnvelopes rows m n codes
-  pub programs : (reference : List ℕ) (found : ReferenceText) → content rowLimit channelTypes reference ≡ sound found → ProgramsTogether reference found
+  pub programs : (reference : List ℕ) (found : ReferenceText) → contentOf reference ≡ sound found → ProgramsTogether reference found
 
 pub promise-2-11 : RecordsWritten
 promise-2-11 =

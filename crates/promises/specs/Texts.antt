@@ -21,7 +21,7 @@ use Rattle.refusal.specs.declared.Outcome.the-variants.{Accepted}
 use Rattle.limits.specs.Limits.{channelLimit, rowLimit, textLimit}
 use Rattle.geometry.specs.Table.{rowsWithin}
 use Rattle.text.specs.Lines.{printLines}
-use Rattle.text.specs.Parts.{comma, cut, join, lineEnd}
+use Rattle.text.specs.Parts.{comma, join}
 use Rattle.number.specs.Number.{plain, print}
 use Rattle.number.specs.NumberLaws.{plain-print, print-plain}
 use Rattle.label.specs.Label.{isLabel, labelBytes}
@@ -36,17 +36,18 @@ use Rattle.heading.specs.HeadingLaws.{heading-printed, printed-heading}
 use Rattle.reference_row.specs.Row.{Row, printRow, rowOf}
 use Rattle.reference_row.specs.RowLaws.{printed-row, row-printed}
 use Rattle.reference_rows.specs.ReferenceText.{ReferenceText, channelCount, codesOf, labelAt, rowAt, rowCount, rowsOf, tableOf}
-use Rattle.reference_rows.specs.Rows.{Content, faulty, sound}
+use Rattle.reference_rows.specs.Rows.{faulty, rowStart, sound}
 use Rattle.reference.specs.ContractLaws.{table-fits}
 use Rattle.reference.specs.Contracts.{answerOf, referenceRead, withTable}
-use Rattle.reference.specs.LineLaws.{label-in-text, label-is, label-some, startOf}
+use Rattle.reference.specs.LineLaws.{label-in-text, label-is, label-some}
 use Rattle.reference.specs.Printing.{Within, printText}
-use Rattle.reference.specs.Reference.{content, referenceWord}
+use Rattle.reference.specs.Reference.{referenceWord}
 use Rattle.reference.specs.ReferenceLaws.{accepted-labels, accepted-printed, accepted-rows, printed-accepted}
 use Rattle.reference.specs.TableLaws.{table-at, table-in-range, table-length}
 use Rattle.reference_label.specs.Contracts.{labelIn, labelPart, noPart}
 use Rattle.reference_label.specs.declared.Part.{Part}
 use Rattle.reference_table.specs.AcceptedTable.{accepted-table}
+use Rattle.promises.specs.House.{contentOf}
 
 -- ---- 2.6
 
@@ -84,10 +85,6 @@ values =
       number-reads = λ z. refl;
       below-reads = λ z. refl;
     }
-
--- what the text is: refused with number and line, or accepted
-abbrev contentOf : List ℕ → Content
-contentOf = content rowLimit channelTypes
 
 -- what an accepted text gives; rows and channels count from 0
 pub record AcceptedText (text : List ℕ) (found : ReferenceText) : Type 0 where
@@ -167,30 +164,34 @@ pub record LabelsOfRows (text : List ℕ) (row : ℕ) : Type 0 where
   -- empty when the text is refused, 7 not tested, or there is no such row
   pub refused-text : (number line : ℕ) → contentOf text ≡ faulty number line → labelPart rowLimit channelTypes text row ≡ noPart
   pub no-row : (found : ReferenceText) → contentOf text ≡ sound found → (row ≡ 0) ⊎ (rowCount found < row) → labelPart rowLimit channelTypes text row ≡ noPart
-  -- else the part of the caller's text, not empty, whose bytes are the label of the row
+  -- else the part of the caller's text, not empty, at the start of the row's line, whose bytes are the label of the row
   pub is-part : (found : ReferenceText) → contentOf text ≡ sound found → 1 ≤ row → row ≤ rowCount found
       → let part = labelPart rowLimit channelTypes text row in
-      (take (part .length) (drop (part .start) text) ≡ labelAt found (row - 1)) × (1 ≤ part .length) × (part .start + part .length ≤ length text)
+      (part .start ≡ rowStart found text (row - 1)) × (take (part .length) (drop (part .start) text) ≡ labelAt found (row - 1)) × (1 ≤ part .length)
+      × (part .start + part .length ≤ length text)
 
 pub promise-2-8 : (text : List ℕ) (row : ℕ) → LabelsOfRows text row
 unfolding labelPart
 promise-2-8 text row =
     record {
-      refused-text = λ number line is. ap (labelIn (cut lineEnd text) row) is;
-      no-row = λ found is outside. ap (labelIn (cut lineEnd text) row) is ∙ past found outside;
+      refused-text = λ number line is. ap (labelIn text row) is;
+      no-row = λ found is outside. ap (labelIn text row) is ∙ past found outside;
       is-part = λ found is low high.
-          subst (λ (p : Part). (take (p .length) (drop (p .start) text) ≡ labelAt found (row - 1)) × (1 ≤ p .length) × (p .start + p .length ≤ length text))
-          (sym (ap (labelIn (cut lineEnd text) row) is ∙ there found low high)) (
+          subst
+          (λ (p : Part). (p .start ≡ rowStart found text (row - 1)) × (take (p .length) (drop (p .start) text) ≡ labelAt found (row - 1)) × (1 ≤ p .length)
+          × (p .start + p .length ≤ length text))
+          (sym (ap (labelIn text row) is ∙ there found low high)) (
+            refl,
             label-is rowLimit channelTypes text found is (row - 1) (omega arith),
             label-some rowLimit channelTypes text found is (row - 1) (omega arith),
             label-in-text rowLimit channelTypes text found is (row - 1) (omega arith),
           );
     }
   where
-    past : (found : ReferenceText) → (row ≡ 0) ⊎ (rowCount found < row) → labelIn (cut lineEnd text) row (sound found) ≡ noPart
+    past : (found : ReferenceText) → (row ≡ 0) ⊎ (rowCount found < row) → labelIn text row (sound found) ≡ noPart
     past found (inl h) = rw (lt-leb 1 row (omega arith))
     past found (inr h) = rw (lt-leb row (rowCount found) h, and-false (leb 1 row))
 
     there : (found : ReferenceText) → 1 ≤ row → row ≤ rowCount found
-        → labelIn (cut lineEnd text) row (sound found) ≡ record { start = startOf found text (row - 1); length = length (labelAt found (row - 1)) }
+        → labelIn text row (sound found) ≡ record { start = rowStart found text (row - 1); length = length (labelAt found (row - 1)) }
     there found low high = rw (le-leb 1 row low, le-leb row (rowCount found) high)

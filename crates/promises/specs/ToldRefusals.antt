@@ -13,25 +13,20 @@ use Rattle.text.specs.Parts.{textWithin}
 use Rattle.channel.specs.Channel.{channelTypes}
 use Rattle.channel.specs.ChannelLaws.{house-sound}
 use Rattle.channel.specs.ContractLaws.{house-apart}
-use Rattle.reference.specs.Reference.{content}
 use Rattle.envelope.specs.Figures.{figuresKnown}
 use Rattle.envelope.specs.declared.Figures.{Figures}
 use Rattle.reading.specs.Verdict.{judged, refusedVerdict}
-use Rattle.record_read.specs.declared.EnvelopeRead.{EnvelopeRead}
 use Rattle.program_lines.specs.Lines.{printRefusal}
-use Rattle.program_record.specs.Against.{recordAgainst}
 use Rattle.program_draw.specs.Output.{drawOutput}
 use Rattle.program_verify.specs.Output.{verifyOutput}
 use Rattle.program_panel.specs.Output.{panelOutput}
 use Rattle.program_judge.specs.Output.{judgeOutput}
 use Rattle.program_laws.specs.ToldLaws.{draw-told, isFaulty, isRefused, judge-told, ofReading, panel-told, refusal-injective, refusal-of-reading, refusal-of-texts, refusesTexts, verify-told}
-
-abbrev against : List ℕ → List ℕ → EnvelopeRead
-against = recordAgainst total rowLimit channelTypes
+use Rattle.promises.specs.House.{against, contentOf}
 
 -- `refusesTexts output`: the first line is a refusal, and none of those that a reading meets
 pub record RefusalsTold : Type 0 where
-  pub draw : (reference : List ℕ) → refusesTexts (drawOutput total rowLimit channelTypes reference) ≡ isFaulty (content rowLimit channelTypes reference)
+  pub draw : (reference : List ℕ) → refusesTexts (drawOutput total rowLimit channelTypes reference) ≡ isFaulty (contentOf reference)
   pub verify : (reference text : List ℕ)
       → refusesTexts (verifyOutput total rowLimit channelTypes reference text) ≡ isRefused (against reference text .outcome)
   pub panel : (reference text : List ℕ)
