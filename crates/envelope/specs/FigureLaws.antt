@@ -10,8 +10,6 @@
 --     within-centre                       X of figures within their limits, as the numeric functions ask for it at the total that the
 --                                         contracts fix
 --     tight-within                        2.14: the figures of a ball of which demand 3 holds are within their limits
---     drawnFigures n codes drawing        the figures of a drawing for n channels of these codes
---     drawnEnvelope n codes drawing       its envelope
 --     drawn-within, checked-within        those of an accepted drawing and of an accepted check are within their limits, with known codes
 use Prim.Native.Nat.{ℕ, _≤_, _<_}
 use mathlib.Core.Path.{_≡_, refl, sym, ap, ap₂, _∙_}
@@ -42,11 +40,10 @@ use Rattle.ball.specs.declared.Ball.{Ball}
 use Rattle.checking.specs.declared.Checked.{Checked}
 use Rattle.drawing.specs.declared.Drawing.{Drawing}
 use Rattle.channel.specs.Channel.{Types, codesKnown}
-use Rattle.envelope.specs.Figures.{channelCodes, figuresWithin, codesWithin, figuresKnown, figuresOf, envelopeOf}
+use Rattle.envelope.specs.Figures.{channelCodes, figuresWithin, codesWithin, figuresKnown, figuresOf, drawnFigures}
 use Rattle.envelope.specs.Contracts.{scalarsOf, lentFigures, placesLent}
 use Rattle.envelope.specs.declared.Figures.{Figures}
 use Rattle.envelope.specs.declared.Scalars.{Scalars}
-use Rattle.envelope.specs.declared.Envelope.{Envelope}
 
 -- ---- the limits, as a record
 
@@ -162,12 +159,6 @@ pub within-centre : {f : Figures} → Within total f → CentreWithin (f .n) (f 
 within-centre w = record { places = w .places; bound = w .centre-limit }
 
 -- ---- 2.14: the figures that are handed out are within their limits
-
-abbrev pub drawnFigures : ℕ → List ℕ → Drawing → Figures
-drawnFigures n codes r = figuresOf n codes (r .ball) (r .moves)
-
-abbrev pub drawnEnvelope : ℕ → List ℕ → Drawing → Envelope
-drawnEnvelope n codes r = envelopeOf (drawnFigures n codes r) (r .weights)
 
 module _ (D : ℕ) (types : Types) (n : ℕ) (codes : List ℕ) (typed : n ≤ length codes) (k : codesKnown types (take n codes) ≡ true) where
   pub tight-within : (m : ℕ) (a : ℕ → ℕ → ℤ) (ball : Ball) (moves : ℕ) → Tight D m n a ball → n ≤ length (ball .«scaled_centre»)

@@ -7,6 +7,8 @@
 --     emptyFigures                        every figure 0
 --     envelopeOf figures weights          the envelope with these figures and weights
 --     emptyEnvelope limit                 every figure and weight 0, for a row limit
+--     drawnFigures n codes drawing        the figures of a drawing for n channels of these codes
+--     drawnEnvelope n codes drawing       its envelope
 use Prim.Native.Nat.{ℕ}
 use mathlib.Core.Bool.{Bool, _&&_}
 use mathlib.Core.List.{List}
@@ -16,6 +18,7 @@ use Rattle.limits.specs.Limits.{channelLimit, centreLimit, distanceLimit, budge
 use Rattle.geometry.specs.Table.{placesWithin}
 use Rattle.ball.specs.Ball.{emptyBall}
 use Rattle.ball.specs.declared.Ball.{Ball}
+use Rattle.drawing.specs.declared.Drawing.{Drawing}
 use Rattle.channel.specs.Channel.{Types, codesKnown}
 use Rattle.envelope.specs.declared.Figures.{Figures}
 use Rattle.envelope.specs.declared.Envelope.{Envelope}
@@ -54,3 +57,10 @@ envelopeOf figures weights = record { figures = figures; weights = weights }
 
 abbrev pub emptyEnvelope : ℕ → Envelope
 emptyEnvelope limit = envelopeOf emptyFigures (replicate limit 0)
+
+-- of a drawing, for n channels of these codes
+abbrev pub drawnFigures : ℕ → List ℕ → Drawing → Figures
+drawnFigures n codes r = figuresOf n codes (r .ball) (r .moves)
+
+abbrev pub drawnEnvelope : ℕ → List ℕ → Drawing → Envelope
+drawnEnvelope n codes r = envelopeOf (drawnFigures n codes r) (r .weights)

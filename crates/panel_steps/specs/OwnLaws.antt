@@ -12,8 +12,8 @@ use Rattle.limits.specs.Limits.{budgetLimit}
 use Rattle.drawing.specs.Draw.{drawing}
 use Rattle.checking.specs.Check.{checking}
 use Rattle.channel.specs.Channel.{Types, codesKnown}
-use Rattle.envelope.specs.Figures.{figuresKnown, figuresOf}
-use Rattle.envelope.specs.FigureLaws.{drawnFigures, drawn-within, checked-within}
+use Rattle.envelope.specs.Figures.{figuresKnown, figuresOf, drawnFigures}
+use Rattle.envelope.specs.FigureLaws.{drawn-within, checked-within}
 use Rattle.envelope.specs.declared.Figures.{Figures}
 use Rattle.panel_steps.specs.Panel.{panelShown}
 use Rattle.panel_steps.specs.PanelLaws.{panel-shows}

@@ -23,7 +23,7 @@ use Rattle.reference_rows.specs.ReferenceText.{codesOf, channelCount, rowCount,
 use Rattle.reference.specs.ReferenceLaws.{accepted-within}
 use Rattle.reference.specs.declared.read.Reference.{Reference}
 use Rattle.channel.specs.CodesLaws.{each-codes}
-use Rattle.envelope.specs.FigureLaws.{drawnEnvelope}
+use Rattle.envelope.specs.Figures.{drawnEnvelope}
 use Rattle.envelope.specs.declared.Envelope.{Envelope}
 use Rattle.record_print.specs.Printed.{recordText}
 use Rattle.record_write.specs.Contracts.{recordWritten}

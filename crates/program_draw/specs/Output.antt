@@ -14,7 +14,7 @@ use Rattle.channel.specs.Channel.{Types}
 use Rattle.reference_rows.specs.ReferenceText.{codesOf, channelCount, rowCount, tableOf}
 use Rattle.reference_rows.specs.Rows.{Content, faulty, sound}
 use Rattle.reference.specs.Reference.{content}
-use Rattle.envelope.specs.FigureLaws.{drawnEnvelope}
+use Rattle.envelope.specs.Figures.{drawnEnvelope}
 use Rattle.record_print.specs.Printed.{recordText}
 use Rattle.program_lines.specs.Lines.{printRefusal}
 use Rattle.program_record.specs.Against.{unlessRefused}

@@ -38,8 +38,8 @@ use Rattle.reference.specs.Reference.{content}
 use Rattle.reference.specs.Printing.{Within}
 use Rattle.reference.specs.ReferenceLaws.{accepted-within}
 use Rattle.reference_table.specs.AcceptedTable.{accepted-table, accepted-row}
-use Rattle.envelope.specs.Figures.{figuresKnown, figuresOf}
-use Rattle.envelope.specs.FigureLaws.{drawnFigures, drawn-within, checked-within}
+use Rattle.envelope.specs.Figures.{figuresKnown, figuresOf, drawnFigures}
+use Rattle.envelope.specs.FigureLaws.{drawn-within, checked-within}
 use Rattle.reading_line.specs.Reading.{printReading, ownReading}
 use Rattle.reading.specs.Verdict.{verdictNumber, pointOf, judged}
 use Rattle.reading.specs.QuietLaws.{drawn-not-8, checked-not-8, tight-row-quiet}

@@ -37,7 +37,7 @@ use Rattle.reference.specs.Reference.{content}
 use Rattle.reference.specs.Printing.{RowWithin, Within}
 use Rattle.reference.specs.ReferenceLaws.{accepted-within}
 use Rattle.reference.specs.ContractLaws.{answer-codes}
-use Rattle.envelope.specs.FigureLaws.{drawnFigures, drawnEnvelope}
+use Rattle.envelope.specs.Figures.{drawnFigures, drawnEnvelope}
 use Rattle.channel.specs.CodesLaws.{each-codes}
 use Rattle.envelope.specs.declared.Envelope.{Envelope}
 use Rattle.reading_line.specs.Reading.{Reading, oneLine, readingLine, readingOf, printReading, ownReading}

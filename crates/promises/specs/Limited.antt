@@ -27,8 +27,8 @@ use Rattle.channel.specs.Channel.{channelTypes, codesKnown}
 use Rattle.channel.specs.ChannelLaws.{house-sound}
 use Rattle.reference_rows.specs.ReferenceText.{ReferenceText, channelCount, codesOf, rowCount, tableOf}
 use Rattle.reference_rows.specs.Rows.{sound}
-use Rattle.envelope.specs.FigureLaws.{checked-within, drawn-within, drawnFigures, known-coded, known-within}
-use Rattle.envelope.specs.Figures.{channelCodes, figuresKnown, figuresOf}
+use Rattle.envelope.specs.FigureLaws.{checked-within, drawn-within, known-coded, known-within}
+use Rattle.envelope.specs.Figures.{channelCodes, figuresKnown, figuresOf, drawnFigures}
 use Rattle.envelope.specs.declared.Figures.{Figures}
 use Rattle.reading.specs.QuietLaws.{checked-not-8, drawn-not-8, figures-not-8}
 use Rattle.reading.specs.Verdict.{judged, verdictExcess, verdictNumber}

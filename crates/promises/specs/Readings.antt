@@ -26,8 +26,7 @@ use Rattle.reading_line.specs.Reading.{Reading, ownReading, printReading, readi
 use Rattle.reading_line.specs.ReadingLaws.{InForm, form-printed, printed-form}
 use Rattle.reference_rows.specs.ReferenceText.{ReferenceText, channelCount, codesOf, labelAt, rowAt, rowCount, tableOf}
 use Rattle.reference_rows.specs.Rows.{sound}
-use Rattle.envelope.specs.FigureLaws.{drawnFigures}
-use Rattle.envelope.specs.Figures.{channelCodes, figuresKnown, figuresOf}
+use Rattle.envelope.specs.Figures.{channelCodes, figuresKnown, figuresOf, drawnFigures}
 use Rattle.envelope.specs.declared.Figures.{Figures}
 use Rattle.reading.specs.QuietLaws.{checked-row-quiet, drawn-row-quiet}
 use Rattle.reading.specs.Verdict.{judged, pointOf, verdictNumber}

@@ -22,8 +22,7 @@ use Rattle.channel.specs.Channel.{channelTypes}
 use Rattle.channel.specs.ChannelLaws.{house-sound}
 use Rattle.reference_rows.specs.ReferenceText.{ReferenceText, channelCount, codesOf, rowCount, tableOf}
 use Rattle.reference_rows.specs.Rows.{faulty, sound}
-use Rattle.envelope.specs.FigureLaws.{drawnEnvelope}
-use Rattle.envelope.specs.Figures.{channelCodes, figuresKnown}
+use Rattle.envelope.specs.Figures.{channelCodes, figuresKnown, drawnEnvelope}
 use Rattle.envelope.specs.declared.Figures.{Figures}
 use Rattle.record_print.specs.Printed.{recordText}
 use Rattle.record_read.specs.Contracts.{notRead, recordRead}

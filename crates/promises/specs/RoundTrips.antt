@@ -29,8 +29,7 @@ use Rattle.channel.specs.ChannelLaws.{house-sound}
 use Rattle.reading_line.specs.Reading.{ownReading, printReading}
 use Rattle.reference_rows.specs.ReferenceText.{ReferenceText, channelCount, codesOf, labelAt, rowAt, rowCount, tableOf}
 use Rattle.reference_rows.specs.Rows.{sound}
-use Rattle.envelope.specs.FigureLaws.{drawnEnvelope, drawnFigures}
-use Rattle.envelope.specs.Figures.{envelopeOf, figuresKnown, figuresOf}
+use Rattle.envelope.specs.Figures.{envelopeOf, figuresKnown, figuresOf, drawnEnvelope, drawnFigures}
 use Rattle.envelope.specs.declared.Envelope.{Envelope}
 use Rattle.agreement.specs.Agreement.{allZero, cleared}
 use Rattle.agreement.specs.AgreementLaws.{drawn-cleared}

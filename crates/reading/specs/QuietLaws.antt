@@ -28,8 +28,8 @@ use Rattle.channel.specs.Channel.{Types, codesKnown}
 use Rattle.channel.specs.ChannelLaws.{SoundTypes}
 use Rattle.value.specs.Value.{Written}
 use Rattle.value.specs.Values.{valuesInRange}
-use Rattle.envelope.specs.Figures.{figuresKnown, figuresOf}
-use Rattle.envelope.specs.FigureLaws.{drawnFigures, drawn-within, checked-within}
+use Rattle.envelope.specs.Figures.{figuresKnown, figuresOf, drawnFigures}
+use Rattle.envelope.specs.FigureLaws.{drawn-within, checked-within}
 use Rattle.envelope.specs.declared.Figures.{Figures}
 use Rattle.reading_line.specs.Reading.{printReading, ownReading}
 use Rattle.reading.specs.Verdict.{verdictNumber, pointOf, judged}

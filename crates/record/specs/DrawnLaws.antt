@@ -21,8 +21,8 @@ use Rattle.drawing.specs.DrawnWeights.{drawing-length}
 use Rattle.number.specs.Contracts.{magnitudeLimit}
 use Rattle.channel.specs.Channel.{Types, codesKnown}
 use Rattle.channel.specs.ChannelLaws.{SoundTypes}
-use Rattle.envelope.specs.Figures.{figuresOf}
-use Rattle.envelope.specs.FigureLaws.{drawn-within, checked-within, drawnEnvelope}
+use Rattle.envelope.specs.Figures.{figuresOf, drawnEnvelope}
+use Rattle.envelope.specs.FigureLaws.{drawn-within, checked-within}
 use Rattle.agreement.specs.Agreement.{allZero}
 use Rattle.agreement.specs.AgreementLaws.{agrees-agreed, agreed-weight, drawn-agrees, drawn-cleared, checked-agrees}
 use Rattle.envelope.specs.declared.Envelope.{Envelope}

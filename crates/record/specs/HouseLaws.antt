@@ -29,8 +29,8 @@ use Rattle.printing.specs.UnsignedLaws.{Below}
 use Rattle.channel.specs.Channel.{channelTypes, codesKnown}
 use Rattle.channel.specs.ChannelLaws.{house-sound}
 use Rattle.channel.specs.ContractLaws.{house-short}
-use Rattle.envelope.specs.Figures.{figuresKnown}
-use Rattle.envelope.specs.FigureLaws.{known-within, known-coded, drawnEnvelope}
+use Rattle.envelope.specs.Figures.{figuresKnown, drawnEnvelope}
+use Rattle.envelope.specs.FigureLaws.{known-within, known-coded}
 use Rattle.agreement.specs.Agreement.{cleared}
 use Rattle.agreement.specs.AgreementLaws.{agrees-agreed, agreed-weight}
 use Rattle.envelope.specs.declared.Envelope.{Envelope}
