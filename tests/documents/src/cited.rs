@@ -96,18 +96,33 @@ fn is_placeholder(part: &str) -> bool {
     !part.ends_with(".md") && stem.len() > 1 && stem.chars().all(|c| c.is_ascii_uppercase())
 }
 
-/// Functions, constants and types as crate and name, from `crate::module::name`.
-pub fn items(text: &str) -> BTreeSet<(String, String)> {
+/// Functions, constants and types, from `crate::module::name`, as the parts of the path.
+pub fn items(text: &str) -> BTreeSet<Vec<String>> {
     let words = quoted(text).into_iter().map(|(_, word)| word);
-    let words = words.filter(|word| {
+    let plain = |word: &&str| {
         word.chars()
             .all(|c| c.is_ascii_alphanumeric() || "_:".contains(c))
-    });
+    };
     words
-        .filter_map(|word| {
-            let (owner, _) = word.split_once("::")?;
-            let (_, name) = word.rsplit_once("::")?;
-            Some((owner.to_string(), name.to_string()))
+        .filter(plain)
+        .filter(|word| word.contains("::"))
+        .map(|word| word.split("::").map(str::to_string).collect())
+        .collect()
+}
+
+/// The files of definitions that a file of definitions imports, as crate and name.
+pub fn imports(owner: &str, source: &str) -> BTreeSet<(String, String)> {
+    let lines = source
+        .lines()
+        .filter_map(|line| line.strip_prefix("use Rattle·"));
+    lines
+        .filter_map(|line| {
+            let (from, rest) = line
+                .split_once(".specs.")
+                .or_else(|| line.split_once("·specs.specs."))?;
+            let file = rest.split('.').next()?;
+            let from = if from.contains('·') { owner } else { from };
+            (file != "declared").then(|| (from.to_string(), file.to_string()))
         })
         .collect()
 }

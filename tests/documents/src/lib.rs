@@ -10,8 +10,9 @@ use std::fs;
 use std::path::{Path, PathBuf};
 
 /// The documents, README among them.
-pub const DOCUMENTS: [&str; 9] = [
+pub const DOCUMENTS: [&str; 10] = [
     "README.md",
+    "bindings/rust/README.md",
     "docs/ARCHITECTURE.md",
     "docs/CONTRIBUTING.md",
     "docs/DECISIONS.md",

@@ -52,11 +52,11 @@ impl Sources {
             match path.extension().and_then(|end| end.to_str()) {
                 Some("edit") => _ = self.edits.insert((name.to_string(), stem)),
                 Some("antt") => {
-                    declared(&read(path), &mut names, definition);
+                    insert(&mut names, definitions(&read(path)));
                     self.files.insert((name.to_string(), stem));
                 }
                 Some("rt") => {
-                    declared(&read(path), &mut names, item);
+                    insert(&mut names, read(path).lines().filter_map(item));
                     names.insert(stem);
                 }
                 _ => {}
@@ -87,30 +87,34 @@ fn gather(folder: &Path, files: &mut Vec<String>) {
     }
 }
 
-fn declared(source: &str, names: &mut BTreeSet<String>, of: fn(&str) -> Option<&str>) {
-    for name in source.lines().filter_map(of) {
-        names.insert(name.trim_matches(['«', '»']).to_string());
-    }
+fn insert<'a>(names: &mut BTreeSet<String>, declared: impl IntoIterator<Item = &'a str>) {
+    let declared = declared
+        .into_iter()
+        .map(|name| name.trim_matches(['«', '»']));
+    names.extend(declared.map(str::to_string));
 }
 
-/// The name that a line of antt declares: a definition, law, record, field or constructor.
-fn definition(line: &str) -> Option<&str> {
-    let mut words = line.split_whitespace().peekable();
-    let mut kept = false;
-    while let Some(word) = words.peek() {
-        match *word {
-            "abbrev" | "unfoldable" | "pub" => {}
-            "record" | "data" => kept = true,
-            _ => break,
+/// The public names that a file of antt declares: definitions, laws, records, fields and constructors.
+fn definitions(source: &str) -> Vec<&str> {
+    let mut names = Vec::new();
+    let mut constructors = false;
+    for line in source.lines() {
+        let words: Vec<&str> = line.split_whitespace().collect();
+        constructors &= !words.is_empty();
+        let start = words
+            .iter()
+            .position(|word| !["abbrev", "unfoldable", "pub", "record", "data"].contains(word));
+        let Some(start) = start else { continue };
+        let public = words[..start].contains(&"pub") || constructors;
+        let stated = words[..start]
+            .iter()
+            .any(|word| ["record", "data"].contains(word));
+        if public && (stated || words.get(start + 1) == Some(&":")) {
+            names.push(words[start]);
         }
-        words.next();
+        constructors |= words[..start].contains(&"data");
     }
-    let name = words.next()?;
-    match (kept, words.next()) {
-        (true, Some(_)) => Some(name),
-        (false, Some(":")) => Some(name),
-        _ => None,
-    }
+    names
 }
 
 /// The name that a line of code declares: a function, constant, type, variant, field or clause of a contract.

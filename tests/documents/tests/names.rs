@@ -19,7 +19,8 @@ const ELSEWHERE: [&str; 7] = [
 
 #[test]
 fn every_document_is_looked_at() {
-    let mut there: BTreeSet<String> = BTreeSet::from(["README.md".to_string()]);
+    let outside_docs = ["README.md", "bindings/rust/README.md"];
+    let mut there: BTreeSet<String> = outside_docs.map(str::to_string).into();
     for folder in ["docs", "docs/landings"] {
         for entry in fs::read_dir(root().join(folder)).expect("a folder") {
             let name = entry
@@ -78,9 +79,9 @@ fn every_path_that_is_cited_is_there() {
 #[test]
 fn every_item_of_code_that_is_cited_is_there() {
     let sources = Sources::new();
-    let there = |(owner, name): &(String, String)| match sources.crates.get(owner) {
-        Some(names) => names.contains(name),
-        None => sources.has(owner) && sources.has(name),
+    let there = |path: &Vec<String>| match sources.crates.get(&path[0]) {
+        Some(names) => path[1..].iter().all(|part| names.contains(part)),
+        None => path.iter().all(|part| sources.has(part)),
     };
     assert_eq!(missing(cited::items, 50, there), NONE);
 }
@@ -114,32 +115,76 @@ fn every_crate_has_a_place_in_the_architecture() {
 }
 
 #[test]
-fn the_readme_is_short_and_the_order_of_reading_is_as_long_as_it_says() {
-    assert!(text("README.md").lines().count() <= 150);
+fn every_word_of_the_table_of_names_is_declared() {
+    let sources = Sources::new();
     let document = text("docs/READING.md");
-    let rows = document
-        .lines()
-        .filter(|line| line.starts_with("| ") && line.contains(". "));
-    let mut total = 0;
-    let mut steps = 0;
-    for row in rows {
-        let cells: Vec<&str> = row.trim_matches(['|', ' ']).split(" | ").collect();
-        let [_, _, _, said] = cells[..] else { continue };
-        let Ok(said) = said.parse::<usize>() else {
-            continue;
+    let table = document.split("## Names").nth(1).expect("the table");
+    let words: Vec<&str> = cited::quoted(table)
+        .into_iter()
+        .map(|(_, word)| word)
+        .collect();
+    assert!(words.len() > 100, "{} words", words.len());
+    // Letters of document 01 and words of texts, which stand for themselves.
+    let letters = |word: &&str| word.len() < 3 || word.chars().all(|c| c.is_ascii_uppercase());
+    let unknown: Vec<&str> = words
+        .into_iter()
+        .filter(|word| !letters(word) && !word.contains("::") && !sources.has(word))
+        .collect();
+    assert_eq!(unknown, NONE);
+}
+
+#[test]
+fn the_readme_is_short() {
+    assert!(text("README.md").lines().count() <= 150);
+}
+
+/// A step of the order of reading: its number, the files and the lines that it is said to have.
+type Step = (usize, BTreeSet<(String, String)>, usize);
+
+fn steps(document: &str) -> Vec<Step> {
+    let table = document
+        .split("| step | what it says | files | lines |")
+        .nth(1)
+        .expect("the table");
+    let table = table.split("\n\n").next().expect("its end");
+    let rows = table.lines().filter_map(|line| line.strip_prefix("| "));
+    rows.map(|row| {
+        let cells: Vec<&str> = row.trim_end_matches(" |").split(" | ").collect();
+        let [title, _, files, lines] = cells[..] else {
+            panic!("cells of {row}");
         };
-        let files = cited::files(row).into_iter();
-        let lines = files.map(|(owner, file)| {
-            text(&format!("crates/{owner}/specs/{file}.antt"))
-                .lines()
-                .count()
-        });
-        let lines: usize = lines.sum();
-        assert!(lines.abs_diff(said) * 5 <= lines, "{row}: {lines} lines");
+        let (number, _) = title.split_once(". ").expect("a number");
+        (
+            number.parse().expect("a number"),
+            cited::files(files),
+            lines.parse().expect("a number"),
+        )
+    })
+    .collect()
+}
+
+fn definitions((owner, file): &(String, String)) -> String {
+    text(&format!("crates/{owner}/specs/{file}.antt"))
+}
+
+#[test]
+fn the_order_of_reading_is_as_long_as_it_says() {
+    let document = text("docs/READING.md");
+    let mut total = 0;
+    let steps = steps(&document);
+    let numbers: Vec<usize> = steps.iter().map(|(number, _, _)| *number).collect();
+    assert_eq!(numbers, (1..=13).collect::<Vec<_>>());
+    for (number, files, said) in steps {
+        let lines: usize = files
+            .iter()
+            .map(|file| definitions(file).lines().count())
+            .sum();
+        assert!(
+            lines > 0 && lines.abs_diff(said) * 10 <= lines,
+            "step {number}: {lines} lines"
+        );
         total += lines;
-        steps += 1;
     }
-    assert!(steps > 10, "{steps} steps");
     let said = document
         .split(" lines, ")
         .next()
@@ -150,6 +195,28 @@ fn the_readme_is_short_and_the_order_of_reading_is_as_long_as_it_says() {
         .parse()
         .expect("a number");
     assert!(total.abs_diff(said) * 10 <= total, "{total} lines");
+}
+
+/// What a definition to be believed rests on is to be read too; laws are not, nor are the promises' own grounds.
+#[test]
+fn the_order_of_reading_leaves_no_definition_out() {
+    let steps = steps(&text("docs/READING.md"));
+    let listed: BTreeSet<(String, String)> = steps
+        .iter()
+        .flat_map(|(_, files, _)| files.clone())
+        .collect();
+    let sources = Sources::new();
+    let mut left_out = BTreeSet::new();
+    for file in listed.iter().filter(|(owner, _)| owner != "promises") {
+        for used in cited::imports(&file.0, &definitions(file)) {
+            // The kit's own files are none of the repository's.
+            let law = used.1.ends_with("Laws");
+            if !law && !listed.contains(&used) && sources.crates.contains_key(&used.0) {
+                left_out.insert((file.clone(), used));
+            }
+        }
+    }
+    assert!(left_out.is_empty(), "{left_out:#?}");
 }
 
 #[test]
@@ -163,7 +230,7 @@ fn what_is_not_there_is_found() {
     let items = cited::items(wrong);
     assert_eq!(
         items,
-        BTreeSet::from([("drawing".to_string(), "no_such_item".to_string())])
+        BTreeSet::from([vec!["drawing".to_string(), "no_such_item".to_string()]])
     );
     assert!(!sources.crates["drawing"].contains("no_such_item"));
     assert!(sources.crates["drawing"].contains("draw"));

@@ -22,6 +22,17 @@ fn every_edit_is_cited_and_every_cited_edit_is_there() {
     assert!(sources.edits.len() > 200, "{} edits", sources.edits.len());
 }
 
+/// The ids that are owed, in their order.
+fn owed() -> Vec<String> {
+    let ids = OWED.iter();
+    ids.flat_map(|(demand, count)| (1..=*count).map(move |k| format!("{demand}.{k}")))
+        .collect()
+}
+
+fn name_of(id: &str) -> String {
+    format!("promise-{}", id.replace('.', "-"))
+}
+
 #[test]
 fn every_promise_has_one_name_in_both() {
     let sources = Sources::new();
@@ -30,28 +41,72 @@ fn every_promise_has_one_name_in_both() {
         .filter(|name| name.starts_with("promise-"))
         .cloned()
         .collect();
-    let owed = OWED.iter();
-    let owed: BTreeSet<String> = owed
-        .flat_map(|(demand, count)| (1..=*count).map(move |k| format!("promise-{demand}-{k}")))
-        .collect();
     assert_eq!(cited::promises(&document()), declared);
+    let owed: BTreeSet<String> = owed().iter().map(|id| name_of(id)).collect();
     let missing: Vec<_> = owed.difference(&declared).collect();
     assert!(missing.is_empty(), "without a name: {missing:?}");
 }
 
+/// The rows of a document that start with an id, each as its cells.
+fn rows(document: &str) -> Vec<Vec<String>> {
+    let rows = document.lines().filter_map(|line| line.strip_prefix("| "));
+    let rows = rows.map(|row| {
+        row.trim_end_matches(" |")
+            .split(" | ")
+            .map(str::to_string)
+            .collect()
+    });
+    rows.filter(|cells: &Vec<String>| {
+        let id = &cells[0];
+        id.contains('.') && id.chars().all(|c| c.is_ascii_digit() || c == '.')
+    })
+    .collect()
+}
+
 #[test]
-fn every_row_of_a_promise_has_its_own_name_a_sentence_and_edits_that_exist() {
-    for line in document().lines() {
-        let cells: Vec<&str> = line.split(" | ").collect();
-        let id = cells[0].trim_start_matches("| ");
-        let is_id = id.contains('.') && id.chars().all(|c| c.is_ascii_digit() || c == '.');
-        if is_id {
-            assert_eq!(cells.len(), 4, "cells of {id}");
-            assert!(cells[1].ends_with('.'), "sentence of {id}");
-            let name = format!("`promise-{}`", id.replace('.', "-"));
-            assert_eq!(cells[2], name, "name of {id}");
-            assert!(cells[3].contains('`'), "edits of {id}");
-        }
+fn every_id_has_one_row_with_a_sentence_its_name_and_edits() {
+    let sources = Sources::new();
+    let rows = rows(&document());
+    let ids: Vec<&String> = rows.iter().map(|cells| &cells[0]).collect();
+    assert_eq!(ids, owed().iter().collect::<Vec<_>>());
+    for cells in &rows {
+        let [id, sentence, name, edits] = &cells[..] else {
+            panic!("cells of {cells:?}");
+        };
+        assert!(
+            sentence.ends_with('.') && sentence.len() > 20,
+            "sentence of {id}"
+        );
+        assert_eq!(*name, format!("`{}`", name_of(id)), "name of {id}");
+        let cited = cited::edits(edits);
+        assert!(
+            !cited.is_empty() && cited.is_subset(&sources.edits),
+            "edits of {id}"
+        );
+    }
+}
+
+#[test]
+fn every_public_call_is_listed_with_a_function_and_a_definition() {
+    let sources = Sources::new();
+    let document = document();
+    let table = document
+        .split("| call | function | what it answers |")
+        .nth(1)
+        .expect("the table");
+    let table = table.split("\n\n").next().expect("its end");
+    let words: Vec<&str> = cited::quoted(table)
+        .into_iter()
+        .map(|(_, word)| word)
+        .collect();
+    let (functions, definitions): (Vec<&str>, Vec<&str>) =
+        words.into_iter().partition(|word| word.contains("::"));
+    assert!(
+        functions.len() >= 27 && definitions.len() >= 20,
+        "{functions:?} {definitions:?}"
+    );
+    for word in definitions {
+        assert!(sources.has(word), "{word}");
     }
 }
 
