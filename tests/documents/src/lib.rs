@@ -34,3 +34,17 @@ pub fn text(path: &str) -> String {
     let text = fs::read_to_string(root().join(path));
     text.unwrap_or_else(|error| panic!("{path}: {error}"))
 }
+
+/// The table that follows a heading in a document.
+pub fn table<'a>(document: &'a str, heading: &str) -> &'a str {
+    let after = document.split(heading).nth(1);
+    let after = after.unwrap_or_else(|| panic!("no {heading}"));
+    let table = after.trim_start_matches('\n').split("\n\n").next();
+    table.expect("a table")
+}
+
+/// The words between backquotes of that table.
+pub fn words<'a>(document: &'a str, heading: &str) -> Vec<&'a str> {
+    let quoted = cited::quoted(table(document, heading)).into_iter();
+    quoted.map(|(_, word)| word).collect()
+}

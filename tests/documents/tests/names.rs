@@ -1,7 +1,7 @@
 //! What the documents say of names, files and lengths.
 
 use documents::sources::Sources;
-use documents::{DOCUMENTS, cited, root, text};
+use documents::{DOCUMENTS, cited, root, table, text, words};
 use std::collections::BTreeSet;
 use std::fmt::Debug;
 use std::fs;
@@ -97,19 +97,11 @@ fn every_word_that_can_only_be_a_name_is_one() {
 fn every_crate_has_a_place_in_the_architecture() {
     let sources = Sources::new();
     let document = text("docs/ARCHITECTURE.md");
-    let table = document
-        .split("## What is where")
-        .nth(1)
-        .expect("the table");
-    let table = table.split("\n## ").next().expect("its end");
-    let named: BTreeSet<&str> = cited::quoted(table)
-        .into_iter()
-        .map(|(_, word)| word)
-        .collect();
+    let named = words(&document, "## What is where");
     for name in sources.crates.keys() {
         let group = named.iter().filter_map(|word| word.strip_suffix('*'));
-        let there =
-            named.contains(name.as_str()) || group.into_iter().any(|start| name.starts_with(start));
+        let there = named.contains(&name.as_str())
+            || group.into_iter().any(|start| name.starts_with(start));
         assert!(there, "{name}");
     }
 }
@@ -118,11 +110,7 @@ fn every_crate_has_a_place_in_the_architecture() {
 fn every_word_of_the_table_of_names_is_declared() {
     let sources = Sources::new();
     let document = text("docs/READING.md");
-    let table = document.split("## Names").nth(1).expect("the table");
-    let words: Vec<&str> = cited::quoted(table)
-        .into_iter()
-        .map(|(_, word)| word)
-        .collect();
+    let words = words(&document, "## Names");
     assert!(words.len() > 100, "{} words", words.len());
     // Letters of document 01 and words of texts, which stand for themselves.
     let letters = |word: &&str| word.len() < 3 || word.chars().all(|c| c.is_ascii_uppercase());
@@ -142,11 +130,7 @@ fn the_readme_is_short() {
 type Step = (usize, BTreeSet<(String, String)>, usize);
 
 fn steps(document: &str) -> Vec<Step> {
-    let table = document
-        .split("| step | what it says | files | lines |")
-        .nth(1)
-        .expect("the table");
-    let table = table.split("\n\n").next().expect("its end");
+    let table = table(document, "| step | what it says | files | lines |");
     let rows = table.lines().filter_map(|line| line.strip_prefix("| "));
     rows.map(|row| {
         let cells: Vec<&str> = row.trim_end_matches(" |").split(" | ").collect();

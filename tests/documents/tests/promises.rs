@@ -1,7 +1,7 @@
 //! `docs/PROMISES.md` against the crate of promises and the must-fail edits.
 
 use documents::sources::Sources;
-use documents::{cited, text};
+use documents::{cited, text, words};
 use std::collections::BTreeSet;
 
 /// The ids that are owed, by demand: as many as there are.
@@ -90,15 +90,7 @@ fn every_id_has_one_row_with_a_sentence_its_name_and_edits() {
 fn every_public_call_is_listed_with_a_function_and_a_definition() {
     let sources = Sources::new();
     let document = document();
-    let table = document
-        .split("| call | function | what it answers |")
-        .nth(1)
-        .expect("the table");
-    let table = table.split("\n\n").next().expect("its end");
-    let words: Vec<&str> = cited::quoted(table)
-        .into_iter()
-        .map(|(_, word)| word)
-        .collect();
+    let words = words(&document, "| call | function | what it answers |");
     let (functions, definitions): (Vec<&str>, Vec<&str>) =
         words.into_iter().partition(|word| word.contains("::"));
     assert!(

@@ -439,6 +439,8 @@ pub fn figures_outside() -> Vec<KnownReading> {
     let outside = |name, figures| refused(name, figures, ROW_A, 8, 0);
     let centre =
         |name, place: usize, x| outside(name, changed(|figures| figures.scaled_centre[place] = x));
+    let radius = |name, m| outside(name, changed(|figures| figures.scaled_squared_radius = m));
+    let bound = |name, l| outside(name, changed(|figures| figures.scaled_lower_bound = l));
     let nine = EnvelopeFigures {
         n: 9,
         types: vec![1; 9],
@@ -464,22 +466,10 @@ pub fn figures_outside() -> Vec<KnownReading> {
         centre("centre_below_last", 1, -262_144_001),
         centre("centre_least", 0, i64::MIN),
         centre("centre_most", 1, i64::MAX),
-        outside(
-            "radius_above",
-            changed(|figures| figures.scaled_squared_radius = MOST + 1),
-        ),
-        outside(
-            "radius_most",
-            changed(|figures| figures.scaled_squared_radius = u64::MAX),
-        ),
-        outside(
-            "bound_above",
-            changed(|figures| figures.scaled_lower_bound = MOST + 1),
-        ),
-        outside(
-            "bound_most",
-            changed(|figures| figures.scaled_lower_bound = u64::MAX),
-        ),
+        radius("radius_above", MOST + 1),
+        radius("radius_most", u64::MAX),
+        bound("bound_above", MOST + 1),
+        bound("bound_most", u64::MAX),
         outside(
             "moves_1000001",
             changed(|figures| figures.moves = 1_000_001),
