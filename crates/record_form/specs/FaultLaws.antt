@@ -5,6 +5,8 @@
 --     AfterResult types codes X result text parts     then the `R` line
 --     AfterWeights limit types r text parts           then the `W` lines of r
 --     lastRow last ws                                 the row of the last of these `W` lines, `last` where there is none
+--     heading-unread, centre-unread, result-unread, weight-unread
+--                                                     a line that is the printing of no such part is not in form
 --     heading-unended, heading-faulty                 line 1
 --     centre-unended, centre-faulty                   line 2
 --     result-unended, result-faulty                   line 3
@@ -15,7 +17,8 @@ use Prim.Native.Nat.{ℕ, suc, _+_, _≤_, _<_}
 use mathlib.Core.Path.{_≡_, refl, _∙_, ap}
 use mathlib.Core.Bool.{true}
 use mathlib.Core.List.{List, [], _∷_, _++_, map}
-use mathlib.Core.Option.{none, some}
+use mathlib.Core.Option.{Option, none, some}
+use mathlib.Core.Logic.{_≢_}
 use native.Mathlib.Omega.{arith}
 use lib.IntN.{ℤ, pos, natAbs}
 use lib.ListN.{length, getD, drop, length-append}
@@ -27,9 +30,9 @@ use Rattle.number.specs.Contracts.{magnitudeLimit}
 use Rattle.channel.specs.Channel.{Types}
 use Rattle.channel.specs.ChannelLaws.{SoundTypes}
 use Rattle.heading.specs.Heading.{headingOf, printHeading, CodesWithin}
-use Rattle.heading.specs.HeadingLaws.{printed-heading}
-use Rattle.record_lines.specs.Lines.{recordWord, Result, Weight, numbersLine, centreLine, resultLine, weightLine, printCentre, printResult, printWeight}
-use Rattle.record_lines.specs.LinesLaws.{ResultWithin, printed-centre, printed-result, printed-weight}
+use Rattle.heading.specs.HeadingLaws.{heading-within, heading-printed, printed-heading}
+use Rattle.record_lines.specs.Lines.{recordWord, Result, Weight, numbersLine, centreLine, resultLine, weightLine, weightWithin, printCentre, printResult, printWeight}
+use Rattle.record_lines.specs.LinesLaws.{ResultWithin, centre-printed, printed-centre, result-printed, printed-result, weight-printed, printed-weight}
 use Rattle.record_form.specs.Record.{Record, Form, faulty, lineAs, andLine, withWeight, weightsFrom, withWeights, formOf, form, weightsWithin}
 use Rattle.record_form.specs.RecordLaws.{weights-first}
 
@@ -56,6 +59,32 @@ pub record AfterWeights (limit : ℕ) (types : Types) (r : Record) (text : List 
 unfoldable pub lastRow : ℕ → List Weight → ℕ
 lastRow last [] = last
 lastRow last (w ∷ ws) = lastRow (w .row) ws
+
+-- ---- a line that is not in form
+
+unread : {A : Type 0} (o : Option A) → ((a : A) → o ≡ some a → ⊥) → o ≡ none
+unread none never = refl
+unread (some a) never = absurd (never a refl)
+
+pub heading-unread : (types : Types) → SoundTypes types → (line : List ℕ)
+    → ((codes : List ℕ) → CodesWithin channelLimit types codes → printHeading recordWord types codes ≢ line)
+    → headingOf recordWord channelLimit types line ≡ none
+heading-unread types types-sound line other =
+    unread (headingOf recordWord channelLimit types line)
+    (λ codes is. other codes (heading-within types recordWord channelLimit line codes is) (heading-printed types types-sound recordWord channelLimit line codes is))
+
+pub centre-unread : (n : ℕ) (line : List ℕ)
+    → ((X : List ℤ) → length X ≡ n → ((k : ℕ) → k < length X → natAbs (getD X k (pos 0)) < magnitudeLimit) → printCentre X ≢ line)
+    → centreLine n line ≡ none
+centre-unread n line other = unread (centreLine n line) (λ X is. let read = centre-printed n line X is in other X (read .1) (read .2) (read .0))
+
+pub result-unread : (line : List ℕ) → ((x : Result) → ResultWithin x → printResult x ≢ line) → resultLine line ≡ none
+result-unread line other = unread (resultLine line) (λ x is. let read = result-printed line x is in other x (read .1) (read .0))
+
+pub weight-unread : (limit last : ℕ) (line : List ℕ)
+    → ((w : Weight) → weightWithin limit last w ≡ true → w .weight < magnitudeLimit → printWeight w ≢ line) → weightLine limit last line ≡ none
+weight-unread limit last line other =
+    unread (weightLine limit last line) (λ w is. let read = weight-printed limit last line w is in other w (read .1) (read .2) (read .0))
 
 -- ---- lines 1 to 3
 
