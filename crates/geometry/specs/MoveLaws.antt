@@ -6,9 +6,11 @@
 --     moveWeight-total              the weights' sum is kept
 --     moveWeight-centre             X after it
 --     moveWeight-length, -other     the list's length and the other weights are kept
+--     moveWeight-from, -to          of two different rows, one loses t and the other gains t
 --     moved-by                      moving t from the near to the far row is the move
 --     moved-length, moved-total     a move keeps the list's length and the weights' sum
 --     moved-other                   no weight but the near and the far row's changes
+--     moved-near, moved-far         where they differ, the near row loses t and the far row gains t
 --     moved-sum, moved-centre       a weighted sum, and X, after a move
 --     far-within, near-within       the two rows are among the m
 --     radius-far, near-below-far    M is s of the far row, and s of the near row is at most that
@@ -150,6 +152,20 @@ moveWeight-other t from to ws i not-from not-to =
     let lowered = set ws from (getD ws from 0 - t) in
     getD-set-other lowered to i (getD lowered to 0 + t) 0 not-to ∙ getD-set-other ws from i (getD ws from 0 - t) 0 not-from
 
+module _ (t from to : ℕ) (ws : List ℕ) (apart : from ≢ to) where
+  pub moveWeight-from : from < length ws → t ≤ weightOf ws from → weightOf (moveWeight t from to ws) from + t ≡ weightOf ws from
+  unfolding moveWeight
+  moveWeight-from place capped =
+      let lowered = set ws from (getD ws from 0 - t) in
+      omega (arith, getD-set-other lowered to from (getD lowered to 0 + t) 0 apart, getD-set-same ws from (getD ws from 0 - t) 0 place)
+
+  pub moveWeight-to : to < length ws → weightOf (moveWeight t from to ws) to ≡ weightOf ws to + t
+  unfolding moveWeight
+  moveWeight-to place =
+      let lowered = set ws from (getD ws from 0 - t) in
+      getD-set-same lowered to (getD lowered to 0 + t) 0 (omega (arith, length-set ws from (getD ws from 0 - t)))
+      ∙ ap (λ (x : ℕ). x + t) (getD-set-other ws from to (getD ws from 0 - t) 0 (λ e. apart (sym e)))
+
 -- ---- the move
 
 -- M is s of the far row
@@ -207,6 +223,19 @@ module _ (D m n : ℕ) (a : ℕ → ℕ → ℤ) (ws : List ℕ) where
     moved-total =
         moveWeight-total ws m (transfer D m n a (weightOf ws)) (nearRow D m n a (weightOf ws)) (farRow D m n a (weightOf ws)) places
         (near-within D m n a (weightOf ws) some) (far-within D m n a (weightOf ws) some) (transfer-most D m n a (weightOf ws))
+
+    module _ (apart : nearRow D m n a (weightOf ws) ≢ farRow D m n a (weightOf ws)) where
+      pub moved-near : weightOf (moved D m n a ws) (nearRow D m n a (weightOf ws)) + transfer D m n a (weightOf ws) ≡ weightOf ws (nearRow D m n a (weightOf ws))
+      unfolding moved
+      moved-near =
+          moveWeight-from (transfer D m n a (weightOf ws)) (nearRow D m n a (weightOf ws)) (farRow D m n a (weightOf ws)) ws apart
+          (omega (arith, near-within D m n a (weightOf ws) some)) (transfer-most D m n a (weightOf ws))
+
+      pub moved-far : weightOf (moved D m n a ws) (farRow D m n a (weightOf ws)) ≡ weightOf ws (farRow D m n a (weightOf ws)) + transfer D m n a (weightOf ws)
+      unfolding moved
+      moved-far =
+          moveWeight-to (transfer D m n a (weightOf ws)) (nearRow D m n a (weightOf ws)) (farRow D m n a (weightOf ws)) ws apart
+          (omega (arith, far-within D m n a (weightOf ws) some))
 
     -- X changes by t (far - near)
     pub moved-centre : (k : ℕ) → scaledCentre a (weightOf (moved D m n a ws)) m k

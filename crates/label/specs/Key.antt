@@ -27,7 +27,7 @@ abbrev pub beforeLetters : ℕ
 beforeLetters = letterA - 1
 
 abbrev pub beforeDigits : ℕ
-beforeDigits = digitZero - 27
+beforeDigits = digitZero - (26 + 1)
 
 abbrev pub labelDigit : ℕ → ℕ
 labelDigit b = cond (isLetter b) (b - beforeLetters) (cond (isDigit b) (b - beforeDigits) (cond (eqb b hyphen) labelByteCount 0))

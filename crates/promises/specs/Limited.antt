@@ -92,10 +92,12 @@ pub record LimitsKept : Type 0 where
   pub drawing-kept : (rows : List ℤ) (m n budget : ℕ) → drawing total rowLimit rows m n budget .outcome ≡ Accepted
       → ((k : ℕ) → natAbs (centreOf (drawing total rowLimit rows m n budget .ball .«scaled_centre») k) ≤ centreLimit total)
       × (drawing total rowLimit rows m n budget .ball .«scaled_squared_radius» ≤ distanceLimit total)
+      × (drawing total rowLimit rows m n budget .ball .«scaled_lower_bound» ≤ distanceLimit total)
       × (drawing total rowLimit rows m n budget .moves ≤ budgetLimit)
   pub check-kept : (rows : List ℤ) (m n : ℕ) (ws : List ℕ) → checking total rowLimit rows m n ws .outcome ≡ Accepted
       → ((k : ℕ) → natAbs (centreOf (checking total rowLimit rows m n ws .ball .«scaled_centre») k) ≤ centreLimit total)
       × (checking total rowLimit rows m n ws .ball .«scaled_squared_radius» ≤ distanceLimit total)
+      × (checking total rowLimit rows m n ws .ball .«scaled_lower_bound» ≤ distanceLimit total)
   -- so that 8 meets none of them, nor the figures of an accepted record
   pub drawings : (n : ℕ) (codes : List ℕ) → n ≤ length codes → codesKnown channelTypes (take n codes) ≡ true → (rows : List ℤ) (m budget : ℕ)
       → drawing total rowLimit rows m n budget .outcome ≡ Accepted → NeverMetBy8 (drawnFigures n codes (drawing total rowLimit rows m n budget))
@@ -136,9 +138,11 @@ promise-2-14 =
           };
       drawing-kept = λ rows m n budget is.
           let promise = draw-promise rows m n budget (drawing total rowLimit rows m n budget) refl in
-          (promise .tight is .centre-limit, promise .tight is .radius-limit, promise .moves-limit is);
+          let tight = promise .tight is in
+          (tight .centre-limit, tight .radius-limit, le-trans (tight .floor) (tight .radius-limit), promise .moves-limit is);
       check-kept = λ rows m n ws is.
-          let tight = checking-tight total rowLimit rows m n ws is (omega arith) in (tight .centre-limit, tight .radius-limit);
+          let tight = checking-tight total rowLimit rows m n ws is (omega arith) in
+          (tight .centre-limit, tight .radius-limit, le-trans (tight .floor) (tight .radius-limit));
       drawings = λ n codes typed known rows m budget is.
           never-8 (drawnFigures n codes (drawing total rowLimit rows m n budget))
           (drawn-within total channelTypes n codes typed known (omega arith) rowLimit rows m budget is) (drawn-not-8 total channelTypes n codes typed known (omega arith) rowLimit rows m budget is)

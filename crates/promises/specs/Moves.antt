@@ -1,7 +1,7 @@
 -- Demand 2, the ball: figures and one move, for any rows, weights and total D.
 --     promise-2-1     X, s, M and L of any rows, weights and total (`FiguresOfWeights`)
 --     promise-2-2     the two rows of a move, g, d², Settled and t (`MoveChosen`)
---     promise-2-3     what a move keeps and by how much it raises L (`MoveMade`)
+--     promise-2-3     what a move changes and keeps, and by how much it raises L (`MoveMade`)
 -- Rows and channels count from 0; `a i k` is the coordinate of row i in channel k, `w i` the weight of row i.
 use Prim.Native.Nat.{_*_, _+_, _-_, _/_, _<_, _≤_, min, ℕ}
 use mathlib.Core.Path.{_≡_, refl, sym}
@@ -15,9 +15,11 @@ use Rattle.integers.specs.Sum.{square, sumℕ, sumℤ}
 use Rattle.geometry.specs.FigureLaws.{lower-bound-ℤ}
 use Rattle.geometry.specs.Figures.{largest, scaledCentre, scaledLowerBound, scaledSquaredDistance, scaledSquaredRadius, squaredDistance, squaredLength, weightedSquaredLength}
 use Rattle.geometry.specs.Move.{difference, farRow, moveWeight, moved, nearRow, scaledSquaredDistanceOf, separation, settled, transfer, weightOf}
-use Rattle.geometry.specs.MoveLaws.{difference-exact, lower-bound-rises, moved-by, moved-other, moved-total, rise-some}
+use Rattle.geometry.specs.MoveLaws.{difference-exact, far-within, lower-bound-rises, moved-by, moved-far, moved-near, moved-other, moved-total, near-within, rise-some}
 use Rattle.geometry.specs.Places.{weightsTotal}
 use Rattle.geometry.specs.SelectLaws.{farthest-lowestℕ, farthest-mostℕ, ltb-strict, nearest-leastℕ, nearest-lowestℕ, nearest-weighted}
+use Rattle.drawing.specs.Demand.{run-total}
+use Rattle.drawing.specs.Draw.{runFrom}
 
 -- ---- 2.1
 
@@ -67,6 +69,9 @@ module _ (D m n : ℕ) (a : ℕ → ℕ → ℤ) (w : ℕ → ℕ) where
 
   pub record MoveChosen : Type 0 where
     pub score : (i : ℕ) → s i ≡ scaledSquaredDistance D n (scaledCentre a w m) (a i)
+    -- both are among the m rows
+    pub far-row : 0 < m → far < m
+    pub near-row : 0 < m → near < m
     -- the far row has the largest s of all rows; ties go to the lowest row
     pub far-largest : (i : ℕ) → i < m → s i ≤ s far
     pub far-lowest : (i : ℕ) → i < far → s i < s far
@@ -86,6 +91,8 @@ module _ (D m n : ℕ) (a : ℕ → ℕ → ℤ) (w : ℕ → ℕ) where
   promise-2-2 =
       record {
         score = λ i. refl;
+        far-row = far-within D m n a w;
+        near-row = near-within D m n a w;
         far-largest = farthest-mostℕ s m;
         far-lowest = farthest-lowestℕ s m;
         near-weighted = nearest-weighted ltb-strict w s m;
@@ -110,8 +117,14 @@ module _ (D m n : ℕ) (a : ℕ → ℕ → ℤ) (ws : List ℕ) where
   pub record MoveMade : Type 0 where
     -- t moves from the near row to the far row
     pub moved-is : after ≡ moveWeight (t D m n a (weightOf ws)) (near D m n a (weightOf ws)) (far D m n a (weightOf ws)) ws
-    -- the sum of the weights is kept, and two places only change
+    -- where these differ, the near row loses t and the far row gains t
+    pub near-loses : 0 < m → m ≤ length ws → near D m n a (weightOf ws) ≢ far D m n a (weightOf ws)
+        → weightOf after (near D m n a (weightOf ws)) + t D m n a (weightOf ws) ≡ weightOf ws (near D m n a (weightOf ws))
+    pub far-gains : 0 < m → m ≤ length ws → near D m n a (weightOf ws) ≢ far D m n a (weightOf ws)
+        → weightOf after (far D m n a (weightOf ws)) ≡ weightOf ws (far D m n a (weightOf ws)) + t D m n a (weightOf ws)
+    -- the sum of the weights is kept, by any number of moves alike, and two places only change
     pub sum-kept : 0 < m → m ≤ length ws → weightsTotal m after ≡ weightsTotal m ws
+    pub any-moves : (b made : ℕ) → 0 < m → m ≤ length ws → weightsTotal m (runFrom D m n a b made ws .weights) ≡ weightsTotal m ws
     pub others-kept : (i : ℕ) → i ≢ near D m n a (weightOf ws) → i ≢ far D m n a (weightOf ws) → weightOf after i ≡ weightOf ws i
     -- L rises by t (g - t d²), at least 1
     pub floor-rises : 0 < D → 0 < m → m ≤ length ws → weightsTotal m ws ≡ D → settled D m n a (weightOf ws) ≡ false
@@ -121,7 +134,10 @@ module _ (D m n : ℕ) (a : ℕ → ℕ → ℤ) (ws : List ℕ) where
   promise-2-3 =
       record {
         moved-is = sym (moved-by D m n a ws refl refl refl);
+        near-loses = moved-near D m n a ws;
+        far-gains = moved-far D m n a ws;
         sum-kept = moved-total D m n a ws;
+        any-moves = λ b made. run-total D m n a b made ws;
         others-kept = moved-other D m n a ws;
         floor-rises = λ positive some places sum unsettled.
             (lower-bound-rises D m n a ws positive some places sum unsettled, rise-some D m n a ws positive some places sum unsettled);

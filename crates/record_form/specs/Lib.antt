@@ -3,5 +3,6 @@
 pub mod Record
 pub mod Weights
 pub mod RecordLaws
+pub mod FaultLaws
 pub mod WeightsLaws
 pub mod Contracts

@@ -1,14 +1,14 @@
 -- What reading a record answers, for any total D, row limit and table of types.
---     notRead limit outcome                          a refused record: every figure and weight 0
---     statedBall X M L settled                       the ball of these figures, if M and L are 0 or more
---     ballOfRecord r                                 the ball that a record states, X in its eight places
---     statedEnvelope limit r ball                    the envelope that a record states, with this ball
---     agreedBall D limit rows m codes tags ws ball   this ball, if there is one, and it agrees with rows and codes
---     givenWithin limit types rows m n codes         the rows and the n codes are within their limits
---     recordRead D limit types rows m n codes text   what reading answers
---     ballAnswer D limit rows m codes stated ball    the same for what the reader of the form hands over, if there is this ball
---     statedAnswer D limit rows m codes stated       the same for what it hands over
---     Agreeing rows m n codes stated                 what is asked of that
+--     notRead limit outcome                            a refused record: every figure and weight 0
+--     statedBall X M L settled                         the ball of these figures, if M and L are 0 or more
+--     ballOfRecord r                                   the ball that a record states, X in its eight places
+--     statedEnvelope limit r ball                      the envelope that a record states, with this ball
+--     agreedBall D limit rows m codes stated ws ball   this ball, if there is one, and it agrees with rows and codes
+--     givenWithin limit types rows m n codes           the rows and the n codes are within their limits
+--     recordRead D limit types rows m n codes text     what reading answers
+--     ballAnswer D limit rows m codes stated ball      the same for what the reader of the form hands over, if there is this ball
+--     statedAnswer D limit rows m codes stated         the same for what it hands over
+--     Agreeing rows m n codes stated                   what is asked of that
 use Prim.Native.Nat.{ℕ, _≤_}
 use mathlib.Core.Path.{_≡_}
 use mathlib.Core.Bool.{Bool, true, cond, _&&_}
@@ -54,10 +54,10 @@ abbrev pub statedEnvelope : ℕ → Record → Ball → Envelope
 statedEnvelope limit r ball =
     envelopeOf (figuresOf (length (r .codes)) (padded channelLimit (r .codes)) ball (r .result .moves)) (weightsOf limit (r .weights))
 
--- n and tags are those given, and figures, letter and weights are what the check gives
+-- n and tags are those given; figures and letter are what the check gives of the weights, none of which stands past the m rows
 abbrev pub agreedBall : ℕ → ℕ → List ℤ → ℕ → List ℕ → List ℕ → List ℕ → Option Ball → Option Ball
-agreedBall D limit rows m codes tags ws none = none
-agreedBall D limit rows m codes tags ws (some ball) = cond (same codes tags && agrees D limit rows m (length codes) ball ws) (some ball) none
+agreedBall D limit rows m codes stated ws none = none
+agreedBall D limit rows m codes stated ws (some ball) = cond (same codes stated && agrees D limit rows m (length codes) ball ws) (some ball) none
 
 abbrev pub givenWithin : ℕ → Types → List ℤ → ℕ → ℕ → List ℕ → Bool
 givenWithin limit types rows m n codes = rowsWithin limit rows m n && (leb n (length codes) && codesKnown types (take n codes))

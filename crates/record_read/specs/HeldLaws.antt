@@ -168,8 +168,8 @@ module _ (D limit : ℕ) (rows : List ℤ) (m n : ℕ) (holding : Holding D) (ch
 module _ (D : ℕ) (holding : Holding D) (rows : List ℤ) (m : ℕ) (codes : List ℕ) (r : Record) (channels : length (r .codes) ≤ channelLimit) where
   -- the answer where n and the tags are these, and with this ball and these weights
   abbrev answerWith : List ℕ → Ball → List ℕ → EnvelopeRead
-  answerWith tags ball ws =
-      requireSome (agreedBall D rowLimit rows m codes tags ws (some ball)) (notRead rowLimit (refused disagreement)) (λ ball.
+  answerWith stated ball ws =
+      requireSome (agreedBall D rowLimit rows m codes stated ws (some ball)) (notRead rowLimit (refused disagreement)) (λ ball.
       accepting (envelopeOf (figuresOf (length (r .codes)) (padded channelLimit (r .codes)) ball (r .result .moves)) ws))
 
   turned : (ball : Ball) (ws : List ℕ) → agrees D rowLimit rows m (length (r .codes)) ball ws ≡ false
@@ -192,7 +192,7 @@ module _ (D : ℕ) (holding : Holding D) (rows : List ℤ) (m : ℕ) (codes : Li
           (statedBall (centreList (length (r .codes)) (centreOf (r .scaledCentre))) M L (r .result .settled)))
           (notRead rowLimit (refused disagreement)) (λ ball. accepting (statedEnvelope rowLimit r ball))
       go (pos M) (pos L) =
-          ap₂ (λ tags ws. answerWith tags (ballWith (length (r .codes)) (map held (r .scaledCentre)) (min M heldLimit) (min L heldLimit) (r .result .settled)) ws)
+          ap₂ (λ stated ws. answerWith stated (ballWith (length (r .codes)) (map held (r .scaledCentre)) (min M heldLimit) (min L heldLimit) (r .result .settled)) ws)
           (padded-take channelLimit (r .codes) channels) (weights-held rowLimit (r .weights))
           ∙ kept-by D rowLimit rows m (length (r .codes)) holding channels (r .result .settled) (r .scaledCentre) M L (weightsOf rowLimit (r .weights))
           (answerWith (r .codes)) (notRead rowLimit (refused disagreement)) turned

@@ -46,21 +46,21 @@ accepting e = record { outcome = Accepted; envelope = e }
 
 -- ---- 12
 
-module _ (D limit : ℕ) (rows : List ℤ) (m : ℕ) (codes tags ws : List ℕ) where
-  pub agreed-ball : (o : Option Ball) {ball : Ball} → agreedBall D limit rows m codes tags ws o ≡ some ball
-      → (o ≡ some ball) × (codes ≡ tags) × (agrees D limit rows m (length codes) ball ws ≡ true)
+module _ (D limit : ℕ) (rows : List ℤ) (m : ℕ) (codes stated ws : List ℕ) where
+  pub agreed-ball : (o : Option Ball) {ball : Ball} → agreedBall D limit rows m codes stated ws o ≡ some ball
+      → (o ≡ some ball) × (codes ≡ stated) × (agrees D limit rows m (length codes) ball ws ≡ true)
   agreed-ball none e = unlike e
   agreed-ball (some b) {ball} e =
       let agreeing = agrees D limit rows m (length codes) b ws in
-      let test = cond-some (same codes tags && agreeing) e in
-      let tests = both (same codes tags) agreeing (test .0) in
+      let test = cond-some (same codes stated && agreeing) e in
+      let tests = both (same codes stated) agreeing (test .0) in
       let is : b ≡ ball = cc (test .1) in
-      (test .1, same-eq codes tags (tests .0), ap (λ (x : Ball). agrees D limit rows m (length codes) x ws) (sym is) ∙ tests .1)
+      (test .1, same-eq codes stated (tests .0), ap (λ (x : Ball). agrees D limit rows m (length codes) x ws) (sym is) ∙ tests .1)
 
-  pub ball-agreed : {o : Option Ball} {ball : Ball} → o ≡ some ball → codes ≡ tags → agrees D limit rows m (length codes) ball ws ≡ true
-      → agreedBall D limit rows m codes tags ws o ≡ some ball
+  pub ball-agreed : {o : Option Ball} {ball : Ball} → o ≡ some ball → codes ≡ stated → agrees D limit rows m (length codes) ball ws ≡ true
+      → agreedBall D limit rows m codes stated ws o ≡ some ball
   ball-agreed {ball = ball} states alike agreeing =
-      ap (agreedBall D limit rows m codes tags ws) states
+      ap (agreedBall D limit rows m codes stated ws) states
       ∙ ap (λ (t : Bool). cond t (some ball) none) (ap₂ _&&_ (ap (same codes) (sym alike) ∙ same-refl codes) agreeing)
 
 -- ---- the order

@@ -1,6 +1,6 @@
 -- Bytes written as a quoted text.
---     ascii s     the codes of its characters, each below 128 in the texts of the house
---     byte s      the first of them: a quoted character as its byte
+--     ascii s     the codes of its characters, each below 128 wherever this is used
+--     byte s      a quoted character as its byte: only the first character counts, and `byte ""` is 0
 use Prim.Native.Nat.{ℕ}
 use Prim.Native.Char.{code}
 use Prim.Native.String.{String, [] as none, _∷_ as _then_}

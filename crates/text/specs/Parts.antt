@@ -9,7 +9,7 @@
 --     free c l, allFree c parts    no byte c stands in l, in any of the parts
 --     partEnd c s at               where the part of s that starts at index at ends
 --     partsFrom c s at             the parts of s from index at on; none past the end
---     partStart c s at k           where part k of s from an index on, counted from 0, starts; past the end where there is no such part
+--     partStart c s at k           where part k, counted from 0, of s from index at on starts; past the end where there is no such part
 use Prim.Native.Nat.{ℕ, zero, suc, _+_}
 use mathlib.Core.Bool.{Bool, true, false, not, cond, _&&_}
 use mathlib.Core.List.{List, [], _∷_, _++_}

@@ -1,2 +1,2 @@
--- The trial figures of document 01.
+-- The starred trial figures of document 01, and the range of TOC.
 pub mod Trials

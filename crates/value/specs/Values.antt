@@ -1,4 +1,5 @@
 -- The values of a line, each in a field of its own under a type of its own.
+--     andValue v values                the value before the others, if there is one
 --     valuesOf fields                  the values that the fields are, if each is one
 --     valuesInRange types codes vs     each value is within the range of its type
 use Prim.Native.Nat.{ℕ}
