@@ -31,7 +31,7 @@ use Rattle.record_form.specs.Weights.{weightsOf}
 use Rattle.record_read.specs.Contracts.{ballOfRecord, givenWithin, notRead, recordRead, statedEnvelope}
 use Rattle.record_read.specs.ReadLaws.{accepted-read, accepting, not-11-printed, printed-not-11, read-accepted, read-faulty}
 use Rattle.record_read.specs.declared.EnvelopeRead.{EnvelopeRead}
-use Rattle.promises.specs.House.{formOf}
+use Rattle.promises.specs.House.{textForm}
 
 module _ (rows : List ℤ) (m n : ℕ) (codes text : List ℕ) where
   abbrev answer : EnvelopeRead
@@ -41,7 +41,7 @@ module _ (rows : List ℤ) (m n : ℕ) (codes text : List ℕ) where
   pub record Agreeing (r : Record) (ball : Ball) : Type 0 where
     pub given : givenWithin rowLimit channelTypes rows m n codes ≡ true
     pub some-text : textWithin text ≡ true
-    pub in-form : formOf text ≡ sound r
+    pub in-form : textForm text ≡ sound r
     pub states : ballOfRecord r ≡ some ball
     pub same-codes : take n codes ≡ r .codes
     pub agreeing : agrees total rowLimit rows m (length (take n codes)) ball (weightsOf rowLimit (r .weights)) ≡ true
@@ -58,10 +58,10 @@ module _ (rows : List ℤ) (m n : ℕ) (codes text : List ℕ) where
   pub record RecordsRead : Type 0 where
     pub printed-lines : RecordLines
     -- a text is in form exactly when it is the printing of a record within the limits
-    pub form-printed : (r : Record) → formOf text ≡ sound r → Within rowLimit channelTypes r × (printRecord channelTypes r ≡ text)
-    pub printed-form : (r : Record) → Within rowLimit channelTypes r → formOf (printRecord channelTypes r) ≡ sound r
+    pub form-printed : (r : Record) → textForm text ≡ sound r → Within rowLimit channelTypes r × (printRecord channelTypes r ≡ text)
+    pub printed-form : (r : Record) → Within rowLimit channelTypes r → textForm (printRecord channelTypes r) ≡ sound r
     -- else 11 at the first faulty line
-    pub faulty-line : (line : ℕ) → givenWithin rowLimit channelTypes rows m n codes ≡ true → textWithin text ≡ true → formOf text ≡ faulty line
+    pub faulty-line : (line : ℕ) → givenWithin rowLimit channelTypes rows m n codes ≡ true → textWithin text ≡ true → textForm text ≡ faulty line
         → answer ≡ notRead rowLimit (refusedAt record-form line)
     -- so that a text of 1 to 65,536 bytes is not met by 11 exactly when it is such a printing
     pub not-11-printed : givenWithin rowLimit channelTypes rows m n codes ≡ true → textWithin text ≡ true
