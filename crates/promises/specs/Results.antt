@@ -50,7 +50,8 @@ use prog.Wp.{Heap}
 module _ {M : Type 1} (𝓤 : URA M) (H : Heap 𝓤) (𝓜 : Model 𝓤 H) (𝓖 : GhostRules 𝓤 H) (𝓡 : Running 𝓤 H 𝓜) where
   -- ---- 1.1
 
-  -- no call asks anything of its caller, and its result is what a definition gives of its arguments, accepted or refused
+  -- no call asks anything of its caller, and its result is what a definition gives of its arguments, accepted or refused;
+  -- what the programs read by is no such call (ProgramReaders in ProgramCalls)
   pub record PublicCalls : Type 1 where
     pub of-library : Calls 𝓤 H 𝓜 𝓖 𝓡
     pub of-programs : ProgramCalls 𝓤 H 𝓜 𝓖 𝓡
