@@ -8,6 +8,9 @@ pub mod ProgramCalls
 pub mod Exports
 pub mod Programs
 pub mod ToldRefusals
+pub mod Listed
+pub mod ListedVerdicts
+pub mod ListedAnswers
 pub mod Results
 pub mod RefusedTexts
 pub mod RefusedPrograms
