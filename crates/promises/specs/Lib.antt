@@ -11,6 +11,8 @@ pub mod ToldRefusals
 pub mod Listed
 pub mod ListedVerdicts
 pub mod ListedAnswers
+pub mod ListedNumbers
+pub mod ListedExports
 pub mod Results
 pub mod RefusedTexts
 pub mod RefusedPrograms

@@ -1,7 +1,9 @@
 -- Demand 1, that each verdict and each mark is accepted or a listed refusal in which every other figure is 0, for the total and the types of
 -- the calls; with the other answers in ListedAnswers.
---     VerdictAnswered, reading-answered     of a verdict
---     MarkAnswered, chart-answered          of a mark
+--     VerdictAnswered, reading-answered     of a verdict; of each verdict on a reading
+--     ListedVerdict, verdict-answered       one that is no refusal, or a listed one, is such a verdict
+--     MarkAnswered, chart-answered          of a mark; of each mark on a chart
+--     ListedMark, mark-answered             one that is no refusal, or a listed one, is such a mark
 use Prim.Native.Nat.{suc, zero, ℕ}
 use mathlib.Core.Path.{_≡_, ap, refl}
 use mathlib.Core.Bool.{_&&_, true}
@@ -40,12 +42,12 @@ pub record VerdictAnswered (v : Verdict) : Type 0 where
   pub refused : (r : Refusal) → v ≡ RefusedReading r → (isRefusal (verdictNumber v) ≡ true) × (verdictExcess v ≡ 0)
 
 -- a verdict that is no refusal, or a listed one
-abbrev ListedVerdict : Verdict → Type 0
+abbrev pub ListedVerdict : Verdict → Type 0
 ListedVerdict Quiet = Unit {0}
 ListedVerdict (Alarm excess) = Unit {0}
 ListedVerdict (RefusedReading r) = isRefusal (r .number) ≡ true
 
-verdict-answered : (v : Verdict) → ListedVerdict v → VerdictAnswered v
+pub verdict-answered : (v : Verdict) → ListedVerdict v → VerdictAnswered v
 verdict-answered Quiet listed =
     record { zero = λ _. inl refl; quiet = λ _. refl; alarm = λ _ _. refl; refused = λ r e. impossible (cc) }
 verdict-answered (Alarm excess) listed =
@@ -83,12 +85,12 @@ pub record MarkAnswered (mark : Mark) : Type 0 where
       × (markRadius mark ≡ positiveZero)
 
 -- a mark that is no refusal, or a listed one
-abbrev ListedMark : Mark → Type 0
+abbrev pub ListedMark : Mark → Type 0
 ListedMark (Dot p) = Unit {0}
 ListedMark (Disc p x) = Unit {0}
 ListedMark (RefusedMark r) = isRefusal (r .number) ≡ true
 
-mark-answered : (mark : Mark) → ListedMark mark → MarkAnswered mark
+pub mark-answered : (mark : Mark) → ListedMark mark → MarkAnswered mark
 mark-answered (Dot p) listed =
     record { zero = λ _. inl (p, refl); dot = λ _ _. refl; disc = λ _ _ _. refl; refused = λ r e. impossible (cc) }
 mark-answered (Disc p x) listed =

@@ -44,6 +44,7 @@ use Rattle.promises.specs.Calls.{Calls, calls}
 use Rattle.promises.specs.Exports.{Exports, exports}
 use Rattle.promises.specs.Listed.{KeptWhereRefused, refused-keeps}
 use Rattle.promises.specs.ListedAnswers.{AnswersListed, answers-listed}
+use Rattle.promises.specs.ListedExports.{ExportsListed, exports-listed}
 use Rattle.promises.specs.ProgramCalls.{ProgramCalls, programCalls}
 use Rattle.promises.specs.Programs.{ProgramTexts, programTexts}
 use Rattle.promises.specs.ToldRefusals.{RefusalsTold, refusals-told}
@@ -112,6 +113,7 @@ pub record RefusalValues : Type 0 where
   pub no-line : (number : ℕ) → lineOf (refused number) ≡ 0
   -- each answer of a call is accepted, with the number 0, or refused with one of the thirteen, and then it is the refusal below
   pub listed : AnswersListed
+  pub listed-in-numbers : ExportsListed
   -- in a refusal every other figure and array is 0
   pub ball : emptyBall ≡ filledBall (replicate channelLimit (pos 0)) 0 0 false
   pub drawing : (o : Outcome) → notDrawn rowLimit o ≡ record { outcome = o; ball = emptyBall; weights = replicate rowLimit 0; moves = 0 }
@@ -160,6 +162,7 @@ promise-1-3 =
       of-refused = λ number line. (refl, refl);
       no-line = λ number. refl;
       listed = answers-listed;
+      listed-in-numbers = exports-listed;
       ball = refl;
       drawing = λ o. refl;
       check = λ o. refl;
