@@ -91,7 +91,7 @@ row-told number line past =
 
 pub content-told : (limit : ℕ) (types : Types) (text : List ℕ) (number line : ℕ) → content limit types text ≡ faulty number line
     → ofReading number line ≡ false
-content-told limit types = each-refusal limit types (λ number line. ofReading number line ≡ false) refl refl row-told
+content-told limit types = each-refusal limit types (λ number line. ofReading number line ≡ false) refl refl (λ number line _ _. row-told number line)
 
 -- ---- reference text and record
 

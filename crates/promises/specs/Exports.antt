@@ -1,5 +1,6 @@
 -- Demand 1, what the code of each call for C and Rust is proved to answer in numbers, and to leave in what it is lent.
 --     Exports, exports     the thirteen calls, each by the definition that gives its answer
+-- Before each field stands the signature by which its arguments are counted.
 use Prim.Native.Nat.{_*_}
 use mathlib.Core.Path.{_≡_}
 use lib.ListN.{length}
@@ -75,6 +76,7 @@ module _ {M : Type 1} (𝓤 : URA M) (H : Heap 𝓤) (𝓜 : Model 𝓤 H) (𝓖
   open Notation.Connectives (Notation.connectives 𝓤) using (⌜_⌝, _∗_)
 
   pub record Exports : Type 1 where
+    -- cundarivo_draw(rows, m, n, budget, scaled_centre, weights)
     pub cundarivo-draw : Answers 𝓤 H 𝓜 𝓖 𝓡 draw.ended draw-code.routine
         (λ κs a r e.
         let rows = now (a .0) in let m = a .1 .0 in let n = a .1 .1 .0 in let budget = a .1 .1 .1 .0 in
@@ -83,12 +85,14 @@ module _ {M : Type 1} (𝓤 : URA M) (H : Heap 𝓤) (𝓜 : Model 𝓤 H) (𝓖
         ⌜ r ≡ drawAnswer (drawing total rowLimit rows m n budget) m n (length centre) (length weights) ⌝
         ∗ ⌜ centre-after ≡ filled (r .number) n (drawing total rowLimit rows m n budget .ball .«scaled_centre») centre ⌝
         ∗ ⌜ weights-after ≡ filled (r .number) m (drawing total rowLimit rows m n budget .weights) weights ⌝)
+    -- cundarivo_check(rows, m, n, weights, scaled_centre)
     pub cundarivo-check : Answers 𝓤 H 𝓜 𝓖 𝓡 check.ended check-code.routine
         (λ κs a r e.
         let rows = now (a .0) in let m = a .1 .0 in let n = a .1 .1 .0 in let weights = now (a .1 .1 .1 .0) in
         let centre = now (a .1 .1 .1 .1 .0) in let centre-after = now (e .1 .1 .1 .1 .0) in
         ⌜ r ≡ checkAnswer (checking total rowLimit rows m n weights) n (length centre) ⌝
         ∗ ⌜ centre-after ≡ filled (r .number) n (checking total rowLimit rows m n weights .ball .«scaled_centre») centre ⌝)
+    -- cundarivo_read_reference(text, table, codes)
     pub cundarivo-read-reference : Answers 𝓤 H 𝓜 𝓖 𝓡 reference.ended reference-code.routine
         (λ κs a r e.
         let text = now (a .0) in let table = now (a .1 .0) in let codes = now (a .1 .1 .0) in
@@ -96,14 +100,17 @@ module _ {M : Type 1} (𝓤 : URA M) (H : Heap 𝓤) (𝓜 : Model 𝓤 H) (𝓖
         ⌜ r ≡ referenceAnswer (referenceRead rowLimit channelTypes text (length table)) (length codes) ⌝
         ∗ ⌜ table-after ≡ filled (r .number) (r .m * r .n) (valuesIn (content rowLimit channelTypes text)) table ⌝
         ∗ ⌜ codes-after ≡ filled (r .number) (r .n) (referenceRead rowLimit channelTypes text (length table) .codes) codes ⌝)
+    -- cundarivo_label(text, row)
     pub cundarivo-label : Answers 𝓤 H 𝓜 𝓖 𝓡 label.ended label-code.routine
         (λ κs a r e.
         let text = now (a .0) in let row = a .1 .0 in
         ⌜ r ≡ labelAnswer (labelPart rowLimit channelTypes text row) ⌝)
+    -- cundarivo_judge(figures, codes, scaled_centre, text)
     pub cundarivo-judge : Answers 𝓤 H 𝓜 𝓖 𝓡 judge.ended judge-code.routine
         (λ κs a r e.
         let figures = a .0 in let codes = now (a .1 .0) in let centre = now (a .1 .1 .0) in let text = now (a .1 .1 .1 .0) in
         ⌜ r ≡ judgeAnswer total channelTypes figures codes centre text ⌝)
+    -- cundarivo_read_record(rows, m, n, codes, text, scaled_centre, weights)
     pub cundarivo-read-record : Answers 𝓤 H 𝓜 𝓖 𝓡 record-read.ended record-read-code.routine
         (λ κs a r e.
         let rows = now (a .0) in let m = a .1 .0 in let n = a .1 .1 .0 in let codes = now (a .1 .1 .1 .0) in
@@ -113,6 +120,7 @@ module _ {M : Type 1} (𝓤 : URA M) (H : Heap 𝓤) (𝓜 : Model 𝓤 H) (𝓖
         ⌜ r ≡ readAnswer (recordRead total rowLimit channelTypes rows m n codes text) m n (length centre) (length weights) ⌝
         ∗ ⌜ centre-after ≡ filled (r .number) n (recordRead total rowLimit channelTypes rows m n codes text .envelope .figures .ball .«scaled_centre») centre ⌝
         ∗ ⌜ weights-after ≡ filled (r .number) m (recordRead total rowLimit channelTypes rows m n codes text .envelope .weights) weights ⌝)
+    -- cundarivo_write_record(figures, codes, scaled_centre, weights, rows, m, buffer)
     pub cundarivo-write-record : Answers 𝓤 H 𝓜 𝓖 𝓡 writing.ended writing-code.routine
         (λ κs a r e.
         let figures = a .0 in let codes = now (a .1 .0) in let centre = now (a .1 .1 .0) in
@@ -120,34 +128,40 @@ module _ {M : Type 1} (𝓤 : URA M) (H : Heap 𝓤) (𝓜 : Model 𝓤 H) (𝓖
         let buffer = now (a .1 .1 .1 .1 .1 .1 .0) in let buffer-after = now (e .1 .1 .1 .1 .1 .1 .0) in
         ⌜ r ≡ writeAnswer total rowLimit channelTypes figures codes centre weights rows m (length buffer) ⌝
         ∗ ⌜ buffer-after ≡ filled (r .number) (r .length) (recordText channelTypes (envelopeGiven rowLimit figures codes centre weights)) buffer ⌝)
+    -- cundarivo_chart(figures, codes, scaled_centre, horizontal, vertical)
     pub cundarivo-chart : Answers 𝓤 H 𝓜 𝓖 𝓡 chart.ended chart-code.routine
         (λ κs a r e.
         let figures = a .0 in let codes = now (a .1 .0) in let centre = now (a .1 .1 .0) in let horizontal = a .1 .1 .1 .0 in
         let vertical = a .1 .1 .1 .1 .0 in
         ⌜ r ≡ chartAnswer total channelTypes figures codes centre horizontal vertical ⌝)
+    -- cundarivo_panel(figures, codes, scaled_centre, steps)
     pub cundarivo-panel : Answers 𝓤 H 𝓜 𝓖 𝓡 panel.ended panel-code.routine
         (λ κs a r e.
         let figures = a .0 in let codes = now (a .1 .0) in let centre = now (a .1 .1 .0) in let steps = now (a .1 .1 .1 .0) in
         let steps-after = now (e .1 .1 .1 .0) in
         ⌜ r ≡ panelAnswer (panelGiven total channelTypes figures codes centre) (figures .n) (length steps) ⌝
         ∗ ⌜ steps-after ≡ filled (r .number) (figures .n) (panelGiven total channelTypes figures codes centre .steps) steps ⌝)
+    -- cundarivo_program_draw(reference, output)
     pub cundarivo-program-draw : Answers 𝓤 H 𝓜 𝓖 𝓡 program-draw.ended program-draw-code.routine
         (λ κs a r e.
         let reference = now (a .0) in let output = now (a .1 .0) in let output-after = now (e .1 .0) in
         ⌜ r ≡ writtenInNumbers (textWritten (drawOutput total rowLimit channelTypes reference) (length output)) ⌝
         ∗ ⌜ output-after ≡ filled (r .number) (r .length) (drawOutput total rowLimit channelTypes reference) output ⌝)
+    -- cundarivo_program_verify(reference, record_text, output)
     pub cundarivo-program-verify : Answers 𝓤 H 𝓜 𝓖 𝓡 program-verify.ended program-verify-code.routine
         (λ κs a r e.
         let reference = now (a .0) in let text = now (a .1 .0) in let output = now (a .1 .1 .0) in
         let output-after = now (e .1 .1 .0) in
         ⌜ r ≡ writtenInNumbers (textWritten (verifyOutput total rowLimit channelTypes reference text) (length output)) ⌝
         ∗ ⌜ output-after ≡ filled (r .number) (r .length) (verifyOutput total rowLimit channelTypes reference text) output ⌝)
+    -- cundarivo_program_judge(reference, record_text, readings, output)
     pub cundarivo-program-judge : Answers 𝓤 H 𝓜 𝓖 𝓡 program-judge.ended program-judge-code.routine
         (λ κs a r e.
         let reference = now (a .0) in let text = now (a .1 .0) in let readings = now (a .1 .1 .0) in
         let output = now (a .1 .1 .1 .0) in let output-after = now (e .1 .1 .1 .0) in
         ⌜ r ≡ writtenInNumbers (textWritten (judgeOutput total rowLimit channelTypes reference text readings) (length output)) ⌝
         ∗ ⌜ output-after ≡ filled (r .number) (r .length) (judgeOutput total rowLimit channelTypes reference text readings) output ⌝)
+    -- cundarivo_program_panel(reference, record_text, output)
     pub cundarivo-program-panel : Answers 𝓤 H 𝓜 𝓖 𝓡 program-panel.ended program-panel-code.routine
         (λ κs a r e.
         let reference = now (a .0) in let text = now (a .1 .0) in let output = now (a .1 .1 .0) in

@@ -1,6 +1,6 @@
 -- What a text is, for the total, the row limit and the types of the calls.
---     contentOf text             a reference text: refused with number and line, or accepted
---     formOf text                a record: faulty at a line, or in form
+--     textContent text           a reference text: refused with number and line, or accepted
+--     textForm text              a record: faulty at a line, or in form
 --     against reference text     the record, read against the reference text
 use Prim.Native.Nat.{ℕ}
 use mathlib.Core.List.{List}
@@ -12,11 +12,11 @@ use Rattle.record_form.specs.Record.{Form, Record, form}
 use Rattle.record_read.specs.declared.EnvelopeRead.{EnvelopeRead}
 use Rattle.program_record.specs.Against.{recordAgainst}
 
-abbrev pub contentOf : List ℕ → Content
-contentOf = content rowLimit channelTypes
+abbrev pub textContent : List ℕ → Content
+textContent = content rowLimit channelTypes
 
-abbrev pub formOf : List ℕ → Form Record
-formOf = form rowLimit channelTypes
+abbrev pub textForm : List ℕ → Form Record
+textForm = form rowLimit channelTypes
 
 abbrev pub against : List ℕ → List ℕ → EnvelopeRead
 against = recordAgainst total rowLimit channelTypes

@@ -8,6 +8,11 @@ pub mod ProgramCalls
 pub mod Exports
 pub mod Programs
 pub mod ToldRefusals
+pub mod Listed
+pub mod ListedVerdicts
+pub mod ListedAnswers
+pub mod ListedNumbers
+pub mod ListedExports
 pub mod Results
 pub mod RefusedTexts
 pub mod RefusedPrograms

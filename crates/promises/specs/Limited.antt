@@ -41,7 +41,7 @@ use Rattle.panel_steps.specs.OwnLaws.{checked-shown, drawn-shown, figures-shown
 use Rattle.panel_steps.specs.Panel.{panelShown}
 use Rattle.program_verdicts.specs.SizeLaws.{excess-most}
 use Rattle.program_laws.specs.QuietLaws.{reference-checked-not-8, reference-drawn-not-8}
-use Rattle.promises.specs.House.{contentOf}
+use Rattle.promises.specs.House.{textContent}
 
 -- figures that no call refuses by 8: within their limits, with known codes
 pub record NeverMetBy8 (f : Figures) : Type 0 where
@@ -107,12 +107,12 @@ pub record LimitsKept : Type 0 where
   pub records : (rows : List ℤ) (m n : ℕ) (codes text : List ℕ) → recordRead total rowLimit channelTypes rows m n codes text .outcome ≡ Accepted
       → NeverMetBy8 (recordRead total rowLimit channelTypes rows m n codes text .envelope .figures)
   -- nor a verdict on what is drawn from an accepted reference text or checked against it, whatever follows its codes and its table
-  pub reference-drawn : (text : List ℕ) (found : ReferenceText) → contentOf text ≡ sound found
+  pub reference-drawn : (text : List ℕ) (found : ReferenceText) → textContent text ≡ sound found
       → (more : List ℤ) (held : List ℕ) → take (channelCount found) held ≡ codesOf found → (budget : ℕ) → budget ≤ budgetLimit → (reading : List ℕ)
       → verdictNumber (judged total channelTypes
       (drawnFigures (channelCount found) held (drawing total rowLimit (tableOf found ++ more) (rowCount found) (channelCount found) budget)) reading)
       ≡ outside-limits → ⊥
-  pub reference-checked : (text : List ℕ) (found : ReferenceText) → contentOf text ≡ sound found
+  pub reference-checked : (text : List ℕ) (found : ReferenceText) → textContent text ≡ sound found
       → (more : List ℤ) (held : List ℕ) → take (channelCount found) held ≡ codesOf found → (ws : List ℕ) (moves : ℕ)
       → checking total rowLimit (tableOf found ++ more) (rowCount found) (channelCount found) ws .outcome ≡ Accepted → moves ≤ budgetLimit
       → (reading : List ℕ)

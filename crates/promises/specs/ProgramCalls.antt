@@ -1,5 +1,7 @@
 -- Demand 1, what the code of each program's call is proved to answer, and to leave in the slice for its output.
---     ProgramCalls, programCalls     the four programs, from their texts, each its own slice, to the whole output; and how a text is read
+--     ProgramCalls, programCalls         the four programs, from their texts, each its own slice, to the whole output
+--     ProgramReaders, programReaders     what the programs' readers ask of a program and give it
+-- Before each field stands the signature by which its arguments are counted.
 use Prim.Native.Nat.{_<_, _≤_}
 use mathlib.Core.Path.{_≡_}
 use lib.ListN.{length}
@@ -47,7 +49,7 @@ module _ {M : Type 1} (𝓤 : URA M) (H : Heap 𝓤) (𝓜 : Model 𝓤 H) (𝓖
   open Notation.Connectives (Notation.connectives 𝓤) using (⌜_⌝, _∗_)
 
   pub record ProgramCalls : Type 1 where
-    -- the programs, from their texts to the whole output, which 13 does not meet with this room
+    -- the programs, from their texts to the whole output, which 13 does not meet with this room: draw(reference, output)
     pub program-draws : Answers 𝓤 H 𝓜 𝓖 𝓡 program-draw.ended program-draw-code.routine
         (λ κs a r e.
         let reference = now (a .0) in let output = now (a .1 .0) in let output-after = now (e .1 .0) in
@@ -55,6 +57,7 @@ module _ {M : Type 1} (𝓤 : URA M) (H : Heap 𝓤) (𝓜 : Model 𝓤 H) (𝓖
         ∗ ⌜ output-after ≡ filled (numberOf (r .outcome)) (r .length) (drawOutput total rowLimit channelTypes reference) output ⌝
         ∗ ⌜ Part output-after (r .length) ⌝
         ∗ ⌜ length (drawOutput total rowLimit channelTypes reference) ≤ drawRoom ⌝)
+    -- verify(reference, record_text, output)
     pub program-verifies : Answers 𝓤 H 𝓜 𝓖 𝓡 program-verify.ended program-verify-code.routine
         (λ κs a r e.
         let reference = now (a .0) in let text = now (a .1 .0) in let output = now (a .1 .1 .0) in
@@ -63,6 +66,7 @@ module _ {M : Type 1} (𝓤 : URA M) (H : Heap 𝓤) (𝓜 : Model 𝓤 H) (𝓖
         ∗ ⌜ output-after ≡ filled (numberOf (r .outcome)) (r .length) (verifyOutput total rowLimit channelTypes reference text) output ⌝
         ∗ ⌜ Part output-after (r .length) ⌝
         ∗ ⌜ length (verifyOutput total rowLimit channelTypes reference text) ≤ answerRoom ⌝)
+    -- judge(reference, record_text, readings, output)
     pub program-judges : Answers 𝓤 H 𝓜 𝓖 𝓡 program-judge.ended program-judge-code.routine
         (λ κs a r e.
         let reference = now (a .0) in let text = now (a .1 .0) in let readings = now (a .1 .1 .0) in
@@ -72,6 +76,7 @@ module _ {M : Type 1} (𝓤 : URA M) (H : Heap 𝓤) (𝓜 : Model 𝓤 H) (𝓖
         ∗ ⌜ Part output-after (r .length) ⌝
         ∗ ⌜ length (judgeOutput total rowLimit channelTypes reference text readings) ≤ verdictsRoom ⌝
         ∗ ⌜ length (judgeOutput total rowLimit channelTypes reference text readings) ≤ readingsRoom readings ⌝)
+    -- panel(reference, record_text, output)
     pub program-shows-panel : Answers 𝓤 H 𝓜 𝓖 𝓡 program-panel.ended program-panel-code.routine
         (λ κs a r e.
         let reference = now (a .0) in let text = now (a .1 .0) in let output = now (a .1 .1 .0) in
@@ -80,15 +85,6 @@ module _ {M : Type 1} (𝓤 : URA M) (H : Heap 𝓤) (𝓜 : Model 𝓤 H) (𝓖
         ∗ ⌜ output-after ≡ filled (numberOf (r .outcome)) (r .length) (panelOutput total rowLimit channelTypes reference text) output ⌝
         ∗ ⌜ Part output-after (r .length) ⌝
         ∗ ⌜ length (panelOutput total rowLimit channelTypes reference text) ≤ panelRoom ⌝)
-    -- a text is read into a slice of more places than a text may have bytes; what was read stands in its first places
-    pub reads-file : AnswersWhere 𝓤 H 𝓜 𝓖 𝓡 read-file.ended read-file-code.routine (λ κs a. ⌜ textLimit < length (now (a .1 .1 .0)) ⌝)
-        (λ κs a r e.
-        let text-after = now (e .1 .1 .0) in
-        ⌜ Read r text-after ⌝)
-    pub reads-standard-input : AnswersWhere 𝓤 H 𝓜 𝓖 𝓡 read-input.ended read-input-code.routine (λ κs a. ⌜ textLimit < length (now (a .1 .0)) ⌝)
-        (λ κs a r e.
-        let text-after = now (e .1 .0) in
-        ⌜ Read r text-after ⌝)
 
   pub programCalls : ProgramCalls
   programCalls =
@@ -97,6 +93,21 @@ module _ {M : Type 1} (𝓤 : URA M) (H : Heap 𝓤) (𝓜 : Model 𝓤 H) (𝓖
         program-verifies = program-verify-proof.met 𝓤 H 𝓜 𝓖 𝓡;
         program-judges = program-judge-proof.met 𝓤 H 𝓜 𝓖 𝓡;
         program-shows-panel = program-panel-proof.met 𝓤 H 𝓜 𝓖 𝓡;
-        reads-file = read-file-proof.met 𝓤 H 𝓜 𝓖 𝓡;
-        reads-standard-input = read-input-proof.met 𝓤 H 𝓜 𝓖 𝓡;
       }
+
+  -- No public calls: each asks for a slice of more places than a text may have bytes, and what it gives is no equation, since no argument
+  -- says what is there to be read. What was read stands in the first places of the slice, nothing where a read failed (`Read`)
+  pub record ProgramReaders : Type 1 where
+    -- read_file(program, index, text)
+    pub reads-file : AnswersWhere 𝓤 H 𝓜 𝓖 𝓡 read-file.ended read-file-code.routine (λ κs a. ⌜ textLimit < length (now (a .1 .1 .0)) ⌝)
+        (λ κs a r e.
+        let text-after = now (e .1 .1 .0) in
+        ⌜ Read r text-after ⌝)
+    -- read_standard_input(program, text)
+    pub reads-standard-input : AnswersWhere 𝓤 H 𝓜 𝓖 𝓡 read-input.ended read-input-code.routine (λ κs a. ⌜ textLimit < length (now (a .1 .0)) ⌝)
+        (λ κs a r e.
+        let text-after = now (e .1 .0) in
+        ⌜ Read r text-after ⌝)
+
+  pub programReaders : ProgramReaders
+  programReaders = record { reads-file = read-file-proof.met 𝓤 H 𝓜 𝓖 𝓡; reads-standard-input = read-input-proof.met 𝓤 H 𝓜 𝓖 𝓡 }

@@ -33,7 +33,7 @@ use Rattle.reading.specs.Verdict.{judged, pointOf, verdictNumber}
 use Rattle.reading.specs.VerdictLaws.{accepted-number, accepted-printed, alarm-off-ball, printed-accepted, quiet-in-ball}
 use Rattle.reading.specs.declared.Verdict.the-variants.{Alarm, Quiet}
 use Rattle.program_laws.specs.QuietLaws.{reference-checked-quiet, reference-drawn-quiet}
-use Rattle.promises.specs.House.{contentOf}
+use Rattle.promises.specs.House.{textContent}
 
 -- the values are those of row i of m rows, within the ranges of the n codes, under any label
 pub record RowAsReading (n : ℕ) (codes label : List ℕ) (values : List Written) (rows : List ℤ) (m i : ℕ) : Type 0 where
@@ -86,13 +86,13 @@ pub record ReadingsJudged : Type 0 where
       → (ws : List ℕ) (moves : ℕ) → checking total rowLimit rows m n ws .outcome ≡ Accepted → moves ≤ budgetLimit
       → judged total channelTypes (figuresOf n codes (checking total rowLimit rows m n ws .ball) moves) (textOf (take n codes) label values) ≡ Quiet
   -- and so is each row of an accepted reference text, whatever follows its codes and its table
-  pub reference-drawn-row : (text : List ℕ) (found : ReferenceText) → contentOf text ≡ sound found
+  pub reference-drawn-row : (text : List ℕ) (found : ReferenceText) → textContent text ≡ sound found
       → (more : List ℤ) (held : List ℕ) → take (channelCount found) held ≡ codesOf found → (i : ℕ) → i < rowCount found
       → (budget : ℕ) → budget ≤ budgetLimit
       → judged total channelTypes
       (drawnFigures (channelCount found) held (drawing total rowLimit (tableOf found ++ more) (rowCount found) (channelCount found) budget))
       (textOf (codesOf found) (labelAt found i) (rowAt found i .values)) ≡ Quiet
-  pub reference-checked-row : (text : List ℕ) (found : ReferenceText) → contentOf text ≡ sound found
+  pub reference-checked-row : (text : List ℕ) (found : ReferenceText) → textContent text ≡ sound found
       → (more : List ℤ) (held : List ℕ) → take (channelCount found) held ≡ codesOf found → (i : ℕ) → i < rowCount found
       → (ws : List ℕ) (moves : ℕ) → checking total rowLimit (tableOf found ++ more) (rowCount found) (channelCount found) ws .outcome ≡ Accepted
       → moves ≤ budgetLimit

@@ -36,7 +36,7 @@ use Rattle.record_form.specs.Weights.{weightsOf}
 use Rattle.record_read.specs.Contracts.{ballOfRecord, givenWithin, notRead, recordRead, statedEnvelope}
 use Rattle.record_read.specs.ReadLaws.{accepted-read, accepting, not-11-printed, printed-not-11, read-accepted, read-faulty}
 use Rattle.record_read.specs.declared.EnvelopeRead.{EnvelopeRead}
-use Rattle.promises.specs.House.{formOf}
+use Rattle.promises.specs.House.{textForm}
 use Rattle.record_form.specs.FaultLaws as fault-laws
 
 module _ (rows : List ℤ) (m n : ℕ) (codes text : List ℕ) where
@@ -47,7 +47,7 @@ module _ (rows : List ℤ) (m n : ℕ) (codes text : List ℕ) where
   pub record Agreeing (r : Record) (ball : Ball) : Type 0 where
     pub given : givenWithin rowLimit channelTypes rows m n codes ≡ true
     pub some-text : textWithin text ≡ true
-    pub in-form : formOf text ≡ sound r
+    pub in-form : textForm text ≡ sound r
     pub states : ballOfRecord r ≡ some ball
     pub same-codes : take n codes ≡ r .codes
     pub agreeing : agrees total rowLimit rows m (length (take n codes)) ball (weightsOf rowLimit (r .weights)) ≡ true
@@ -93,7 +93,7 @@ module _ (rows : List ℤ) (m n : ℕ) (codes text : List ℕ) where
     pub weight-empty : (r : Record) (next : List ℕ) (parts : List (List ℕ)) → AfterWeights rowLimit channelTypes r text ([] ∷ next ∷ parts)
         → FaultyAt (4 + length (r .weights))
 
-  first-faulty : ((line : ℕ) → formOf text ≡ faulty line → FaultyAt line) → FirstFaulty
+  first-faulty : ((line : ℕ) → textForm text ≡ faulty line → FaultyAt line) → FirstFaulty
   first-faulty at =
       record {
         heading-unended = λ part is. at 1 (fault-laws.heading-unended rowLimit channelTypes text is);
@@ -117,10 +117,10 @@ module _ (rows : List ℤ) (m n : ℕ) (codes text : List ℕ) where
   pub record RecordsRead : Type 0 where
     pub printed-lines : RecordLines
     -- a text is in form exactly when it is the printing of a record within the limits
-    pub form-printed : (r : Record) → formOf text ≡ sound r → Within rowLimit channelTypes r × (printRecord channelTypes r ≡ text)
-    pub printed-form : (r : Record) → Within rowLimit channelTypes r → formOf (printRecord channelTypes r) ≡ sound r
+    pub form-printed : (r : Record) → textForm text ≡ sound r → Within rowLimit channelTypes r × (printRecord channelTypes r ≡ text)
+    pub printed-form : (r : Record) → Within rowLimit channelTypes r → textForm (printRecord channelTypes r) ≡ sound r
     -- else 11 at the first faulty line
-    pub faulty-line : (line : ℕ) → givenWithin rowLimit channelTypes rows m n codes ≡ true → textWithin text ≡ true → formOf text ≡ faulty line
+    pub faulty-line : (line : ℕ) → givenWithin rowLimit channelTypes rows m n codes ≡ true → textWithin text ≡ true → textForm text ≡ faulty line
         → FaultyAt line
     -- which that is, from the lines before it
     pub first-faulty-line : givenWithin rowLimit channelTypes rows m n codes ≡ true → textWithin text ≡ true → FirstFaulty

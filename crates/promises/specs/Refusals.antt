@@ -45,7 +45,7 @@ use Rattle.chart.specs.Mark.{channelWithin, chartMark, markNumber, refusedMark}
 use Rattle.chart.specs.MarkLaws.{accepted, accepts, refuses-figures, refuses-horizontal, refuses-vertical}
 use Rattle.panel_steps.specs.Panel.{panelOf, panelShown, refusedPanel}
 use Rattle.panel_steps.specs.PanelLaws.{panel-refuses, panel-shows}
-use Rattle.promises.specs.House.{formOf}
+use Rattle.promises.specs.House.{textForm}
 use Rattle.promises.specs.RefusedPrograms.{ProgramsRefused, programs-refused}
 use Rattle.promises.specs.RefusedTexts.{ReadingRefused, ReferenceRefused, reading-refused, reference-refused}
 
@@ -75,11 +75,11 @@ pub record RecordRefused (rows : List ℤ) (m n : ℕ) (codes text : List ℕ) :
       → recordRead total rowLimit channelTypes rows m n codes text ≡ notRead rowLimit (refused outside-limits)
   pub length-1 : givenWithin rowLimit channelTypes rows m n codes ≡ true → textWithin text ≡ false
       → recordRead total rowLimit channelTypes rows m n codes text ≡ notRead rowLimit (refused text-length)
-  pub form-11 : givenWithin rowLimit channelTypes rows m n codes ≡ true → textWithin text ≡ true → (line : ℕ) → formOf text ≡ faulty line
+  pub form-11 : givenWithin rowLimit channelTypes rows m n codes ≡ true → textWithin text ≡ true → (line : ℕ) → textForm text ≡ faulty line
       → recordRead total rowLimit channelTypes rows m n codes text ≡ notRead rowLimit (refusedAt record-form line)
-  pub negative-12 : givenWithin rowLimit channelTypes rows m n codes ≡ true → textWithin text ≡ true → (r : Record) → formOf text ≡ sound r
+  pub negative-12 : givenWithin rowLimit channelTypes rows m n codes ≡ true → textWithin text ≡ true → (r : Record) → textForm text ≡ sound r
       → ballOfRecord r ≡ none → recordRead total rowLimit channelTypes rows m n codes text ≡ notRead rowLimit (refused disagreement)
-  pub disagrees-12 : givenWithin rowLimit channelTypes rows m n codes ≡ true → textWithin text ≡ true → (r : Record) → formOf text ≡ sound r
+  pub disagrees-12 : givenWithin rowLimit channelTypes rows m n codes ≡ true → textWithin text ≡ true → (r : Record) → textForm text ≡ sound r
       → (ball : Ball) → ballOfRecord r ≡ some ball
       → (same (take n codes) (r .codes) && agrees total rowLimit rows m (length (take n codes)) ball (weightsOf rowLimit (r .weights))) ≡ false
       → recordRead total rowLimit channelTypes rows m n codes text ≡ notRead rowLimit (refused disagreement)

@@ -39,29 +39,29 @@ use Rattle.program_verdicts.specs.Output.{readingsOutput}
 use Rattle.program_verdicts.specs.OutputLaws.{readings-judged, readings-refused}
 use Rattle.program_judge.specs.Output.{judgeOutput}
 use Rattle.program_judge.specs.OutputLaws.{judge-by}
-use Rattle.promises.specs.House.{against, contentOf}
+use Rattle.promises.specs.House.{against, textContent}
 
 pub record ProgramsRefused (reference : List ℕ) : Type 0 where
   -- a refused reference text first
-  pub draw-reference : (number line : ℕ) → contentOf reference ≡ faulty number line → drawOutput total rowLimit channelTypes reference ≡ printRefusal number line
-  pub record-reference : (number line : ℕ) → contentOf reference ≡ faulty number line → (text : List ℕ)
+  pub draw-reference : (number line : ℕ) → textContent reference ≡ faulty number line → drawOutput total rowLimit channelTypes reference ≡ printRefusal number line
+  pub record-reference : (number line : ℕ) → textContent reference ≡ faulty number line → (text : List ℕ)
       → against reference text ≡ notRead rowLimit (refusedAt number line)
   -- then the record against the text's rows and codes
-  pub record-text : (found : ReferenceText) → contentOf reference ≡ sound found → (text : List ℕ)
+  pub record-text : (found : ReferenceText) → textContent reference ≡ sound found → (text : List ℕ)
       → against reference text ≡ recordRead total rowLimit channelTypes (tableOf found) (rowCount found) (channelCount found) (codesOf found) text
   -- then the readings together by 1, and else each by its verdict
   pub readings-1 : (f : Figures) (readings : List ℕ) → textWithin readings ≡ false → readingsOutput total channelTypes f readings ≡ printRefusal text-length 0
   pub readings-judged : (f : Figures) (readings : List ℕ) → textWithin readings ≡ true
       → readingsOutput total channelTypes f readings ≡ printVerdicts total channelTypes f (linesWithEnds readings)
   -- no 8 past an accepted reference text and record
-  pub drawn : (found : ReferenceText) → contentOf reference ≡ sound found
+  pub drawn : (found : ReferenceText) → textContent reference ≡ sound found
       → drawing total rowLimit (tableOf found) (rowCount found) (channelCount found) drawBudget .outcome ≡ Accepted
   pub figures-within : (text : List ℕ) → against reference text .outcome ≡ Accepted
       → figuresKnown total channelTypes (against reference text .envelope .figures) ≡ true
   pub panel-shown : (text : List ℕ) → against reference text .outcome ≡ Accepted
       → panelShown total channelTypes (against reference text .envelope .figures) .outcome ≡ Accepted
   -- what is printed of the rest
-  pub draw-else : (found : ReferenceText) → contentOf reference ≡ sound found
+  pub draw-else : (found : ReferenceText) → textContent reference ≡ sound found
       → drawOutput total rowLimit channelTypes reference
       ≡ recordText channelTypes
       (drawnEnvelope (channelCount found) (padded channelLimit (codesOf found))

@@ -31,50 +31,50 @@ use Rattle.envelope.specs.Figures.{channelCodes, figuresKnown}
 use Rattle.envelope.specs.declared.Figures.{Figures}
 use Rattle.reading.specs.Verdict.{judged, refusedVerdict}
 use Rattle.reading.specs.VerdictLaws.{refuses-length, refuses-tag}
-use Rattle.promises.specs.House.{contentOf}
+use Rattle.promises.specs.House.{textContent}
 use Rattle.reading.specs.VerdictLaws as verdict-laws
 
 -- `Begins rowLimit channelTypes found text parts`: the text begins with the heading and the rows of `found`, all within the limits, and
 -- then has these parts between bytes 10
 pub record ReferenceRefused (text : List ℕ) : Type 0 where
   -- 1
-  pub empty-1 : text ≡ [] → contentOf text ≡ faulty text-length 0
-  pub long-1 : textLimit < length text → contentOf text ≡ faulty text-length 0
+  pub empty-1 : text ≡ [] → textContent text ≡ faulty text-length 0
+  pub long-1 : textLimit < length text → textContent text ≡ faulty text-length 0
   -- 2: a heading without byte 10, and one that is none
-  pub unended-2 : 1 ≤ length text → length text ≤ textLimit → (line : List ℕ) → cut lineEnd text ≡ line ∷ [] → contentOf text ≡ faulty heading 1
+  pub unended-2 : 1 ≤ length text → length text ≤ textLimit → (line : List ℕ) → cut lineEnd text ≡ line ∷ [] → textContent text ≡ faulty heading 1
   pub heading-2 : 1 ≤ length text → length text ≤ textLimit → (line next : List ℕ) (parts : List (List ℕ)) → cut lineEnd text ≡ line ∷ next ∷ parts
-      → headingOf referenceWord channelLimit channelTypes line ≡ none → contentOf text ≡ faulty heading 1
+      → headingOf referenceWord channelLimit channelTypes line ≡ none → textContent text ≡ faulty heading 1
   -- 6 for a row past the limit, whatever stands in it
   pub row-6 : (found : ReferenceText) (line next : List ℕ) (parts : List (List ℕ)) → Begins rowLimit channelTypes found text (line ∷ next ∷ parts)
-      → rowLimit ≤ rowCount found → contentOf text ≡ faulty row-count (nextLine found)
+      → rowLimit ≤ rowCount found → textContent text ≡ faulty row-count (nextLine found)
   pub unended-row-6 : (found : ReferenceText) (b : ℕ) (part : List ℕ) → Begins rowLimit channelTypes found text ((b ∷ part) ∷ [])
-      → rowLimit ≤ rowCount found → contentOf text ≡ faulty row-count (nextLine found)
+      → rowLimit ≤ rowCount found → textContent text ≡ faulty row-count (nextLine found)
   -- 3, 4, 5
   pub form-3 : (found : ReferenceText) (line next : List ℕ) (parts : List (List ℕ)) → Begins rowLimit channelTypes found text (line ∷ next ∷ parts)
-      → rowCount found < rowLimit → rowOf (channelCount found) line ≡ none → contentOf text ≡ faulty line-form (nextLine found)
+      → rowCount found < rowLimit → rowOf (channelCount found) line ≡ none → textContent text ≡ faulty line-form (nextLine found)
   pub unended-3 : (found : ReferenceText) (b : ℕ) (part : List ℕ) → Begins rowLimit channelTypes found text ((b ∷ part) ∷ [])
-      → rowCount found < rowLimit → contentOf text ≡ faulty line-form (nextLine found)
+      → rowCount found < rowLimit → textContent text ≡ faulty line-form (nextLine found)
   pub range-4 : (found : ReferenceText) (line next : List ℕ) (parts : List (List ℕ)) → Begins rowLimit channelTypes found text (line ∷ next ∷ parts)
       → rowCount found < rowLimit → (row : Row) → rowOf (channelCount found) line ≡ some row
-      → valuesInRange channelTypes (codesOf found) (row .values) ≡ false → contentOf text ≡ faulty value-range (nextLine found)
+      → valuesInRange channelTypes (codesOf found) (row .values) ≡ false → textContent text ≡ faulty value-range (nextLine found)
   pub label-5 : (found : ReferenceText) (line next : List ℕ) (parts : List (List ℕ)) → Begins rowLimit channelTypes found text (line ∷ next ∷ parts)
       → rowCount found < rowLimit → (row : Row) → rowOf (channelCount found) line ≡ some row
       → valuesInRange channelTypes (codesOf found) (row .values) ≡ true → labelUsed (row .label) (labelsOf found) ≡ true
-      → contentOf text ≡ faulty label-repeated (nextLine found)
+      → textContent text ≡ faulty label-repeated (nextLine found)
   -- 6 for no row, at the line after the last
   pub none-6 : (found : ReferenceText) → Begins rowLimit channelTypes found text ([] ∷ []) → rowCount found ≡ 0
-      → contentOf text ≡ faulty row-count (firstRowLine found)
+      → textContent text ≡ faulty row-count (firstRowLine found)
   -- 7 last: a refused text keeps its refusal, however short the lent table is
-  pub kept : (number line : ℕ) → contentOf text ≡ faulty number line → (places : ℕ)
+  pub kept : (number line : ℕ) → textContent text ≡ faulty number line → (places : ℕ)
       → referenceRead rowLimit channelTypes text places ≡ refusedReference (refusedAt number line)
-  pub table-7 : (found : ReferenceText) → contentOf text ≡ sound found → (places : ℕ) → places < rowCount found * channelCount found
+  pub table-7 : (found : ReferenceText) → textContent text ≡ sound found → (places : ℕ) → places < rowCount found * channelCount found
       → referenceRead rowLimit channelTypes text places ≡ refusedReference (refused table-short)
 
 pub reference-refused : (text : List ℕ) → ReferenceRefused text
 unfolding referenceRead
 reference-refused text =
     record {
-      empty-1 = λ e. ap contentOf e ∙ refuses-empty rowLimit channelTypes;
+      empty-1 = λ e. ap textContent e ∙ refuses-empty rowLimit channelTypes;
       long-1 = refuses-long rowLimit channelTypes text;
       unended-2 = refuses-headless rowLimit channelTypes text;
       heading-2 = refuses-heading rowLimit channelTypes text;

@@ -7,27 +7,30 @@ use mathlib.Core.Path.{_≡_, refl, sym}
 use mathlib.Core.Bool.{false}
 use mathlib.Core.List.{List, [], _++_, _∷_}
 use lib.Ieee.{Float}
-use lib.IntN.{pos}
+use lib.IntN.{pos, ℤ}
 use lib.ListN.{drop, replicate, take}
 use Rattle.lists.specs.Padded.{padded}
 use Rattle.refusal.specs.Number.{budget-too-large, buffer-short, disagreement, heading, label-repeated, line-form, outside-limits, record-form, row-count, table-short, tag-differs, text-length, value-range}
 use Rattle.refusal.specs.Outcome.{lineOf, numberOf, refused, refusedAt}
 use Rattle.refusal.specs.declared.Outcome.{Outcome}
 use Rattle.refusal.specs.declared.Outcome.the-variants.{Accepted}
-use Rattle.limits.specs.Limits.{channelLimit, rowLimit}
-use Rattle.lent.specs.Contracts.{notWritten, written}
+use Rattle.limits.specs.Limits.{channelLimit, rowLimit, total}
+use Rattle.lent.specs.Contracts.{notWritten, textWritten, written}
 use Rattle.lent.specs.Filled.{filled, filled-refused}
 use Rattle.ball.specs.Ball.{emptyBall, filledBall}
 use Rattle.checking.specs.Check.{notChecked}
 use Rattle.drawing.specs.Draw.{notDrawn}
 use Rattle.printing.specs.Contracts.{printNumbers}
-use Rattle.reference.specs.Contracts.{refusedReference}
+use Rattle.channel.specs.Channel.{channelTypes}
+use Rattle.reference.specs.Contracts.{referenceRead, refusedReference}
 use Rattle.reference_label.specs.Contracts.{noPart}
 use Rattle.envelope.specs.Figures.{emptyEnvelope, emptyFigures, envelopeOf, figuresOf}
+use Rattle.envelope.specs.declared.Envelope.{Envelope}
 use Rattle.reading.specs.Verdict.{refusedVerdict, verdictExcess, verdictLine, verdictNumber}
 use Rattle.reading.specs.declared.Verdict.{Verdict}
 use Rattle.reading.specs.declared.Verdict.the-variants.{Alarm, Quiet}
 use Rattle.record_read.specs.Contracts.{notRead}
+use Rattle.record_write.specs.Contracts.{recordWritten}
 use Rattle.chart.specs.Fraction.{positiveZero}
 use Rattle.chart.specs.Mark.{markLine, markNumber, markPoint, markRadius, refusedMark}
 use Rattle.chart.specs.declared.Mark.{Mark}
@@ -39,6 +42,9 @@ use Rattle.export_reading.specs.Contracts.{verdictCode, verdictInNumbers}
 use Rattle.export_chart.specs.Contracts.{markCode, markInNumbers}
 use Rattle.promises.specs.Calls.{Calls, calls}
 use Rattle.promises.specs.Exports.{Exports, exports}
+use Rattle.promises.specs.Listed.{KeptWhereRefused, refused-keeps}
+use Rattle.promises.specs.ListedAnswers.{AnswersListed, answers-listed}
+use Rattle.promises.specs.ListedExports.{ExportsListed, exports-listed}
 use Rattle.promises.specs.ProgramCalls.{ProgramCalls, programCalls}
 use Rattle.promises.specs.Programs.{ProgramTexts, programTexts}
 use Rattle.promises.specs.ToldRefusals.{RefusalsTold, refusals-told}
@@ -50,7 +56,8 @@ use prog.Wp.{Heap}
 module _ {M : Type 1} (𝓤 : URA M) (H : Heap 𝓤) (𝓜 : Model 𝓤 H) (𝓖 : GhostRules 𝓤 H) (𝓡 : Running 𝓤 H 𝓜) where
   -- ---- 1.1
 
-  -- no call asks anything of its caller, and its result is what a definition gives of its arguments, accepted or refused
+  -- no call asks anything of its caller, and its result is what a definition gives of its arguments, accepted or refused;
+  -- what the programs read by is no such call (ProgramReaders in ProgramCalls)
   pub record PublicCalls : Type 1 where
     pub of-library : Calls 𝓤 H 𝓜 𝓖 𝓡
     pub of-programs : ProgramCalls 𝓤 H 𝓜 𝓖 𝓡
@@ -73,8 +80,12 @@ module _ {M : Type 1} (𝓤 : URA M) (H : Heap 𝓤) (𝓜 : Model 𝓤 H) (𝓖
     pub said-by-calls : PublicCalls
     -- accepted, the first places are what the definition gives and every other place is as at entry
     pub accepted : {A : Type 0} (count : ℕ) (source lent : List A) → filled 0 count source lent ≡ take count source ++ drop count lent
-    -- refused, every place is as at entry
+    -- refused, every place is as at entry: by the number, as the calls for C and Rust say it, and by the outcome, as the others do
     pub refused-kept : {A : Type 0} (number count : ℕ) (source lent : List A) → (number ≡ 0 → ⊥) → filled number count source lent ≡ lent
+    pub reference-kept : (text : List ℕ) (places : ℕ) → KeptWhereRefused (referenceRead rowLimit channelTypes text places .outcome)
+    pub writing-kept : (rows : List ℤ) (m : ℕ) (e : Envelope) (places : ℕ)
+        → KeptWhereRefused (recordWritten total rowLimit channelTypes rows m e places .outcome)
+    pub output-kept : (output : List ℕ) (places : ℕ) → KeptWhereRefused (textWritten output places .outcome)
 
   pub promise-1-2 : LentMemory
   unfolding filled
@@ -83,6 +94,11 @@ module _ {M : Type 1} (𝓤 : URA M) (H : Heap 𝓤) (𝓜 : Model 𝓤 H) (𝓖
         said-by-calls = promise-1-1;
         accepted = λ count source lent. refl;
         refused-kept = λ number count source lent refusal. sym (filled-refused number count source lent refusal);
+        reference-kept = λ text places.
+            refused-keeps (referenceRead rowLimit channelTypes text places .outcome) (answers-listed .of-reference text places .listed);
+        writing-kept = λ rows m e places.
+            refused-keeps (recordWritten total rowLimit channelTypes rows m e places .outcome) (answers-listed .of-writing rows m e places .listed);
+        output-kept = λ output places. refused-keeps (textWritten output places .outcome) (answers-listed .of-output output places .listed);
       }
 
 -- ---- 1.3
@@ -95,6 +111,9 @@ pub record RefusalValues : Type 0 where
   pub of-accepted : (numberOf Accepted ≡ 0) × (lineOf Accepted ≡ 0)
   pub of-refused : (number line : ℕ) → (numberOf (refusedAt number line) ≡ number) × (lineOf (refusedAt number line) ≡ line)
   pub no-line : (number : ℕ) → lineOf (refused number) ≡ 0
+  -- each answer of a call is accepted, with the number 0, or refused with one of the thirteen, and then it is the refusal below
+  pub listed : AnswersListed
+  pub listed-in-numbers : ExportsListed
   -- in a refusal every other figure and array is 0
   pub ball : emptyBall ≡ filledBall (replicate channelLimit (pos 0)) 0 0 false
   pub drawing : (o : Outcome) → notDrawn rowLimit o ≡ record { outcome = o; ball = emptyBall; weights = replicate rowLimit 0; moves = 0 }
@@ -142,6 +161,8 @@ promise-1-3 =
       of-accepted = (refl, refl);
       of-refused = λ number line. (refl, refl);
       no-line = λ number. refl;
+      listed = answers-listed;
+      listed-in-numbers = exports-listed;
       ball = refl;
       drawing = λ o. refl;
       check = λ o. refl;

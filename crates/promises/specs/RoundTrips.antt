@@ -48,7 +48,7 @@ use Rattle.program_draw.specs.Output.{drawBudget, drawOutput}
 use Rattle.program_verify.specs.Output.{verifyOutput}
 use Rattle.program_judge.specs.Output.{judgeOutput}
 use Rattle.program_laws.specs.TripLaws.{draw-judged, draw-verified, rows-quiet}
-use Rattle.promises.specs.House.{contentOf}
+use Rattle.promises.specs.House.{textContent}
 
 abbrev readBack : List ℤ → ℕ → ℕ → List ℕ → List ℕ → EnvelopeRead
 readBack = recordRead total rowLimit channelTypes
@@ -126,7 +126,7 @@ pub record RecordsWritten : Type 0 where
   pub accepted : (rows : List ℤ) (m n : ℕ) (codes text : List ℕ) → readBack rows m n codes text .outcome ≡ Accepted → AcceptedRecord rows m n codes text
   pub envelopes : (rows : List ℤ) (m : ℕ) (e : Envelope) → Arrays e → (places : ℕ) → WrittenEnvelope rows m e places
   pub own : (rows : List ℤ) (m n : ℕ) (codes : List ℕ) → length codes ≡ n → codesKnown channelTypes codes ≡ true → OwnEnvelopes rows m n codes
-  pub programs : (reference : List ℕ) (found : ReferenceText) → contentOf reference ≡ sound found → ProgramsTogether reference found
+  pub programs : (reference : List ℕ) (found : ReferenceText) → textContent reference ≡ sound found → ProgramsTogether reference found
 
 pub promise-2-11 : RecordsWritten
 promise-2-11 =

@@ -47,7 +47,7 @@ use Rattle.reference.specs.TableLaws.{table-at, table-in-range, table-length}
 use Rattle.reference_label.specs.Contracts.{labelIn, labelPart, noPart}
 use Rattle.reference_label.specs.declared.Part.{Part}
 use Rattle.reference_table.specs.AcceptedTable.{accepted-table}
-use Rattle.promises.specs.House.{contentOf}
+use Rattle.promises.specs.House.{textContent}
 
 -- ---- 2.6
 
@@ -126,9 +126,9 @@ pub record ReferenceTexts : Type 0 where
       → (printRow row ≡ line) × (isRowLabel (row .label) ≡ true) × (length (row .values) ≡ n)
   pub row-read : (n : ℕ) (row : Row) → isRowLabel (row .label) ≡ true → length (row .values) ≡ n → rowOf n (printRow row) ≡ some row
   -- a text is accepted exactly when it is the printing of a heading and rows within the limits, of at most 65,536 bytes
-  pub accepted : (text : List ℕ) (found : ReferenceText) → contentOf text ≡ sound found → AcceptedText text found
+  pub accepted : (text : List ℕ) (found : ReferenceText) → textContent text ≡ sound found → AcceptedText text found
   pub accepts : (found : ReferenceText) → Within rowLimit channelTypes found → length (printText channelTypes found) ≤ textLimit
-      → contentOf (printText channelTypes found) ≡ sound found
+      → textContent (printText channelTypes found) ≡ sound found
 
 pub promise-2-7 : ReferenceTexts
 unfolding referenceRead isLabel labelBytes printHeading printRow printText
@@ -162,10 +162,10 @@ promise-2-7 =
 -- rows count from 1
 pub record LabelsOfRows (text : List ℕ) (row : ℕ) : Type 0 where
   -- empty when the text is refused, 7 not tested, or there is no such row
-  pub refused-text : (number line : ℕ) → contentOf text ≡ faulty number line → labelPart rowLimit channelTypes text row ≡ noPart
-  pub no-row : (found : ReferenceText) → contentOf text ≡ sound found → (row ≡ 0) ⊎ (rowCount found < row) → labelPart rowLimit channelTypes text row ≡ noPart
+  pub refused-text : (number line : ℕ) → textContent text ≡ faulty number line → labelPart rowLimit channelTypes text row ≡ noPart
+  pub no-row : (found : ReferenceText) → textContent text ≡ sound found → (row ≡ 0) ⊎ (rowCount found < row) → labelPart rowLimit channelTypes text row ≡ noPart
   -- else the part of the caller's text, not empty, at the start of the row's line, whose bytes are the label of the row
-  pub is-part : (found : ReferenceText) → contentOf text ≡ sound found → 1 ≤ row → row ≤ rowCount found
+  pub is-part : (found : ReferenceText) → textContent text ≡ sound found → 1 ≤ row → row ≤ rowCount found
       → let part = labelPart rowLimit channelTypes text row in
       (part .start ≡ rowStart found text (row - 1)) × (take (part .length) (drop (part .start) text) ≡ labelAt found (row - 1)) × (1 ≤ part .length)
       × (part .start + part .length ≤ length text)

@@ -22,11 +22,11 @@ use Rattle.program_verify.specs.Output.{verifyOutput}
 use Rattle.program_panel.specs.Output.{panelOutput}
 use Rattle.program_judge.specs.Output.{judgeOutput}
 use Rattle.program_laws.specs.ToldLaws.{draw-told, isFaulty, isRefused, judge-told, ofReading, panel-told, refusal-injective, refusal-of-reading, refusal-of-texts, refusesTexts, verify-told}
-use Rattle.promises.specs.House.{against, contentOf}
+use Rattle.promises.specs.House.{against, textContent}
 
 -- `refusesTexts output`: the first line is a refusal, and none of those that a reading meets
 pub record RefusalsTold : Type 0 where
-  pub draw : (reference : List ℕ) → refusesTexts (drawOutput total rowLimit channelTypes reference) ≡ isFaulty (contentOf reference)
+  pub draw : (reference : List ℕ) → refusesTexts (drawOutput total rowLimit channelTypes reference) ≡ isFaulty (textContent reference)
   pub verify : (reference text : List ℕ)
       → refusesTexts (verifyOutput total rowLimit channelTypes reference text) ≡ isRefused (against reference text .outcome)
   pub panel : (reference text : List ℕ)
