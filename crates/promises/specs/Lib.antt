@@ -16,6 +16,7 @@ pub mod ListedExports
 pub mod Results
 pub mod RefusedTexts
 pub mod RefusedPrograms
+pub mod RefusedExports
 pub mod Refusals
 -- ---- demand 2: exactly the published moves, exactly the written form
 pub mod Moves

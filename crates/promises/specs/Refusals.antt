@@ -46,6 +46,7 @@ use Rattle.chart.specs.MarkLaws.{accepted, accepts, refuses-figures, refuses-ho
 use Rattle.panel_steps.specs.Panel.{panelOf, panelShown, refusedPanel}
 use Rattle.panel_steps.specs.PanelLaws.{panel-refuses, panel-shows}
 use Rattle.promises.specs.House.{textForm}
+use Rattle.promises.specs.RefusedExports.{ExportsRefused, exports-refused}
 use Rattle.promises.specs.RefusedPrograms.{ProgramsRefused, programs-refused}
 use Rattle.promises.specs.RefusedTexts.{ReadingRefused, ReferenceRefused, reading-refused, reference-refused}
 
@@ -122,6 +123,7 @@ pub record RefusalOrder : Type 0 where
   pub of-chart : (f : Figures) (h v : ℕ) → ChartRefused f h v
   pub of-panel : (f : Figures) → PanelRefused f
   pub of-programs : (reference : List ℕ) → ProgramsRefused reference
+  pub for-C-and-Rust : ExportsRefused
 
 pub promise-1-4 : RefusalOrder
 promise-1-4 =
@@ -168,6 +170,7 @@ promise-1-4 =
           };
       of-panel = λ f. record { figures-8 = panel-refuses total channelTypes f; else-shown = panel-shows total channelTypes f };
       of-programs = programs-refused;
+      for-C-and-Rust = exports-refused;
     }
 
 -- ---- 1.5
