@@ -2,13 +2,10 @@
 --     OnDisc D n X M p         on each chart of two different channels, and in each channel, the point p is within the mark's radius
 --     within-disc              a point of the ball is
 --     Projected D n b p        the same of the centre and the radius of the ball b
---     tight-projected          it holds of every row where demand 3 holds
---     drawn-projected          of every row of an accepted drawing
---     checked-projected        of every row of an accepted check
+--     tight-projected          it holds of every row where demand 3 holds, so of every accepted drawing, check and record
 --     tenApart, tenApartBall   the rows 0 and 10 of one channel, and their ball
 --     same-channel-outside     on a chart of one channel against itself a row may lie outside
 use Prim.Native.Nat.{ℕ, _-_, _*_, _≤_, _<_}
-use mathlib.Core.Path.{_≡_}
 use mathlib.Core.Logic.{_≢_}
 use mathlib.Core.List.{List, [], _∷_}
 use native.Mathlib.Omega.{arith}
@@ -19,17 +16,13 @@ use lib.Ieee.{size}
 use Rattle.integers.specs.Sum.{sumℤ, sumℕ, square}
 use Rattle.integers.specs.SumLaws.{sumℕ-term, sumℕ-two}
 use Rattle.integers.specs.Absolute.{square-inv}
-use Rattle.refusal.specs.declared.Outcome.the-variants.{Accepted}
 use Rattle.geometry.specs.Figures.{squaredLength, scaledCentre, scaledSquaredDistance, largest, scaledSquaredRadius}
 use Rattle.geometry.specs.Table.{coordinate, placesWithin, rowsWithin}
 use Rattle.limits.specs.Limits.{total, rowLimit}
 use Rattle.geometry.specs.Places.{tabulate, centreList, centreOf, weightsTotal}
 use Rattle.ball.specs.Ball.{ballOf}
-use Rattle.drawing.specs.Draw.{drawing}
 use Rattle.checking.specs.Check.{checking}
 use Rattle.ball.specs.Contracts.{Tight}
-use Rattle.drawing.specs.Demand.{drawing-tight}
-use Rattle.checking.specs.Demand.{checking-tight}
 use Rattle.ball.specs.declared.Ball.{Ball}
 use Rattle.chart.specs.Root.{rootBelow, ceilingRoot}
 use Rattle.chart.specs.RootLaws.{root-reaches}
@@ -61,19 +54,6 @@ Projected D n b p = OnDisc D n (centreOf (b .«scaled_centre»)) (b .«scaled_sq
 pub tight-projected : (D m n : ℕ) (a : ℕ → ℕ → ℤ) (b : Ball) → Tight D m n a b → (i : ℕ) → i < m → Projected D n b (a i)
 tight-projected D m n a b tight i l =
     within-disc D n (centreOf (b .«scaled_centre»)) (b .«scaled_squared_radius») (a i) (tight .every-row i l)
-
-module _ (D limit : ℕ) (positive : 0 < D) (rows : List ℤ) (m n : ℕ) where
-  pub drawn-projected : (budget : ℕ) → drawing D limit rows m n budget .outcome ≡ Accepted → (i : ℕ) → i < m
-      → Projected D n (drawing D limit rows m n budget .ball) (coordinate rows n i)
-  drawn-projected budget accepted =
-      tight-projected D m n (coordinate rows n) (drawing D limit rows m n budget .ball)
-      (drawing-tight D limit rows m n budget accepted positive)
-
-  pub checked-projected : (ws : List ℕ) → checking D limit rows m n ws .outcome ≡ Accepted → (i : ℕ) → i < m
-      → Projected D n (checking D limit rows m n ws .ball) (coordinate rows n i)
-  checked-projected ws accepted =
-      tight-projected D m n (coordinate rows n) (checking D limit rows m n ws .ball)
-      (checking-tight D limit rows m n ws accepted positive)
 
 -- ---- the same channel twice
 

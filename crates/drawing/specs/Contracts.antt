@@ -1,5 +1,5 @@
 -- What the drawing promises, and what the run of moves below it gives.
---     DrawPromise rows m n b r      the definition's answer, and demand 3 where it is accepted
+--     DrawPromise rows m n b r      the definition's answer; where it is accepted, the sum of its weights, demand 3 and the limits
 --     Ran D limit ..                the weights at the end of a run, the X carried beside them, the moves made, and the pair that ended it
 use Prim.Native.Nat.{ℕ, _≤_}
 use mathlib.Core.Path.{_≡_}
@@ -17,7 +17,7 @@ use Rattle.geometry.specs.Contracts.{WeightsOf, IsCentre}
 use Rattle.moves.specs.Contracts.{Paired}
 use Rattle.drawing.specs.declared.Ended.{Ended}
 
--- a drawing is the defined one, and where it is accepted demand 3 holds of its figures
+-- a drawing is the defined one; where it is accepted its weights sum to D, demand 3 holds of its figures, and they are within their limits
 pub record DrawPromise (rows : List ℤ) (m n b : ℕ) (r : Drawing) : Type 0 where
   pub is : r ≡ drawing total rowLimit rows m n b
   -- 2.3: the weights keep their sum from the start to the end

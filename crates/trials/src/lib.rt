@@ -1,1 +1,1 @@
-// Proof-only: the trial figures of document 01, computed from the definitions. The table is in specs/.
+// Proof-only: the starred trial figures of document 01 and the range of TOC, computed from the definitions. The table is in specs/.

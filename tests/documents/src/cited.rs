@@ -120,7 +120,7 @@ pub fn imports(owner: &str, source: &str) -> BTreeSet<(String, String)> {
             let (from, rest) = line
                 .split_once(".specs.")
                 .or_else(|| line.split_once("·specs.specs."))?;
-            let file = rest.split('.').next()?;
+            let file = rest.split(['.', ' ']).next()?;
             let from = if from.contains('·') { owner } else { from };
             (file != "declared").then(|| (from.to_string(), file.to_string()))
         })

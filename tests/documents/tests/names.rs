@@ -61,10 +61,10 @@ const NONE: [&str; 0] = [];
 #[test]
 fn every_file_of_definitions_that_is_cited_is_there() {
     let sources = Sources::new();
-    let there = |file: &(String, String)| {
-        !sources.crates.contains_key(&file.0) || sources.files.contains(file)
-    };
-    assert_eq!(missing(cited::files, 150, there), NONE);
+    assert_eq!(
+        missing(cited::files, 150, |file| sources.files.contains(file)),
+        NONE
+    );
 }
 
 #[test]
@@ -181,21 +181,27 @@ fn the_order_of_reading_is_as_long_as_it_says() {
     assert!(total.abs_diff(said) * 10 <= total, "{total} lines");
 }
 
-/// What a definition to be believed rests on is to be read too; laws are not, nor are the promises' own grounds.
+/// What a definition to be believed rests on is a step of the reading too, laws apart. What a promise rests on is named in the
+/// document.
 #[test]
 fn the_order_of_reading_leaves_no_definition_out() {
-    let steps = steps(&text("docs/READING.md"));
+    let document = text("docs/READING.md");
+    let named = cited::files(&document);
+    let steps = steps(&document);
     let listed: BTreeSet<(String, String)> = steps
         .iter()
         .flat_map(|(_, files, _)| files.clone())
         .collect();
     let sources = Sources::new();
     let mut left_out = BTreeSet::new();
-    for file in listed.iter().filter(|(owner, _)| owner != "promises") {
+    for file in &listed {
         for used in cited::imports(&file.0, &definitions(file)) {
+            let there = match file.0.as_str() {
+                "promises" => named.contains(&used),
+                _ => used.1.ends_with("Laws") || listed.contains(&used),
+            };
             // The kit's own files are none of the repository's.
-            let law = used.1.ends_with("Laws");
-            if !law && !listed.contains(&used) && sources.crates.contains_key(&used.0) {
+            if !there && sources.crates.contains_key(&used.0) {
                 left_out.insert((file.clone(), used));
             }
         }

@@ -22,11 +22,14 @@ fn every_edit_is_cited_and_every_cited_edit_is_there() {
     assert!(sources.edits.len() > 200, "{} edits", sources.edits.len());
 }
 
-/// The ids that are owed, in their order.
+/// The ids that are owed, in their order; those of requests that landed follow.
 fn owed() -> Vec<String> {
     let ids = OWED.iter();
-    ids.flat_map(|(demand, count)| (1..=*count).map(move |k| format!("{demand}.{k}")))
-        .collect()
+    let ids = ids.flat_map(|(demand, count)| (1..=*count).map(move |k| format!("{demand}.{k}")));
+    let requests = (1..=13).map(|k| format!("R{k}"));
+    let declared = Sources::new().crates["promises"].clone();
+    let landed = requests.filter(|id| declared.contains(&name_of(id)));
+    ids.chain(landed).collect()
 }
 
 fn name_of(id: &str) -> String {
@@ -57,8 +60,9 @@ fn rows(document: &str) -> Vec<Vec<String>> {
             .collect()
     });
     rows.filter(|cells: &Vec<String>| {
-        let id = &cells[0];
-        id.contains('.') && id.chars().all(|c| c.is_ascii_digit() || c == '.')
+        let id = cells[0].strip_prefix('R').unwrap_or(&cells[0]);
+        id.starts_with(|c: char| c.is_ascii_digit())
+            && id.chars().all(|c| c.is_ascii_digit() || c == '.')
     })
     .collect()
 }
@@ -100,6 +104,32 @@ fn every_public_call_is_listed_with_a_function_and_a_definition() {
     for word in definitions {
         assert!(sources.has(word), "{word}");
     }
+    // Each has its field among the promises, by what is proved of its code.
+    let promised: String = sources
+        .files
+        .iter()
+        .filter(|(owner, _)| owner == "promises")
+        .map(|(_, file)| text(&format!("crates/promises/specs/{file}.antt")))
+        .collect();
+    for function in &functions {
+        let (owner, path) = function.split_once("::").expect("a path");
+        let name = path.rsplit("::").next().expect("a name");
+        let start = format!("use Rattle.{owner}.proofs.");
+        let end = format!(".{name}.Met as ");
+        let proved = promised
+            .lines()
+            .any(|line| line.starts_with(&start) && line.contains(&end));
+        assert!(proved, "{function}");
+    }
+    // Those for C and Rust are all that the archive exports.
+    let listed = functions
+        .iter()
+        .filter_map(|function| function.strip_prefix("cundarivo::"));
+    let exported = sources.crates["cundarivo"].iter();
+    let exported = exported
+        .filter(|name| name.starts_with("cundarivo_"))
+        .map(String::as_str);
+    assert_eq!(listed.collect::<BTreeSet<_>>(), exported.collect());
 }
 
 #[test]

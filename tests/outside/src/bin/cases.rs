@@ -4,7 +4,7 @@
 use outside::{stored, written};
 
 fn main() -> std::io::Result<()> {
-    written::write(stored::SEED, |random| {
+    written::write("cases", stored::SEED, |random| {
         let list = stored::stored_cases(random);
         (list.len(), stored::input(&list), stored::output(&list))
     })

@@ -4,7 +4,7 @@
 use outside::{stored_texts, written};
 
 fn main() -> std::io::Result<()> {
-    written::write(stored_texts::SEED, |random| {
+    written::write("texts", stored_texts::SEED, |random| {
         let list = stored_texts::stored_texts(random);
         (
             list.len(),
