@@ -113,7 +113,8 @@ pub record RefusalValues : Type 0 where
   pub of-accepted : (numberOf Accepted ≡ 0) × (lineOf Accepted ≡ 0)
   pub of-refused : (number line : ℕ) → (numberOf (refusedAt number line) ≡ number) × (lineOf (refusedAt number line) ≡ line)
   pub no-line : (number : ℕ) → lineOf (refused number) ≡ 0
-  -- each answer of a call is accepted, with the number 0, or refused with one of the thirteen, and then it is the refusal below
+  -- each answer of a call is accepted, with the number 0, or refused with one of the thirteen and its line (0 for 1, 7, 8, 9, 12, 13, else
+  -- from 1, and 1 in a reading), and then it is the refusal below
   pub listed : AnswersListed
   pub listed-in-numbers : ExportsListed
   -- in a refusal every other figure and array is 0
