@@ -13,6 +13,7 @@ pub mod ListedVerdicts
 pub mod ListedAnswers
 pub mod ListedNumbers
 pub mod ListedExports
+pub mod Lent
 pub mod Results
 pub mod RefusedTexts
 pub mod RefusedPrograms

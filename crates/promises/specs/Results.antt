@@ -8,7 +8,7 @@ use mathlib.Core.Bool.{false}
 use mathlib.Core.List.{List, [], _++_, _∷_}
 use lib.Ieee.{Float}
 use lib.IntN.{pos, ℤ}
-use lib.ListN.{drop, replicate, take}
+use lib.ListN.{drop, length, replicate, take}
 use Rattle.lists.specs.Padded.{padded}
 use Rattle.refusal.specs.Number.{budget-too-large, buffer-short, disagreement, heading, label-repeated, line-form, outside-limits, record-form, row-count, table-short, tag-differs, text-length, value-range}
 use Rattle.refusal.specs.Outcome.{lineOf, numberOf, refused, refusedAt}
@@ -42,6 +42,7 @@ use Rattle.export_reading.specs.Contracts.{verdictCode, verdictInNumbers}
 use Rattle.export_chart.specs.Contracts.{markCode, markInNumbers}
 use Rattle.promises.specs.Calls.{Calls, calls}
 use Rattle.promises.specs.Exports.{Exports, exports}
+use Rattle.promises.specs.Lent.{CountWithin, CountsWithin, FilledPlaces, counts-within, filled-places}
 use Rattle.promises.specs.Listed.{KeptWhereRefused, refused-keeps}
 use Rattle.promises.specs.ListedAnswers.{AnswersListed, answers-listed}
 use Rattle.promises.specs.ListedExports.{ExportsListed, exports-listed}
@@ -80,8 +81,11 @@ module _ {M : Type 1} (𝓤 : URA M) (H : Heap 𝓤) (𝓜 : Model 𝓤 H) (𝓖
   pub record LentMemory : Type 1 where
     -- what each slice that is lent to be written holds at exit is said by `filled` in the calls of 1.1
     pub said-by-calls : PublicCalls
-    -- accepted, the first places are what the definition gives and every other place is as at entry
+    -- accepted, the first places are what the definition gives and every other place is as at entry, the count being within both lists
     pub accepted : {A : Type 0} (count : ℕ) (source lent : List A) → filled 0 count source lent ≡ take count source ++ drop count lent
+    pub place-by-place : {A : Type 0} (count : ℕ) (source lent : List A) → CountWithin count source (length lent) → FilledPlaces count source lent
+    -- as the counts of the calls are
+    pub counts : CountsWithin
     -- refused, every place is as at entry: by the number, as the calls for C and Rust say it, and by the outcome, as the others do
     pub refused-kept : {A : Type 0} (number count : ℕ) (source lent : List A) → (number ≡ 0 → ⊥) → filled number count source lent ≡ lent
     pub reference-kept : (text : List ℕ) (places : ℕ) → KeptWhereRefused (referenceRead rowLimit channelTypes text places .outcome)
@@ -95,6 +99,8 @@ module _ {M : Type 1} (𝓤 : URA M) (H : Heap 𝓤) (𝓜 : Model 𝓤 H) (𝓖
       record {
         said-by-calls = promise-1-1;
         accepted = λ count source lent. refl;
+        place-by-place = filled-places;
+        counts = counts-within;
         refused-kept = λ number count source lent refusal. sym (filled-refused number count source lent refusal);
         reference-kept = λ text places.
             refused-keeps (referenceRead rowLimit channelTypes text places .outcome) (answers-listed .of-reference text places .listed);
