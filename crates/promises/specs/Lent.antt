@@ -73,7 +73,7 @@ pub record CountsWithin : Type 0 where
       CountWithin (r .m * r .n) (valuesIn (textContent text)) places
   pub of-writing : (rows : List ℤ) (m : ℕ) (e : Envelope) (places : ℕ)
       → CountWithin (recordWritten total rowLimit channelTypes rows m e places .length) (recordText channelTypes e) places
-  -- the programs
+  -- the programs, those for C and Rust too, whose answers in numbers have the same length
   pub of-output : (output : List ℕ) (places : ℕ) → CountWithin (textWritten output places .length) output places
 
 reference-count : (text : List ℕ) (places : ℕ) → let r = referenceRead rowLimit channelTypes text places in

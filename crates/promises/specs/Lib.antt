@@ -14,6 +14,7 @@ pub mod ListedAnswers
 pub mod ListedNumbers
 pub mod ListedExports
 pub mod Lent
+pub mod LentExports
 pub mod Results
 pub mod RefusedTexts
 pub mod RefusedPrograms

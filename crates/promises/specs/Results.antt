@@ -43,6 +43,7 @@ use Rattle.export_chart.specs.Contracts.{markCode, markInNumbers}
 use Rattle.promises.specs.Calls.{Calls, calls}
 use Rattle.promises.specs.Exports.{Exports, exports}
 use Rattle.promises.specs.Lent.{CountWithin, CountsWithin, FilledPlaces, counts-within, filled-places}
+use Rattle.promises.specs.LentExports.{ExportCounts, export-counts}
 use Rattle.promises.specs.Listed.{KeptWhereRefused, refused-keeps}
 use Rattle.promises.specs.ListedAnswers.{AnswersListed, answers-listed}
 use Rattle.promises.specs.ListedExports.{ExportsListed, exports-listed}
@@ -86,6 +87,7 @@ module _ {M : Type 1} (𝓤 : URA M) (H : Heap 𝓤) (𝓜 : Model 𝓤 H) (𝓖
     pub place-by-place : {A : Type 0} (count : ℕ) (source lent : List A) → CountWithin count source (length lent) → FilledPlaces count source lent
     -- as the counts of the calls are
     pub counts : CountsWithin
+    pub counts-for-C-and-Rust : ExportCounts
     -- refused, every place is as at entry: by the number, as the calls for C and Rust say it, and by the outcome, as the others do
     pub refused-kept : {A : Type 0} (number count : ℕ) (source lent : List A) → (number ≡ 0 → ⊥) → filled number count source lent ≡ lent
     pub reference-kept : (text : List ℕ) (places : ℕ) → KeptWhereRefused (referenceRead rowLimit channelTypes text places .outcome)
@@ -101,6 +103,7 @@ module _ {M : Type 1} (𝓤 : URA M) (H : Heap 𝓤) (𝓜 : Model 𝓤 H) (𝓖
         accepted = λ count source lent. refl;
         place-by-place = filled-places;
         counts = counts-within;
+        counts-for-C-and-Rust = export-counts;
         refused-kept = λ number count source lent refusal. sym (filled-refused number count source lent refusal);
         reference-kept = λ text places.
             refused-keeps (referenceRead rowLimit channelTypes text places .outcome) (answers-listed .of-reference text places .listed);
