@@ -13,6 +13,8 @@ pub mod ListedVerdicts
 pub mod ListedAnswers
 pub mod ListedNumbers
 pub mod ListedExports
+pub mod Lent
+pub mod LentExports
 pub mod Results
 pub mod RefusedTexts
 pub mod RefusedPrograms

@@ -1,19 +1,21 @@
 -- Demand 1, what it is that an answer is accepted or a listed refusal; said of each call in ListedAnswers and ListedExports.
---     isRefusal number                    one of the thirteen numbers of document 01's table
---     Listed outcome                      accepted, or refused with one of them
---     Answered outcome refusal answer     an answer with this outcome is accepted, or the refusal that its number and line make
---     listed-zero, apart                  a listed refusal has not the number 0, and is no acceptance
---     accepted-answer, refused-answer     the answers of both kinds
---     row-listed                          the numbers of a row's line are listed
---     room-listed                         so is 13 for too little room, tested last
---     KeptWhereRefused outcome            a call with this outcome, where refused, leaves every lent place as at entry
---     refused-keeps                       a listed outcome does
-use Prim.Native.Nat.{_≤_, suc, zero, ℕ}
+--     withoutLine number, withLine number     the numbers of document 01's table for which no line is at fault, and those for which one is
+--     isRefusalAt number line                 one of these thirteen, with line 0 where no line is at fault, else with a line from 1
+--     Listed outcome                          accepted, or refused so
+--     Answered outcome refusal answer         an answer with this outcome is accepted, or the refusal that its number and line make
+--     listed-zero, apart                      a listed refusal has not the number 0, and is no acceptance
+--     accepted-answer, refused-answer         the answers of both kinds
+--     row-listed                              the numbers of a row's line are listed
+--     room-listed                             so is 13 for too little room, tested last
+--     KeptWhereRefused outcome                a call with this outcome, where refused, leaves every lent place as at entry
+--     refused-keeps                           a listed outcome does
+use Prim.Native.Nat.{_<_, _≤_, suc, zero, ℕ}
 use mathlib.Core.Path.{_∙_, _≡_, ap, refl, subst, sym}
-use mathlib.Core.Bool.{Bool, _||_, false, true}
+use mathlib.Core.Bool.{Bool, _&&_, _||_, false, true}
 use mathlib.Core.List.{List}
 use native.Mathlib.Omega.{arith}
-use lib.Dec.{eqb}
+use borrow.Author.Tests.{le-leb}
+use lib.Dec.{eqb, leb}
 use Rattle.integers.specs.Tests.{clash, impossible}
 use Rattle.refusal.specs.Number.{budget-too-large, buffer-short, disagreement, heading, label-repeated, line-form, outside-limits, record-form, row-count, table-short, tag-differs, text-length, value-range}
 use Rattle.refusal.specs.Outcome.{numberOf}
@@ -23,15 +25,24 @@ use Rattle.refusal.specs.declared.Refusal.{Refusal}
 use Rattle.lent.specs.Contracts.{withRoom}
 use Rattle.lent.specs.Filled.{filled, filled-refused}
 
-abbrev pub isRefusal : ℕ → Bool
-isRefusal number =
-    eqb number text-length || (eqb number heading || (eqb number line-form || (eqb number value-range || (eqb number label-repeated
-    || (eqb number row-count || (eqb number table-short || (eqb number outside-limits || (eqb number budget-too-large
-    || (eqb number tag-differs || (eqb number record-form || (eqb number disagreement || eqb number buffer-short)))))))))))
+-- 1, 7, 8, 9, 12, 13
+abbrev pub withoutLine : ℕ → Bool
+withoutLine number =
+    eqb number text-length || (eqb number table-short || (eqb number outside-limits || (eqb number budget-too-large
+    || (eqb number disagreement || eqb number buffer-short))))
+
+-- 2, 3, 4, 5, 6, 10, 11
+abbrev pub withLine : ℕ → Bool
+withLine number =
+    eqb number heading || (eqb number line-form || (eqb number value-range || (eqb number label-repeated || (eqb number row-count
+    || (eqb number tag-differs || eqb number record-form)))))
+
+abbrev pub isRefusalAt : ℕ → ℕ → Bool
+isRefusalAt number line = (withoutLine number && eqb line 0) || (withLine number && leb 1 line)
 
 abbrev pub Listed : Outcome → Type 0
 Listed Accepted = Unit {0}
-Listed (Refused r) = isRefusal (r .number) ≡ true
+Listed (Refused r) = isRefusalAt (r .number) (r .line) ≡ true
 
 pub record Answered {A : Type 0} (outcome : A → Outcome) (refusal : Refusal → A) (answer : A) : Type 0 where
   pub listed : Listed (outcome answer)
@@ -44,7 +55,7 @@ pub record Answered {A : Type 0} (outcome : A → Outcome) (refusal : Refusal �
 -- 0 is none of the thirteen
 pub listed-zero : (o : Outcome) → Listed o → numberOf o ≡ 0 → o ≡ Accepted
 listed-zero Accepted listed z = refl
-listed-zero (Refused r) listed z = clash listed (ap isRefusal z)
+listed-zero (Refused r) listed z = clash listed (ap (λ (number : ℕ). isRefusalAt number (r .line)) z)
 
 pub apart : {P : Type 0} {r : Refusal} → Accepted ≡ Refused r → P
 apart e = let z : _≡_ {A = ℕ} 0 1 = cc in impossible z
@@ -59,7 +70,7 @@ module _ {A : Type 0} (outcome : A → Outcome) (refusal : Refusal → A) where
         whole = λ r other. apart (sym is ∙ other);
       }
 
-  pub refused-answer : (r : Refusal) → outcome (refusal r) ≡ Refused r → isRefusal (r .number) ≡ true → Answered outcome refusal (refusal r)
+  pub refused-answer : (r : Refusal) → outcome (refusal r) ≡ Refused r → isRefusalAt (r .number) (r .line) ≡ true → Answered outcome refusal (refusal r)
   refused-answer r is listed =
       let of-outcome = subst Listed (sym is) listed in
       record {
@@ -72,16 +83,16 @@ module _ {A : Type 0} (outcome : A → Outcome) (refusal : Refusal → A) where
       alike : {r other : Refusal} → Refused r ≡ Refused other → r ≡ other
       alike e = cc
 
--- the numbers of a row's line
-pub row-listed : (number : ℕ) → line-form ≤ number → number ≤ row-count → isRefusal number ≡ true
-row-listed zero low high = absurd (omega arith)
-row-listed (suc zero) low high = absurd (omega arith)
-row-listed (suc (suc zero)) low high = absurd (omega arith)
-row-listed (suc (suc (suc zero))) low high = refl
-row-listed (suc (suc (suc (suc zero)))) low high = refl
-row-listed (suc (suc (suc (suc (suc zero))))) low high = refl
-row-listed (suc (suc (suc (suc (suc (suc zero)))))) low high = refl
-row-listed (suc (suc (suc (suc (suc (suc (suc n))))))) low high = absurd (omega arith)
+-- the numbers of a row's line, which is past the heading's
+pub row-listed : (number line : ℕ) → line-form ≤ number → number ≤ row-count → 1 < line → isRefusalAt number line ≡ true
+row-listed zero line low high past = absurd (omega arith)
+row-listed (suc zero) line low high past = absurd (omega arith)
+row-listed (suc (suc zero)) line low high past = absurd (omega arith)
+row-listed (suc (suc (suc zero))) line low high past = le-leb 1 line (omega arith)
+row-listed (suc (suc (suc (suc zero)))) line low high past = le-leb 1 line (omega arith)
+row-listed (suc (suc (suc (suc (suc zero))))) line low high past = le-leb 1 line (omega arith)
+row-listed (suc (suc (suc (suc (suc (suc zero)))))) line low high past = le-leb 1 line (omega arith)
+row-listed (suc (suc (suc (suc (suc (suc (suc n))))))) line low high past = absurd (omega arith)
 
 pub room-listed : (room : Bool) (o : Outcome) → Listed o → Listed (withRoom room o)
 room-listed true Accepted listed = tt

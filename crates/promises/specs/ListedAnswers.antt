@@ -6,6 +6,7 @@ use Prim.Native.Nat.{_*_, ℕ}
 use mathlib.Core.Path.{_≡_, refl}
 use mathlib.Core.Bool.{_&&_, true}
 use mathlib.Core.List.{List}
+use borrow.Author.Tests.{le-leb}
 use lib.Dec.{eqb, leb}
 use lib.IntN.{ℤ}
 use lib.ListN.{length}
@@ -33,6 +34,7 @@ use Rattle.envelope.specs.Figures.{figuresKnown}
 use Rattle.envelope.specs.declared.Envelope.{Envelope}
 use Rattle.envelope.specs.declared.Figures.{Figures}
 use Rattle.reading.specs.Verdict.{judged}
+use Rattle.record_form.specs.RecordLaws.{form-faults}
 use Rattle.record_print.specs.Printed.{recordText}
 use Rattle.record_read.specs.Contracts.{notRead, recordRead}
 use Rattle.record_read.specs.ReadLaws.{accepting, each-read}
@@ -43,7 +45,7 @@ use Rattle.chart.specs.Mark.{chartMark}
 use Rattle.panel_steps.specs.Panel.{panelOf, panelShown, refusedPanel}
 use Rattle.panel_steps.specs.declared.PanelShown.{PanelShown}
 use Rattle.promises.specs.House.{textContent}
-use Rattle.promises.specs.Listed.{Answered, accepted-answer, isRefusal, refused-answer, row-listed}
+use Rattle.promises.specs.Listed.{Answered, accepted-answer, isRefusalAt, refused-answer, row-listed}
 use Rattle.promises.specs.ListedVerdicts.{MarkAnswered, VerdictAnswered, chart-answered, reading-answered}
 
 -- an answer is accepted, or this refusal
@@ -103,7 +105,7 @@ reference-answered : (text : List ℕ) (places : ℕ) → ReferenceAnswered (ref
 unfolding referenceRead
 reference-answered text places = go (textContent text) refl
   where
-    turned : (r : Refusal) → isRefusal (r .number) ≡ true → ReferenceAnswered (refusedReference (Refused r))
+    turned : (r : Refusal) → isRefusalAt (r .number) (r .line) ≡ true → ReferenceAnswered (refusedReference (Refused r))
     turned r = refused-answer (λ (a : Reference). a .outcome) (λ r. refusedReference (Refused r)) r refl
 
     tabled : (a : Reference) → ReferenceAnswered a → ReferenceAnswered (withTable places a)
@@ -112,7 +114,7 @@ reference-answered text places = go (textContent text) refl
     go : (c : Content) → textContent text ≡ c → ReferenceAnswered (withTable places (answerOf c))
     go (faulty number line) is =
         tabled (refusedReference (Refused (at number line))) (turned (at number line)
-        (each-refusal rowLimit channelTypes (λ k l. isRefusal k ≡ true) refl refl (λ k l low high past. row-listed k low high) text number line is))
+        (each-refusal rowLimit channelTypes (λ k l. isRefusalAt k l ≡ true) refl refl row-listed text number line is))
     go (sound found) is =
         tabled (answerOf (sound found)) (accepted-answer (λ (a : Reference). a .outcome) (λ r. refusedReference (Refused r)) (answerOf (sound found)) refl)
 
@@ -120,11 +122,12 @@ record-answered : (rows : List ℤ) (m n : ℕ) (codes text : List ℕ) → Reco
 record-answered rows m n codes text =
     let turned = refused-answer (λ (e : EnvelopeRead). e .outcome) (λ r. notRead rowLimit (Refused r)) in
     each-read total rowLimit channelTypes rows m n codes text RecordAnswered
-    (turned (at outside-limits 0) refl refl) (turned (at text-length 0) refl refl) (λ line _. turned (at record-form line) refl refl)
+    (turned (at outside-limits 0) refl refl) (turned (at text-length 0) refl refl)
+    (λ line is. turned (at record-form line) refl (le-leb 1 line (form-faults rowLimit channelTypes text line is)))
     (turned (at disagreement 0) refl refl)
     (λ e _. accepted-answer (λ (e : EnvelopeRead). e .outcome) (λ r. notRead rowLimit (Refused r)) (accepting e) refl)
 
-text-refused : (r : Refusal) → isRefusal (r .number) ≡ true → TextAnswered (notWritten (Refused r))
+text-refused : (r : Refusal) → isRefusalAt (r .number) (r .line) ≡ true → TextAnswered (notWritten (Refused r))
 text-refused r = refused-answer (λ (w : TextWritten). w .outcome) (λ r. notWritten (Refused r)) r refl
 
 text-written : (bytes : ℕ) → TextAnswered (written bytes)

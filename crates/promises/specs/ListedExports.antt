@@ -1,5 +1,5 @@
--- Demand 1, that each answer of a call for C and Rust has the number 0 or a listed one, and in a refusal every other figure 0, for the total,
--- the row limit and the types of the calls; part of promise 1.3 in Results.
+-- Demand 1, that each answer of a call for C and Rust has the number 0 and the line 0, or a listed number with its line and every other
+-- figure 0, for the total, the row limit and the types of the calls; part of promise 1.3 in Results.
 --     ExportsListed, exports-listed     each call; the label of a row has no refusal
 use Prim.Native.Nat.{ℕ}
 use mathlib.Core.Path.{refl}
@@ -8,6 +8,7 @@ use mathlib.Core.List.{List}
 use mathlib.Core.Logic.{inr}
 use lib.Dec.{leb}
 use lib.IntN.{ℤ}
+use Rattle.integers.specs.Tests.{clash}
 use Rattle.refusal.specs.Number.{outside-limits}
 use Rattle.refusal.specs.OutcomeLaws.{each-answer}
 use Rattle.limits.specs.Limits.{rowLimit, total}
@@ -52,7 +53,7 @@ pub record ExportsListed : Type 0 where
   pub of-chart : (given : FiguresGiven) (codes : List ℕ) (X : List ℤ) (h v : ℕ) → MarkNumbers (chartAnswer total channelTypes given codes X h v)
   -- a panel's answer has no figure but number and line
   pub of-panel : (given : FiguresGiven) (codes : List ℕ) (X : List ℤ) (n places : ℕ)
-      → ListedNumber (panelAnswer (panelGiven total channelTypes given codes X) n places .number)
+      → let a = panelAnswer (panelGiven total channelTypes given codes X) n places in ListedNumber (a .number) (a .line)
   -- the programs
   pub of-output : (output : List ℕ) (places : ℕ) → WrittenNumbers (writtenInNumbers (textWritten output places))
 
@@ -61,7 +62,7 @@ reading-given : (given : FiguresGiven) (codes : List ℕ) (X : List ℤ) (text :
 unfolding judgeAnswer
 reading-given given codes X text =
     each-answer (λ (v : Verdict). VerdictNumbers (verdictInNumbers v)) (endingKnown given)
-    (λ _. verdict-numbers (refusedVerdict outside-limits 0) (verdict-answered (refusedVerdict outside-limits 0) refl))
+    (λ _. verdict-numbers (refusedVerdict outside-limits 0) (verdict-answered (refusedVerdict outside-limits 0) (refl, λ h. clash h refl)))
     (λ _. verdict-numbers (judged total channelTypes (figuresGiven given codes X) text) (answers-listed .of-reading (figuresGiven given codes X) text))
 
 chart-given : (given : FiguresGiven) (codes : List ℕ) (X : List ℤ) (h v : ℕ) → MarkNumbers (chartAnswer total channelTypes given codes X h v)

@@ -1,5 +1,5 @@
 -- Demand 1, what it is that an answer in numbers is accepted or a listed refusal; said of each call for C and Rust in ListedExports.
---     ListedNumber number, listed-number          0, or one of the thirteen; a listed outcome has such a number
+--     ListedNumber number line, listed-number     0 and line 0, or one of the thirteen with its line; a listed outcome has such a number and line
 --     EnvelopeNumbers, envelope-numbers           such an answer to a drawing or to a record: where the number is not 0 every other figure is 0
 --     CheckNumbers, check-numbers                 to a check
 --     ReferenceNumbers, reference-numbers         to a reference text
@@ -10,7 +10,8 @@ use Prim.Native.Nat.{ℕ}
 use mathlib.Core.Path.{_≡_, ap, refl}
 use mathlib.Core.Bool.{true}
 use mathlib.Core.Logic.{_⊎_, inl, inr}
-use Rattle.refusal.specs.Outcome.{numberOf}
+use Rattle.integers.specs.Tests.{clash}
+use Rattle.refusal.specs.Outcome.{lineOf, numberOf}
 use Rattle.refusal.specs.declared.Outcome.{Outcome}
 use Rattle.refusal.specs.declared.Outcome.the-variants.{Accepted, Refused}
 use Rattle.lent.specs.declared.TextWritten.{TextWritten}
@@ -33,46 +34,49 @@ use Rattle.export_reading.specs.Contracts.{verdictInNumbers}
 use Rattle.export_reading.specs.declared.VerdictAnswer.{VerdictAnswer}
 use Rattle.export_chart.specs.Contracts.{markInNumbers}
 use Rattle.export_chart.specs.declared.MarkAnswer.{MarkAnswer}
-use Rattle.promises.specs.Listed.{Listed, isRefusal}
+use Rattle.promises.specs.Listed.{Listed, isRefusalAt, withLine}
 use Rattle.promises.specs.ListedAnswers.{ReferenceAnswered, TextAnswered}
 use Rattle.promises.specs.ListedVerdicts.{MarkAnswered, VerdictAnswered}
 
-abbrev pub ListedNumber : ℕ → Type 0
-ListedNumber number = (number ≡ 0) ⊎ (isRefusal number ≡ true)
+abbrev pub ListedNumber : ℕ → ℕ → Type 0
+ListedNumber number line = ((number ≡ 0) × (line ≡ 0)) ⊎ (isRefusalAt number line ≡ true)
 
 abbrev pub EnvelopeNumbers : EnvelopeAnswer → Type 0
 EnvelopeNumbers a =
-    ListedNumber (a .number)
+    ListedNumber (a .number) (a .line)
     × ((a .number ≡ 0 → ⊥) → (a .settled ≡ 0) × (a .moves ≡ 0) × (a .«scaled_squared_radius» ≡ 0) × (a .«scaled_lower_bound» ≡ 0))
 
 abbrev pub CheckNumbers : CheckAnswer → Type 0
 CheckNumbers a =
-    ListedNumber (a .number) × ((a .number ≡ 0 → ⊥) → (a .settled ≡ 0) × (a .«scaled_squared_radius» ≡ 0) × (a .«scaled_lower_bound» ≡ 0))
+    ListedNumber (a .number) (a .line) × ((a .number ≡ 0 → ⊥) → (a .settled ≡ 0) × (a .«scaled_squared_radius» ≡ 0) × (a .«scaled_lower_bound» ≡ 0))
 
 abbrev pub ReferenceNumbers : ReferenceAnswer → Type 0
-ReferenceNumbers a = ListedNumber (a .number) × ((a .number ≡ 0 → ⊥) → (a .m ≡ 0) × (a .n ≡ 0))
+ReferenceNumbers a = ListedNumber (a .number) (a .line) × ((a .number ≡ 0 → ⊥) → (a .m ≡ 0) × (a .n ≡ 0))
 
 abbrev pub WrittenNumbers : WrittenAnswer → Type 0
-WrittenNumbers a = ListedNumber (a .number) × ((a .number ≡ 0 → ⊥) → a .length ≡ 0)
+WrittenNumbers a = ListedNumber (a .number) (a .line) × ((a .number ≡ 0 → ⊥) → a .length ≡ 0)
 
+-- the line at fault in a reading is 1
 abbrev pub VerdictNumbers : VerdictAnswer → Type 0
-VerdictNumbers a = ListedNumber (a .number) × ((a .number ≡ 0 → ⊥) → (a .verdict ≡ 0) × (a .excess ≡ 0))
+VerdictNumbers a =
+    ListedNumber (a .number) (a .line) × (withLine (a .number) ≡ true → a .line ≡ 1)
+    × ((a .number ≡ 0 → ⊥) → (a .verdict ≡ 0) × (a .excess ≡ 0))
 
 abbrev pub MarkNumbers : MarkAnswer → Type 0
 MarkNumbers a =
-    ListedNumber (a .number)
+    ListedNumber (a .number) (a .line)
     × ((a .number ≡ 0 → ⊥) → (a .mark ≡ 0) × (a .horizontal ≡ positiveZero) × (a .vertical ≡ positiveZero) × (a .radius ≡ positiveZero))
 
-pub listed-number : (o : Outcome) → Listed o → ListedNumber (numberOf o)
-listed-number Accepted listed = inl refl
+pub listed-number : (o : Outcome) → Listed o → ListedNumber (numberOf o) (lineOf o)
+listed-number Accepted listed = inl (refl, refl)
 listed-number (Refused r) listed = inr listed
 
 pub envelope-numbers : (o : Outcome) (ball : Ball) (moves : ℕ) → Listed o → EnvelopeNumbers (envelopeInNumbers o ball moves)
-envelope-numbers Accepted ball moves listed = (inl refl, λ some. absurd (some refl))
+envelope-numbers Accepted ball moves listed = (inl (refl, refl), λ some. absurd (some refl))
 envelope-numbers (Refused r) ball moves listed = (inr listed, λ _. (refl, refl, refl, refl))
 
 pub check-numbers : (o : Outcome) (c : Checked) → Listed o → CheckNumbers (checkInNumbers o c)
-check-numbers Accepted c listed = (inl refl, λ some. absurd (some refl))
+check-numbers Accepted c listed = (inl (refl, refl), λ some. absurd (some refl))
 check-numbers (Refused r) c listed = (inr listed, λ _. (refl, refl, refl))
 
 pub reference-numbers : (a : Reference) → ReferenceAnswered a → ReferenceNumbers (referenceInNumbers a)
@@ -90,11 +94,11 @@ written-numbers w answered = (listed-number (w .outcome) (answered .listed), go 
     go (Refused r) is some = ap (λ (x : TextWritten). x .length) (answered .whole r is)
 
 pub verdict-numbers : (v : Verdict) → VerdictAnswered v → VerdictNumbers (verdictInNumbers v)
-verdict-numbers Quiet answered = (inl refl, λ some. absurd (some refl))
-verdict-numbers (Alarm excess) answered = (inl refl, λ some. absurd (some refl))
-verdict-numbers (RefusedReading r) answered = (inr (answered .refused r refl .0), λ _. (refl, refl))
+verdict-numbers Quiet answered = (inl (refl, refl), λ h. clash h refl, λ some. absurd (some refl))
+verdict-numbers (Alarm excess) answered = (inl (refl, refl), λ h. clash h refl, λ some. absurd (some refl))
+verdict-numbers (RefusedReading r) answered = (inr (answered .refused r refl .0), answered .refused r refl .1, λ _. (refl, refl))
 
 pub mark-numbers : (mark : Mark) → MarkAnswered mark → MarkNumbers (markInNumbers mark)
-mark-numbers (Dot p) answered = (inl refl, λ some. absurd (some refl))
-mark-numbers (Disc p x) answered = (inl refl, λ some. absurd (some refl))
+mark-numbers (Dot p) answered = (inl (refl, refl), λ some. absurd (some refl))
+mark-numbers (Disc p x) answered = (inl (refl, refl), λ some. absurd (some refl))
 mark-numbers (RefusedMark r) answered = (inr (answered .refused r refl .0), λ _. (refl, refl, refl, refl))

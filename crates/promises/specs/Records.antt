@@ -87,9 +87,10 @@ module _ (rows : List ℤ) (m n : ℕ) (codes text : List ℕ) where
     pub weight-faulty : (r : Record) (line next : List ℕ) (parts : List (List ℕ)) → AfterWeights rowLimit channelTypes r text (line ∷ next ∷ parts)
         → ((w : Weight) → weightWithin rowLimit (lastRow 0 (r .weights)) w ≡ true → w .weight < magnitudeLimit → printWeight w ≢ line)
         → FaultyAt (4 + length (r .weights))
-    -- at the end, a piece without byte 10, and an empty line
+    -- a piece without byte 10 at the end
     pub weight-unended : (r : Record) (b : ℕ) (part : List ℕ) → AfterWeights rowLimit channelTypes r text ((b ∷ part) ∷ [])
         → FaultyAt (4 + length (r .weights))
+    -- the case of `weight-faulty` whose line is empty, the printing of no `W` line
     pub weight-empty : (r : Record) (next : List ℕ) (parts : List (List ℕ)) → AfterWeights rowLimit channelTypes r text ([] ∷ next ∷ parts)
         → FaultyAt (4 + length (r .weights))
 

@@ -11,7 +11,7 @@
 --     centre-unended, centre-faulty                   line 2
 --     result-unended, result-faulty                   line 3
 --     weight-unended, weight-faulty                   the line after so many `W` lines
---     weight-empty                                    an empty line after them
+--     weight-empty                                    the case of `weight-faulty` whose line is empty
 --     weight-missing                                  no `W` line
 use Prim.Native.Nat.{ℕ, suc, _+_, _≤_, _<_}
 use mathlib.Core.Path.{_≡_, refl, _∙_, ap}
