@@ -17,7 +17,7 @@ use Rattle.program_verify.specs.Output.{verifyOutput}
 use Rattle.program_panel.specs.Output.{panelOutput}
 use Rattle.program_judge.specs.Output.{judgeOutput}
 use Rattle.program_laws.specs.LongLaws.{bytesRead, draw-long, judge-long, panel-long, verify-long}
-use Rattle.text.specs.Ascii.{ascii}
+use Rattle.text.specs.Ascii.{ascii, byte}
 use Rattle.file_name.specs.Name.{escaped, escapedByte, escapedName, escapedStart}
 use Rattle.message.specs.Message.{excessMessage, fileMessage, missingMessage, namedArgument, streamMessage}
 use Rattle.program_io.specs.Reading.{afterRead, textRead}
@@ -49,7 +49,7 @@ pub record ProgramTexts : Type 0 where
   -- a name in single quotes, of at most 60 bytes; bytes that cannot be shown, and the backslash, by a backslash, `x` and two hex digits
   pub name-told : (name : List ℕ)
       → escapedName name ≡ ((ascii "'" ++ escaped (take 60 name)) ++ ascii "'") ++ cond (leb (length name) 60) [] (ascii "...")
-  pub byte-told : (b : ℕ) → escapedByte b ≡ cond (leb 33 b && leb b 126 && not (eqb b 92)) (b ∷ []) (92 ∷ 120 ∷ glyph (b / 16) ∷ glyph (b % 16) ∷ [])
+  pub byte-told : (b : ℕ) → escapedByte b ≡ cond (leb (byte "!") b && leb b (byte "~") && not (eqb b (byte "\\"))) (b ∷ []) (ascii "\\x" ++ (glyph (b / 16) ∷ glyph (b % 16) ∷ []))
 
 pub programTexts : ProgramTexts
 unfolding bytesRead
