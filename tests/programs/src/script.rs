@@ -1,24 +1,13 @@
-//! `./envelope` run with arguments and input.
+//! The command run with arguments and input.
 
 use crate::process::{Ended, command, end};
-use crate::{PROGRAMS, texts};
 use std::ffi::OsStr;
 use std::path::{Path, PathBuf};
-use std::sync::Once;
 
-/// The script of the repository, after it has built every program: from there on it says nothing of
-/// building.
+/// The program of `./envelope`, as it has been built.
 pub fn path() -> PathBuf {
-    static BUILT: Once = Once::new();
-    let path = crate::root().join("envelope");
-    BUILT.call_once(|| {
-        for name in PROGRAMS {
-            let mut command = command(&path);
-            command.arg(name).args(vec!["/dev/null"; texts(name)]);
-            let ended = end(&mut command, b"");
-            assert_eq!(ended.text(), "NO,1,0\n", "{}", ended.messages);
-        }
-    });
+    let path = crate::root().join("cli/target/release/envelope");
+    assert!(path.exists(), "build it first: ./envelope --version");
     path
 }
 

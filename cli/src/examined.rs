@@ -1,0 +1,103 @@
+//! The texts of a command through the library's calls: which text is refused and why, or what they say.
+
+use crate::failure::Failure;
+use crate::texts::Text;
+use cundarivo::{CHANNELS, Envelope, ROWS, Refusal};
+
+/// Which text of a command.
+#[derive(Clone, Copy, Debug, PartialEq, Eq)]
+pub enum Kind {
+    Reference,
+    Record,
+    Readings,
+}
+
+/// The first refused text of a command.
+#[derive(Debug)]
+pub struct Refused<'t> {
+    pub kind: Kind,
+    pub text: &'t Text,
+    pub refusal: Refusal,
+    /// The codes of the reference text's channels, where that text is accepted.
+    pub codes: Vec<u8>,
+}
+
+impl Refused<'_> {
+    /// What a program prints of it.
+    pub fn answer(&self) -> String {
+        format!("NO,{},{}\n", self.refusal.number, self.refusal.line)
+    }
+}
+
+/// An accepted reference text.
+#[derive(Debug)]
+pub struct Reference<'t> {
+    pub text: &'t Text,
+    pub m: usize,
+    pub n: usize,
+    /// The m·n values as they read, row by row.
+    pub table: Vec<i32>,
+    /// The n codes of the channels' types.
+    pub codes: Vec<u8>,
+}
+
+impl<'t> Reference<'t> {
+    pub fn read(text: &'t Text) -> Result<Reference<'t>, Refused<'t>> {
+        let (mut table, mut codes) = (vec![0; ROWS * CHANNELS], vec![0; CHANNELS]);
+        match cundarivo::read_reference(&text.bytes, &mut table, &mut codes) {
+            Ok(counts) => {
+                table.truncate(counts.m * counts.n);
+                codes.truncate(counts.n);
+                Ok(Reference {
+                    text,
+                    m: counts.m,
+                    n: counts.n,
+                    table,
+                    codes,
+                })
+            }
+            Err(refusal) => Err(Refused {
+                kind: Kind::Reference,
+                text,
+                refusal,
+                codes: Vec::new(),
+            }),
+        }
+    }
+
+    /// The envelope of a record that agrees with the rows.
+    pub fn record(&self, text: &'t Text) -> Result<Envelope, Refused<'t>> {
+        let read = cundarivo::read_record(&self.table, self.m, self.n, &self.codes, &text.bytes);
+        read.map_err(|refusal| Refused {
+            kind: Kind::Record,
+            text,
+            refusal,
+            codes: self.codes.clone(),
+        })
+    }
+
+    /// Whether the readings together are a text. What is asked of each of them by itself is no part of it.
+    pub fn readings(&self, text: &'t Text) -> Result<(), Refused<'t>> {
+        match text.bytes.len() {
+            1..=65_536 => Ok(()),
+            _ => Err(Refused {
+                kind: Kind::Readings,
+                text,
+                refusal: Refusal { number: 1, line: 0 },
+                codes: self.codes.clone(),
+            }),
+        }
+    }
+}
+
+/// Holds a program's whole output against the refusal of its texts that their own calls give.
+pub fn require_answer(refused: &Refused<'_>, output: &[u8]) -> Result<(), Failure> {
+    match output == refused.answer().as_bytes() {
+        true => Ok(()),
+        false => Err(Failure::contradiction(&format!(
+            "{} is refused by {}, and the program answers otherwise",
+            refused.text.source.shown(),
+            refused.refusal.number
+        ))),
+    }
+}

@@ -1,0 +1,1 @@
+//! The readings of `judge --explain`.

@@ -1,0 +1,75 @@
+//! `envelope`: draws, verifies and shows alarm envelopes and judges readings. Everything that is decided
+//! is decided by the proved calls of the library; what is here is how people reach them: words and files in,
+//! answers, reasons and figures in units out. `help` has what each command does.
+//!
+//! - `arguments`: the words of a command; `texts`: a command's texts, read; `output`: standard output.
+//! - `examined`: the texts through the library's calls, which is what statuses and words rest on.
+//! - `programs`: draw, verify, panel and judge, whose standard output is that of the proved program calls.
+//! - `explain`: the readings of `judge --explain`; `show`: an envelope in units; `units`, `types`: numbers as
+//!   people read them, and the channel types.
+//! - `words`, `refusals`: a refusal in words with a hint; the table of refusals. `help`: usage.
+//! - `redraw`: every reference text of a folder drawn into its record.
+//! - `failure`, `status`, `shown`: what is no answer, exit statuses, bytes of strangers as they are printed.
+//! - `descriptors`, `system`: the standard descriptors as they were at the start; calls of the system.
+
+mod arguments;
+mod descriptors;
+mod examined;
+mod explain;
+mod failure;
+mod help;
+mod output;
+mod programs;
+mod redraw;
+mod refusals;
+mod show;
+mod shown;
+mod status;
+mod system;
+mod texts;
+mod types;
+mod units;
+mod words;
+
+use failure::Failure;
+use status::Status;
+use std::ffi::OsString;
+use std::process::ExitCode;
+
+fn main() -> ExitCode {
+    std::panic::set_hook(Box::new(|fault| {
+        failure::tell(&format!("a fault of this program: {fault}").replace('\n', " "));
+        std::process::exit(i32::from(Status::Failed.code()));
+    }));
+    system::let_large_writes_fail();
+    let words: Vec<OsString> = std::env::args_os().skip(1).collect();
+    let status = descriptors::require_open().and_then(|()| run(&words));
+    let status = status.unwrap_or_else(|failure| {
+        failure.tell();
+        Status::Failed
+    });
+    ExitCode::from(status.code())
+}
+
+fn run(words: &[OsString]) -> Result<Status, Failure> {
+    let (command, words) = match words.split_first() {
+        Some((command, words)) => (command.as_encoded_bytes(), words),
+        None => (&b"help"[..], words),
+    };
+    match command {
+        b"draw" => programs::draw(words),
+        b"verify" => programs::verify(words),
+        b"panel" => programs::panel(words),
+        b"judge" => programs::judge(words),
+        b"show" => show::show(words),
+        b"types" => types::print_types(words),
+        b"refusals" => refusals::print_refusals(words),
+        b"redraw" => redraw::redraw(words),
+        b"help" | b"--help" | b"-h" => help::print_help(words),
+        b"--version" => help::print_version(words),
+        _ => Err(Failure::usage(format!(
+            "there is no command {}",
+            shown::quoted(command)
+        ))),
+    }
+}

@@ -1,0 +1,85 @@
+//! The four programs: their texts read, their proved calls made, the output of these printed as it is.
+
+use crate::arguments::Words;
+use crate::examined::{Reference, Refused, require_answer};
+use crate::failure::Failure;
+use crate::output;
+use crate::status::Status;
+use crate::texts::Text;
+use crate::words;
+use cundarivo::programs;
+use std::ffi::OsString;
+
+pub fn draw(words: &[OsString]) -> Result<Status, Failure> {
+    let [reference] = &read_texts("draw", words)?;
+    let answer = programs::draw(&reference.bytes);
+    let refused = Reference::read(reference).err();
+    conclude(refused, &answer, b"ENV,")
+}
+
+pub fn verify(words: &[OsString]) -> Result<Status, Failure> {
+    let [reference, record] = &read_texts("verify", words)?;
+    let answer = programs::verify(&reference.bytes, &record.bytes);
+    let refused = Reference::read(reference)
+        .and_then(|read| read.record(record))
+        .err();
+    conclude(refused, &answer, b"OK\n")
+}
+
+pub fn panel(words: &[OsString]) -> Result<Status, Failure> {
+    let [reference, record] = &read_texts("panel", words)?;
+    let answer = programs::panel(&reference.bytes, &record.bytes);
+    let refused = Reference::read(reference)
+        .and_then(|read| read.record(record))
+        .err();
+    conclude(refused, &answer, b"")
+}
+
+pub fn judge(words: &[OsString]) -> Result<Status, Failure> {
+    let [reference, record, readings] = &read_texts("judge", words)?;
+    let answer = programs::judge(&reference.bytes, &record.bytes, &readings.bytes);
+    let refused = Reference::read(reference)
+        .and_then(|read| {
+            read.record(record)?;
+            read.readings(readings)
+        })
+        .err();
+    if refused.is_some() {
+        return conclude(refused, &answer, b"");
+    }
+    output::print(&answer)?;
+    let all_quiet = answer
+        .split_inclusive(|&byte| byte == b'\n')
+        .all(|line| line == b"QUIET\n");
+    Ok(if all_quiet {
+        Status::Done
+    } else {
+        Status::NotAllQuiet
+    })
+}
+
+fn read_texts<const COUNT: usize>(
+    command: &str,
+    words: &[OsString],
+) -> Result<[Text; COUNT], Failure> {
+    let sources = Words::of(words, &[])?.texts(command, COUNT)?;
+    let texts: Result<Vec<Text>, Failure> = sources.into_iter().map(Text::read).collect();
+    Ok(texts?.try_into().expect("as many texts as were asked for"))
+}
+
+/// Prints a program's output, once it is what the refusal of a text, or none, asks for.
+fn conclude(refused: Option<Refused<'_>>, answer: &[u8], start: &[u8]) -> Result<Status, Failure> {
+    let Some(refused) = refused else {
+        if !answer.starts_with(start) {
+            return Err(Failure::contradiction(
+                "every text is accepted, and the program answers otherwise",
+            ));
+        }
+        output::print(answer)?;
+        return Ok(Status::Done);
+    };
+    require_answer(&refused, answer)?;
+    output::print(answer)?;
+    words::tell_refused(&refused);
+    Ok(Status::Refused)
+}

@@ -1,0 +1,78 @@
+//! The texts of a command, each read from its own file or from standard input, at most one byte more than
+//! a text may have.
+
+use crate::failure::Failure;
+use crate::shown;
+use std::ffi::{OsStr, OsString};
+use std::fs::File;
+use std::io::{self, Read};
+use std::mem::ManuallyDrop;
+use std::os::fd::FromRawFd;
+
+/// The most bytes that are read: the library refuses a longer text by 1, whatever it is.
+const READ_LIMIT: u64 = 65_537;
+
+#[derive(Clone, Debug, PartialEq, Eq)]
+pub enum Source {
+    Input,
+    File(OsString),
+}
+
+impl Source {
+    /// `-` and the other names of standard input; else a file.
+    pub fn named(word: &OsStr) -> Source {
+        match word.as_encoded_bytes() {
+            b"-" | b"/dev/stdin" | b"/dev/fd/0" | b"/proc/self/fd/0" => Source::Input,
+            _ => Source::File(word.to_owned()),
+        }
+    }
+
+    /// As it is told.
+    pub fn shown(&self) -> String {
+        match self {
+            Source::Input => "standard input".to_string(),
+            Source::File(name) => shown::name(name),
+        }
+    }
+}
+
+/// A text and where it came from.
+#[derive(Debug)]
+pub struct Text {
+    pub source: Source,
+    pub bytes: Vec<u8>,
+}
+
+impl Text {
+    pub fn read(source: Source) -> Result<Text, Failure> {
+        let bytes = match &source {
+            // SAFETY: descriptor 0 is open (`descriptors::require_open`), and is not closed here.
+            Source::Input => read_start(&ManuallyDrop::new(unsafe { File::from_raw_fd(0) })),
+            Source::File(name) => File::open(name).and_then(|file| read_start(&file)),
+        };
+        match bytes {
+            Ok(bytes) => Ok(Text { source, bytes }),
+            Err(error) => Err(Failure::of(&source.shown(), &error)),
+        }
+    }
+
+    /// A line of the text, counted from 1, without its byte 10; none where the text has fewer. What follows
+    /// the last byte 10 is a line too where it has a byte.
+    pub fn line(&self, number: u32) -> Option<&[u8]> {
+        let index = usize::try_from(number).ok()?.checked_sub(1)?;
+        self.lines().nth(index)
+    }
+
+    /// Every line without its byte 10.
+    pub fn lines(&self) -> impl Iterator<Item = &[u8]> {
+        self.bytes
+            .split_inclusive(|&byte| byte == b'\n')
+            .map(|line| line.strip_suffix(b"\n").unwrap_or(line))
+    }
+}
+
+fn read_start(file: &File) -> io::Result<Vec<u8>> {
+    let mut bytes = Vec::new();
+    file.take(READ_LIMIT).read_to_end(&mut bytes)?;
+    Ok(bytes)
+}
