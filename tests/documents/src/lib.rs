@@ -10,12 +10,13 @@ use std::fs;
 use std::path::{Path, PathBuf};
 
 /// The documents, README among them.
-pub const DOCUMENTS: [&str; 10] = [
+pub const DOCUMENTS: [&str; 11] = [
     "README.md",
     "bindings/rust/README.md",
     "docs/ARCHITECTURE.md",
     "docs/CONTRIBUTING.md",
     "docs/DECISIONS.md",
+    "docs/FORMATS.md",
     "docs/PROMISES.md",
     "docs/PROVING.md",
     "docs/READING.md",

@@ -1,0 +1,128 @@
+//! `docs/FORMATS.md` against the command: every example of a refusal is answered as it says, its tables are
+//! those that the command prints, and its texts are accepted.
+
+use programs::folder::Folder;
+use programs::process::{command, end};
+use programs::script::{envelope, path};
+
+fn document() -> String {
+    let path = programs::root().join("docs/FORMATS.md");
+    std::fs::read_to_string(path).expect("a document")
+}
+
+/// The rows of the table with this heading, each as its cells.
+fn rows(document: &str, heading: &str) -> Vec<Vec<String>> {
+    let table = document.split(heading).nth(1).expect("a table");
+    let rows = table
+        .lines()
+        .skip(2)
+        .map_while(|row| row.strip_prefix("| "));
+    let cells = |row: &str| {
+        let cells = row.trim_end_matches(" |").split(" | ");
+        cells.map(|cell| cell.to_string()).collect()
+    };
+    rows.map(cells).collect()
+}
+
+/// A cell's text, `⏎` being a line end.
+fn text(cell: &str) -> String {
+    match cell {
+        "no byte" => String::new(),
+        _ => cell.trim_matches('`').replace('⏎', "\n"),
+    }
+}
+
+const REFERENCE: &str = "REF,1,TOC\nA,5\n";
+const RECORD: &str = "ENV,1,TOC\nC,327680\nR,0,0,0,S\nW,1,65536\n";
+
+#[test]
+fn every_example_of_a_refusal_is_answered_as_it_says() {
+    let refusals = rows(&document(), "| no. | when | text | example | answer |");
+    let mut numbers = Vec::new();
+    for row in &refusals {
+        let [number, _, kind, example, answer] = &row[..] else {
+            panic!("cells of {row:?}");
+        };
+        let (folder, example) = (Folder::new(), text(example));
+        folder.write("x.ref", REFERENCE);
+        folder.write("x.env", RECORD);
+        let (words, status) = match kind.as_str() {
+            "reference" => (&["draw"][..], 1),
+            "record" => (&["verify", "x.ref"][..], 1),
+            _ => (&["judge", "x.ref", "x.env"][..], 3),
+        };
+        let mut command = command(path());
+        command.args(words).current_dir(folder.path());
+        let ended = end(&mut command, example.as_bytes());
+        assert_eq!(
+            (ended.text(), ended.status),
+            (&*text(&format!("{answer}⏎")).replace('`', ""), status),
+            "{row:?}"
+        );
+        assert!(
+            answer
+                .trim_matches('`')
+                .starts_with(&format!("NO,{number},"))
+        );
+        numbers.push(number.parse::<u32>().expect("a number"));
+    }
+    numbers.dedup();
+    assert_eq!(numbers, [1, 2, 3, 4, 5, 6, 10, 11, 12]);
+}
+
+#[test]
+fn the_types_are_those_that_the_command_prints() {
+    let types = rows(
+        &document(),
+        "| code | tag | what | step | lowest | highest | in units |",
+    );
+    assert_eq!(types.len(), 8);
+    let printed = envelope(&["types"], b"");
+    for row in types {
+        let line = printed
+            .text()
+            .lines()
+            .find(|line| line.split_whitespace().nth(1) == Some(row[1].as_str()));
+        let line = line.unwrap_or_else(|| panic!("no line of {}", row[1]));
+        for cell in &row {
+            assert!(line.contains(cell.as_str()), "{line} has no {cell}");
+        }
+    }
+}
+
+#[test]
+fn its_texts_are_those_of_an_example() {
+    let document = document();
+    let reference = programs::example("purified-water", "ref");
+    let record = programs::example("purified-water", "env");
+    let readings = programs::example("purified-water", "readings");
+    let part = |start: &str| {
+        let from = document.find(&format!("```text\n{start}")).expect("a text") + 8;
+        let length = document[from..].find("```").expect("an end");
+        document[from..from + length].to_string()
+    };
+    let rows = part("REF,");
+    assert!(reference.starts_with(rows.lines().next().expect("a heading").as_bytes()));
+    let drawn = envelope(&["draw"], rows.as_bytes());
+    assert_eq!(drawn.status, 0, "{}", drawn.messages);
+    assert_eq!(part("ENV,").as_bytes(), record);
+    let reading = part("PW1-");
+    assert!(
+        String::from_utf8(readings)
+            .expect("a text")
+            .contains(&reading)
+    );
+}
+
+#[test]
+fn every_status_is_said_in_help_too() {
+    let statuses = rows(&document(), "| status | when |");
+    let said: Vec<&str> = statuses.iter().map(|row| row[0].as_str()).collect();
+    assert_eq!(said, ["0", "1", "2", "3"]);
+    let help = envelope(&["help"], b"");
+    let after = help.text().split("tatus").nth(1).expect("statuses");
+    for status in said {
+        let starts = |line: &str| line.split_whitespace().any(|word| word == status);
+        assert!(after.lines().any(starts), "help does not say {status}");
+    }
+}
