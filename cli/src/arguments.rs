@@ -39,6 +39,14 @@ impl Words {
         self.options.contains(&option)
     }
 
+    /// No name at all.
+    pub fn require_none(&self, command: &str) -> Result<(), Failure> {
+        match self.names.is_empty() {
+            true => Ok(()),
+            false => Err(Failure::usage(format!("{command} takes no more words"))),
+        }
+    }
+
     /// Exactly `count` texts, a last one that is left out being standard input, which is one of them at
     /// most.
     pub fn texts(&self, command: &str, count: usize) -> Result<Vec<Source>, Failure> {

@@ -65,6 +65,26 @@ impl<'t> Reference<'t> {
         }
     }
 
+    /// The values of a row, counted from 0.
+    pub fn row(&self, index: usize) -> &[i32] {
+        &self.table[index * self.n..(index + 1) * self.n]
+    }
+
+    /// The label of a row, counted from 0.
+    pub fn label(&self, index: usize) -> &'t [u8] {
+        cundarivo::label(&self.text.bytes, index + 1)
+    }
+
+    /// The values of a row that are written as below detection: channel and field of each.
+    pub fn below_detection(&self, index: usize) -> Vec<(usize, &'t [u8])> {
+        let line = self.text.lines().nth(index + 1).unwrap_or_default();
+        let fields = line.split(|&byte| byte == b',').skip(1);
+        let marked = fields.enumerate();
+        marked
+            .filter(|(_, field)| field.starts_with(b"<"))
+            .collect()
+    }
+
     /// The envelope of a record that agrees with the rows.
     pub fn record(&self, text: &'t Text) -> Result<Envelope, Refused<'t>> {
         let read = cundarivo::read_record(&self.table, self.m, self.n, &self.codes, &text.bytes);

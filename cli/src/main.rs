@@ -5,19 +5,24 @@
 //! - `arguments`: the words of a command; `texts`: a command's texts, read; `output`: standard output.
 //! - `examined`: the texts through the library's calls, which is what statuses and words rest on.
 //! - `programs`: draw, verify, panel and judge, whose standard output is that of the proved program calls.
-//! - `explain`: the readings of `judge --explain`; `show`: an envelope in units; `units`, `types`: numbers as
-//!   people read them, and the channel types.
+//! - `judged`: the readings of `judge`, measured; `explain`: these as `judge --explain` prints them.
+//! - `show`: an envelope in units; `weighted_rows`: the rows that hold it.
+//! - `distances`, `units`, `types`, `columns`: distances in whole numbers, numbers as people read them, the
+//!   channel types, lines in columns.
 //! - `words`, `refusals`: a refusal in words with a hint; the table of refusals. `help`: usage.
 //! - `redraw`: every reference text of a folder drawn into its record.
 //! - `failure`, `status`, `shown`: what is no answer, exit statuses, bytes of strangers as they are printed.
 //! - `descriptors`, `system`: the standard descriptors as they were at the start; calls of the system.
 
 mod arguments;
+mod columns;
 mod descriptors;
+mod distances;
 mod examined;
 mod explain;
 mod failure;
 mod help;
+mod judged;
 mod output;
 mod programs;
 mod redraw;
@@ -29,6 +34,7 @@ mod system;
 mod texts;
 mod types;
 mod units;
+mod weighted_rows;
 mod words;
 
 use failure::Failure;
@@ -52,11 +58,13 @@ fn main() -> ExitCode {
 }
 
 fn run(words: &[OsString]) -> Result<Status, Failure> {
-    let (command, words) = match words.split_first() {
-        Some((command, words)) => (command.as_encoded_bytes(), words),
-        None => (&b"help"[..], words),
+    let Some((command, words)) = words.split_first() else {
+        return help::print_help(words);
     };
-    match command {
+    if help::is_asked_for(words) {
+        return help::print_command(command);
+    }
+    match command.as_encoded_bytes() {
         b"draw" => programs::draw(words),
         b"verify" => programs::verify(words),
         b"panel" => programs::panel(words),
@@ -67,9 +75,6 @@ fn run(words: &[OsString]) -> Result<Status, Failure> {
         b"redraw" => redraw::redraw(words),
         b"help" | b"--help" | b"-h" => help::print_help(words),
         b"--version" => help::print_version(words),
-        _ => Err(Failure::usage(format!(
-            "there is no command {}",
-            shown::quoted(command)
-        ))),
+        _ => Err(help::no_command(command)),
     }
 }

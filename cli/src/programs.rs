@@ -2,7 +2,9 @@
 
 use crate::arguments::Words;
 use crate::examined::{Reference, Refused, require_answer};
-use crate::failure::Failure;
+use crate::explain;
+use crate::failure::{self, Failure};
+use crate::judged::{self, Reading};
 use crate::output;
 use crate::status::Status;
 use crate::texts::Text;
@@ -35,34 +37,61 @@ pub fn panel(words: &[OsString]) -> Result<Status, Failure> {
     conclude(refused, &answer, b"")
 }
 
+/// The most readings that are told in words.
+const TOLD_READINGS: usize = 20;
+
 pub fn judge(words: &[OsString]) -> Result<Status, Failure> {
-    let [reference, record, readings] = &read_texts("judge", words)?;
+    let words = Words::of(words, &["--explain"])?;
+    let [reference, record, readings] = &read_named("judge", &words)?;
     let answer = programs::judge(&reference.bytes, &record.bytes, &readings.bytes);
-    let refused = Reference::read(reference)
-        .and_then(|read| {
-            read.record(record)?;
-            read.readings(readings)
-        })
-        .err();
-    if refused.is_some() {
-        return conclude(refused, &answer, b"");
-    }
-    output::print(&answer)?;
-    let all_quiet = answer
-        .split_inclusive(|&byte| byte == b'\n')
-        .all(|line| line == b"QUIET\n");
-    Ok(if all_quiet {
-        Status::Done
+    let accepted = Reference::read(reference).and_then(|read| {
+        let envelope = read.record(record)?;
+        read.readings(readings)?;
+        Ok(envelope.figures)
+    });
+    let figures = match accepted {
+        Ok(figures) => figures,
+        Err(refused) => return conclude(Some(refused), &answer, b""),
+    };
+    let judged = judged::measure_all(&figures, &readings.bytes, &answer)?;
+    if words.has("--explain") {
+        output::print(explain::explained(&figures, &judged).as_bytes())?;
     } else {
-        Status::NotAllQuiet
+        output::print(&answer)?;
+        tell_turned_back(readings, &figures.codes, &judged);
+    }
+    Ok(match judged.iter().all(Reading::is_quiet) {
+        true => Status::Done,
+        false => Status::NotAllQuiet,
     })
+}
+
+/// Says in words why readings are turned back: of the first ones, and how many more there are.
+fn tell_turned_back(text: &Text, codes: &[u8], readings: &[Reading<'_>]) {
+    let numbered = readings.iter().enumerate();
+    let mut turned_back = numbered.filter_map(|(index, reading)| {
+        let refusal = reading.measured.as_ref().err()?;
+        Some((index + 1, judged::reason(refusal, reading.line, codes)))
+    });
+    let source = text.source.shown();
+    for (number, reason) in turned_back.by_ref().take(TOLD_READINGS) {
+        failure::tell(&format!("{source}, line {number}: {reason}"));
+    }
+    match turned_back.count() {
+        0 => {}
+        more => failure::tell(&format!("{source}: {more} more readings are turned back")),
+    }
 }
 
 fn read_texts<const COUNT: usize>(
     command: &str,
     words: &[OsString],
 ) -> Result<[Text; COUNT], Failure> {
-    let sources = Words::of(words, &[])?.texts(command, COUNT)?;
+    read_named(command, &Words::of(words, &[])?)
+}
+
+fn read_named<const COUNT: usize>(command: &str, words: &Words) -> Result<[Text; COUNT], Failure> {
+    let sources = words.texts(command, COUNT)?;
     let texts: Result<Vec<Text>, Failure> = sources.into_iter().map(Text::read).collect();
     Ok(texts?.try_into().expect("as many texts as were asked for"))
 }
@@ -79,7 +108,12 @@ fn conclude(refused: Option<Refused<'_>>, answer: &[u8], start: &[u8]) -> Result
         return Ok(Status::Done);
     };
     require_answer(&refused, answer)?;
-    output::print(answer)?;
-    words::tell_refused(&refused);
+    refuse(&refused)
+}
+
+/// Prints the refusal of a text, and says it in words.
+pub fn refuse(refused: &Refused<'_>) -> Result<Status, Failure> {
+    output::print(refused.answer().as_bytes())?;
+    words::tell_refused(refused);
     Ok(Status::Refused)
 }

@@ -15,10 +15,19 @@ pub fn part(channel: &Type, numerator: i128, denominator: i128) -> String {
     )
 }
 
-/// The same with its sign, also where it is above 0.
+/// The same with its sign, also where it is not below 0.
 pub fn deviation(channel: &Type, numerator: i128, denominator: i128) -> String {
-    let sign = if numerator >= 0 { "+" } else { "" };
-    format!("{sign}{}", part(channel, numerator, denominator))
+    let number = part(channel, numerator, denominator);
+    match number.starts_with('-') {
+        true => number,
+        false => format!("+{number}"),
+    }
+}
+
+/// From one number of steps to another, in parts of ten to the power of `more` of a step.
+pub fn between(channel: &Type, low: i128, high: i128, more: usize) -> String {
+    let [low, high] = [low, high].map(|number| decimal(number, channel.decimals + more));
+    with_unit(channel, format!("{low} to {high}"))
 }
 
 /// What a step is, as `0.1 °C`.
@@ -47,7 +56,7 @@ pub fn nearest(numerator: i128, denominator: i128) -> i128 {
 }
 
 /// A whole number of units in the last of so many digits behind the point.
-fn decimal(number: i128, digits: usize) -> String {
+pub fn decimal(number: i128, digits: usize) -> String {
     let sign = if number < 0 { "-" } else { "" };
     let text = format!("{:0width$}", number.abs(), width = digits + 1);
     let (before, behind) = text.split_at(text.len() - digits);
@@ -59,7 +68,7 @@ fn decimal(number: i128, digits: usize) -> String {
 
 #[cfg(test)]
 mod tests {
-    use super::{deviation, fraction, nearest, part, step, whole};
+    use super::{between, deviation, fraction, nearest, part, step, whole};
     use crate::types::{TYPES, of_tag};
 
     #[test]
@@ -75,6 +84,9 @@ mod tests {
         assert_eq!(deviation(of("TMP"), 5, 2), "+0.25 °C");
         assert_eq!(deviation(of("TMP"), -5, 2), "-0.25 °C");
         assert_eq!(deviation(of("ORP"), 0, 3), "+0.0 mV");
+        assert_eq!(deviation(of("ORP"), -1, 65_536), "+0.0 mV");
+        assert_eq!(between(of("TMP"), -5, 12, 0), "-0.5 to 1.2 °C");
+        assert_eq!(between(of("PH"), 5_851, 5_999, 1), "5.851 to 5.999");
         assert_eq!(
             TYPES.map(|known| step(&known))[3..5],
             ["0.001 µS/cm", "0.1 °C"]
