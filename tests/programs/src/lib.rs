@@ -6,11 +6,13 @@
 //! - `system`: calls of the system that the standard library has not: fifos, pipes that are not ready,
 //!   peak memory, kills, another user.
 //! - `folder`: temporary folders.
+//! - `presented`: what the command prints for people, read back.
 //! - `script`: running `./envelope`.
 //! - `repository`: the script in a folder of its own, with other tools or programs.
 
 pub mod call;
 pub mod folder;
+pub mod presented;
 pub mod process;
 pub mod repository;
 pub mod script;
