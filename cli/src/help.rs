@@ -190,9 +190,16 @@ pub fn print_help(words: &[OsString]) -> Result<Status, Failure> {
     }
 }
 
+/// The details of a command, or the overview where the name is an option that stands for a command.
 pub fn print_command(name: &OsStr) -> Result<Status, Failure> {
     match COMMANDS.iter().find(|command| name == command.name) {
         Some(command) => print(&details(command)),
+        None if ["--help", "-h", "--version"]
+            .iter()
+            .any(|option| name == *option) =>
+        {
+            print(&overview())
+        }
         None => Err(no_command(name)),
     }
 }

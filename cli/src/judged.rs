@@ -27,7 +27,8 @@ impl Reading<'_> {
     }
 }
 
-/// Why a reading is turned back, in one line. `words` says it with a hint from the line and the channels.
+/// Why a reading is turned back, in one line: where `words` is asked, with the reading's line (with its byte 10,
+/// where it has one) and the codes of the channels.
 pub fn reason(refusal: &Refusal, _line: &[u8], _codes: &[u8]) -> String {
     refusal.to_string()
 }

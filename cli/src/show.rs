@@ -3,7 +3,7 @@
 use crate::arguments::{Words, require_one_input};
 use crate::columns::{Side, aligned};
 use crate::distances::{gap_millionths, radius_tenths, reach_tenths, scaled_squared_distance};
-use crate::examined::{Reference, Refused};
+use crate::examined::Reference;
 use crate::failure::Failure;
 use crate::output;
 use crate::programs::refuse;
@@ -27,10 +27,20 @@ pub struct Shown<'t> {
 }
 
 pub fn show(words: &[OsString]) -> Result<Status, Failure> {
-    let (reference, record) = read_texts(&Words::of(words, &[])?)?;
-    let shown = match examine(&reference, record.as_ref())? {
-        Ok(shown) => shown,
+    let (text, record) = &read_texts(&Words::of(words, &[])?)?;
+    let reference = match Reference::read(text) {
+        Ok(reference) => reference,
         Err(refused) => return refuse(&refused),
+    };
+    let envelope = match record.as_ref().map(|record| reference.record(record)) {
+        None => draw(&reference)?,
+        Some(Ok(envelope)) => envelope,
+        Some(Err(refused)) => return refuse(&refused),
+    };
+    let shown = Shown {
+        reference,
+        envelope,
+        record: record.as_ref(),
     };
     require_figures(&shown)?;
     output::print(page(&shown)?.as_bytes())?;
@@ -52,30 +62,10 @@ fn read_texts(words: &Words) -> Result<(Text, Option<Text>), Failure> {
     }
 }
 
-fn examine<'t>(
-    reference: &'t Text,
-    record: Option<&'t Text>,
-) -> Result<Result<Shown<'t>, Refused<'t>>, Failure> {
-    let reference = match Reference::read(reference) {
-        Ok(reference) => reference,
-        Err(refused) => return Ok(Err(refused)),
-    };
-    let envelope = match record {
-        Some(text) => match reference.record(text) {
-            Ok(envelope) => envelope,
-            Err(refused) => return Ok(Err(refused)),
-        },
-        None => {
-            let drawing = cundarivo::draw(&reference.table, reference.m, reference.n, BUDGET);
-            let drawing = drawing.map_err(|_| not_drawn())?;
-            drawing.envelope(&reference.codes)
-        }
-    };
-    Ok(Ok(Shown {
-        reference,
-        envelope,
-        record,
-    }))
+fn draw(reference: &Reference<'_>) -> Result<Envelope, Failure> {
+    let drawing = cundarivo::draw(&reference.table, reference.m, reference.n, BUDGET);
+    let drawing = drawing.map_err(|_| not_drawn())?;
+    Ok(drawing.envelope(&reference.codes))
 }
 
 /// Rows of an accepted text can be drawn.
@@ -188,9 +178,7 @@ fn gap(figures: &Figures) -> String {
     let share = units::decimal(gap_millionths(radius, bound) as i128, 4);
     match radius.saturating_sub(bound) {
         0 => "0 (M - L): no ball round the rows is smaller".to_string(),
-        gap => format!(
-            "{gap} (M - L): no ball round the rows is smaller by more than {share}% of the radius"
-        ),
+        gap => format!("{gap} (M - L): the least radius is smaller by at most {share}%"),
     }
 }
 
@@ -216,7 +204,7 @@ fn ending(shown: &Shown<'_>) -> String {
 
 #[cfg(test)]
 mod tests {
-    use super::{Shown, examine, page, require_figures};
+    use super::{Reference, Shown, draw, page, require_figures};
     use crate::texts::{Source, Text};
 
     fn text(bytes: &[u8]) -> Text {
@@ -227,8 +215,12 @@ mod tests {
     }
 
     fn drawn(text: &Text) -> Shown<'_> {
-        let examined = examine(text, None).expect("rows that can be drawn");
-        examined.expect("an accepted text")
+        let reference = Reference::read(text).expect("an accepted text");
+        Shown {
+            envelope: draw(&reference).expect("rows that can be drawn"),
+            reference,
+            record: None,
+        }
     }
 
     #[test]

@@ -8,6 +8,7 @@ use crate::failure::Failure;
 use crate::show::{BUDGET, Shown, not_drawn, steps};
 use crate::{shown, types, units};
 use cundarivo::TOTAL;
+use std::cmp::Reverse;
 
 /// How many rows are taken away in turn.
 const HEAVIEST: usize = 16;
@@ -33,7 +34,10 @@ const SIDES: [Side; 7] = [
 
 pub fn section(shown: &Shown<'_>) -> Result<String, Failure> {
     let reference = &shown.reference;
-    let drawn = radius_of(&reference.table, reference.m, reference.n)?;
+    let drawn = match shown.record {
+        None => shown.envelope.figures.scaled_squared_radius,
+        Some(_) => radius_of(&reference.table, reference.m, reference.n)?,
+    };
     let rows = heaviest_first(&shown.envelope.weights);
     let mut lines = vec![HEADING.map(str::to_string).to_vec()];
     let mut marked = String::new();
@@ -70,7 +74,7 @@ fn introduction(shown: &Shown<'_>, rows: usize, drawn: u64) -> String {
 /// The rows of weight above 0, counted from 0; of equal weights the first row comes first.
 fn heaviest_first(weights: &[u32]) -> Vec<usize> {
     let mut rows: Vec<usize> = (0..weights.len()).filter(|&row| weights[row] > 0).collect();
-    rows.sort_by_key(|&row| std::cmp::Reverse(weights[row]));
+    rows.sort_by_key(|&row| (Reverse(weights[row]), row));
     rows
 }
 

@@ -236,9 +236,9 @@ fn assert_gap(text: &str, radius: i128, bound: i128) {
         assert_eq!(text, "0 (M - L): no ball round the rows is smaller");
         return;
     }
-    let start = format!("{gap} (M - L): no ball round the rows is smaller by more than ");
+    let start = format!("{gap} (M - L): the least radius is smaller by at most ");
     let share = text.strip_prefix(&start).expect("the gap");
-    let share = share.strip_suffix("% of the radius").expect("a share");
+    let share = share.strip_suffix('%').expect("a share");
     let rest = 1_000_000 - whole(share, 4);
     let holds = |rest: i128| rest * rest * radius <= 1_000_000_000_000 * bound;
     assert!(holds(rest) && !holds(rest + 1), "{text}");

@@ -293,7 +293,13 @@ fn everything_that_prints_ends_in_0() {
 #[test]
 fn help_says_how_each_command_is_used() {
     let overview = envelope(&["help"], b"");
-    for words in [&["--help"][..], &["-h"], &[]] {
+    for words in [
+        &["--help"][..],
+        &["-h"],
+        &[],
+        &["--help", "--help"],
+        &["--version", "--help"],
+    ] {
         assert_eq!(envelope(words, b"").text(), overview.text());
     }
     for part in [
