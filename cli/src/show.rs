@@ -73,27 +73,37 @@ pub fn not_drawn() -> Failure {
     Failure::contradiction("the rows are accepted, and drawing them is refused")
 }
 
-/// Holds the figures against arithmetic of our own: the centre is that of the weights, no row lies outside
-/// the ball, and one on its edge.
+/// Holds the figures against arithmetic of our own.
 fn require_figures(shown: &Shown<'_>) -> Result<(), Failure> {
-    let (reference, Envelope { figures, weights }) = (&shown.reference, &shown.envelope);
-    let weighted = |channel: usize| -> i64 {
-        let rows = weights.iter().take(reference.m).enumerate();
-        rows.map(|(row, &weight)| i64::from(weight) * i64::from(reference.row(row)[channel]))
-            .sum()
-    };
-    if !(0..reference.n).all(|channel| figures.scaled_centre[channel] == weighted(channel)) {
-        let line = "the centre is not that of the weights";
-        return Err(Failure::contradiction(line));
-    }
-    let distance = |row| scaled_squared_distance(reference.row(row), &figures.scaled_centre);
-    let largest = (0..reference.m).map(distance).max();
-    match largest == Some(i128::from(figures.scaled_squared_radius)) {
+    let figures = &shown.envelope.figures;
+    let own = figures_of(&shown.reference, &shown.envelope.weights);
+    let centre = figures.scaled_centre.iter().map(|&place| place.into());
+    let (radius, bound) = (figures.scaled_squared_radius, figures.scaled_lower_bound);
+    let stated = (centre.collect(), radius.into(), bound.into());
+    match own == stated && bound <= radius {
         true => Ok(()),
         false => Err(Failure::contradiction(
-            "the radius is not the largest distance of a row from the centre",
+            "centre, radius or lower bound are not those of the rows and weights",
         )),
     }
+}
+
+/// X, M and L of rows and weights.
+fn figures_of(reference: &Reference<'_>, weights: &[u32]) -> (Vec<i128>, i128, i128) {
+    let mut centre = vec![0; reference.n];
+    let mut squares = 0;
+    for (row, &weight) in weights.iter().take(reference.m).enumerate() {
+        for (place, &value) in centre.iter_mut().zip(reference.row(row)) {
+            let weighted = i128::from(weight) * i128::from(value);
+            *place += weighted;
+            squares += weighted * i128::from(value);
+        }
+    }
+    let places: Vec<i64> = centre.iter().map(|&place| place as i64).collect();
+    let distance = |row| scaled_squared_distance(reference.row(row), &places);
+    let radius = (0..reference.m).map(distance).max().unwrap_or(0);
+    let square: i128 = centre.iter().map(|place| place * place).sum();
+    (centre, radius, i128::from(TOTAL) * squares - square)
 }
 
 fn page(shown: &Shown<'_>) -> Result<String, Failure> {
@@ -176,7 +186,7 @@ fn ball(shown: &Shown<'_>) -> String {
 fn gap(figures: &Figures) -> String {
     let (radius, bound) = (figures.scaled_squared_radius, figures.scaled_lower_bound);
     let share = units::decimal(gap_millionths(radius, bound) as i128, 4);
-    match radius.saturating_sub(bound) {
+    match radius - bound {
         0 => "0 (M - L): no ball round the rows is smaller".to_string(),
         gap => format!("{gap} (M - L): the least radius is smaller by at most {share}%"),
     }
@@ -243,6 +253,10 @@ mod tests {
             .envelope
             .figures
             .scaled_squared_radius -= 1));
+        assert!(!require(|shown| shown
+            .envelope
+            .figures
+            .scaled_lower_bound -= 1));
         assert!(!require(|shown| shown.envelope.weights.swap(0, 1)));
     }
 
