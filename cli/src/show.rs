@@ -124,7 +124,8 @@ fn origin(shown: &Shown<'_>) -> String {
     };
     let lines = [
         ("reference text", text.source.shown()),
-        ("rows, channels", format!("{m}, {n}")),
+        ("rows", m.to_string()),
+        ("channels", n.to_string()),
         ("envelope", envelope),
     ];
     named_lines(lines)

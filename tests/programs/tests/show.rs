@@ -78,8 +78,11 @@ impl Expected {
         let [origin, channels, ball, rows] = sections[..] else {
             panic!("{}", ended.text());
         };
-        let counts = format!("{}, {}", self.rows.len(), self.types.len());
-        assert_eq!(named(origin, "rows, channels"), counts);
+        let (m, n) = (self.rows.len().to_string(), self.types.len().to_string());
+        assert_eq!(
+            (named(origin, "rows"), named(origin, "channels")),
+            (&*m, &*n)
+        );
         assert!(named(origin, "envelope").starts_with(envelope), "{origin}");
         self.assert_channels(channels);
         self.assert_ball(ball, envelope);
