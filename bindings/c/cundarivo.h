@@ -265,6 +265,15 @@ typedef struct {
     uint64_t excess;  /* s - M of an Alarm, else 0 */
 } cundarivo_verdict_answer;
 
+/* The answer to a reading that is measured. */
+typedef struct {
+    uint32_t number;
+    uint32_t line;
+    uint32_t verdict;                 /* enum cundarivo_verdict */
+    uint64_t excess;                  /* s - M of an Alarm, else 0 */
+    uint64_t scaled_squared_distance; /* s */
+} cundarivo_measured_answer;
+
 /* The answer to the writing of a record, and of each program: how many bytes are written. */
 typedef struct {
     uint32_t number;
@@ -358,6 +367,20 @@ cundarivo_verdict_answer cundarivo_judge(
     const uint8_t *codes, size_t codes_length,
     const int64_t *scaled_centre, size_t scaled_centre_length,
     const uint8_t *text, size_t text_length);
+
+/*
+ * Judges a reading as cundarivo_judge does, and answers with its s besides. It fills the first n places of
+ * `values` with the values as they read, 0 for one below detection. CUNDARIVO_CHANNELS places are enough for
+ * every reading.
+ *
+ * Refused: 8, 1, 3, 10 and 4 as for cundarivo_judge; then 13 for `values` of fewer than n places.
+ */
+cundarivo_measured_answer cundarivo_measure(
+    cundarivo_figures_given figures,
+    const uint8_t *codes, size_t codes_length,
+    const int64_t *scaled_centre, size_t scaled_centre_length,
+    const uint8_t *text, size_t text_length,
+    int32_t *values, size_t values_length);
 
 /* ---- the record */
 

@@ -1,6 +1,7 @@
 /*
  * An envelope from C: the reference text is read, its ball drawn and checked, the record written and read
- * back, readings judged, the chart and the panel made; at last the four programs do the same from the texts.
+ * back, readings judged and measured, the chart and the panel made; at last the four programs do the same
+ * from the texts.
  *
  * Every answer is looked at. A call that has to be accepted here ends the example with a message and status 1
  * where it is refused; refusals that belong to the example are printed with number, line and reason.
@@ -281,6 +282,28 @@ static void judge(const struct envelope *envelope, const char *reading)
     }
 }
 
+/* Measures a reading where so many places are lent for its values. */
+static void measure(const struct envelope *envelope, const char *reading, size_t places)
+{
+    size_t n = envelope->figures.n;
+    size_t length = strlen(reading);
+    int32_t values[CUNDARIVO_CHANNELS];
+    cundarivo_measured_answer answer = cundarivo_measure(
+        envelope->figures, envelope->codes, n, envelope->centre, n,
+        bytes_of(reading), length, values, places);
+    printf("measured '%.*s'", (int)length - 1, reading);
+    if (answer.number != CUNDARIVO_ACCEPTED) {
+        print_refusal(stdout, "", answer.number, answer.line);
+        return;
+    }
+    printf(": %s, s %" PRIu64 ", values", answer.verdict == CUNDARIVO_QUIET ? "Quiet" : "Alarm",
+        answer.scaled_squared_distance);
+    for (size_t channel = 0; channel < n; channel++) {
+        printf(" %" PRId32, values[channel]);
+    }
+    printf("\n");
+}
+
 static void chart_and_panel(const struct envelope *envelope)
 {
     size_t n = envelope->figures.n;
@@ -385,6 +408,10 @@ int main(void)
     for (size_t i = 0; i < READING_COUNT; i++) {
         judge(&envelope, READINGS[i]);
     }
+    measure(&envelope, READINGS[1], CUNDARIVO_CHANNELS);
+    measure(&envelope, READINGS[2], CUNDARIVO_CHANNELS);
+    measure(&envelope, READINGS[2], 1);
+    measure(&envelope, READINGS[4], 1);
     chart_and_panel(&envelope);
     run_programs(&record);
     run_programs_on_faults(&record);

@@ -52,6 +52,13 @@ OFFSET(cundarivo_verdict_answer, line, 4);
 OFFSET(cundarivo_verdict_answer, verdict, 8);
 OFFSET(cundarivo_verdict_answer, excess, 16);
 
+SIZE(cundarivo_measured_answer, 32);
+OFFSET(cundarivo_measured_answer, number, 0);
+OFFSET(cundarivo_measured_answer, line, 4);
+OFFSET(cundarivo_measured_answer, verdict, 8);
+OFFSET(cundarivo_measured_answer, excess, 16);
+OFFSET(cundarivo_measured_answer, scaled_squared_distance, 24);
+
 SIZE(cundarivo_written_answer, 16);
 OFFSET(cundarivo_written_answer, number, 0);
 OFFSET(cundarivo_written_answer, line, 4);

@@ -61,8 +61,8 @@
 //!
 //! A *reading* is one line of a label, then tag and value of each channel. Its s is the squared
 //! length of (D times its values - X): it is Quiet where s is at most M, else an Alarm with s - M.
-//! [`judge`] gives the verdict against the [`Figures`] of an envelope; [`judge_given`] is the
-//! library's own call.
+//! [`judge`] gives the verdict against the [`Figures`] of an envelope, and [`measure`] gives s and
+//! the values besides; [`judge_given`] and [`measure_into`] are the library's own calls.
 //!
 //! ```
 //! use cundarivo::Verdict;
@@ -153,10 +153,12 @@
 //! writes, for x86-64.
 
 mod chart;
+mod measured;
 pub mod programs;
 mod record;
 
 pub use chart::{Mark, MarkAnswer, PanelAnswer, Point, chart, chart_given, panel, panel_into};
+pub use measured::{Measured, MeasuredAnswer, measure, measure_into};
 pub use record::{
     Envelope, RECORD_BYTES, WrittenAnswer, read_record, read_record_into, write_record,
     write_record_into,
@@ -270,9 +272,9 @@ pub struct Checked {
 }
 
 /// The figures of an envelope, which a reading is judged against, and of which charts and the panel
-/// are made. Whoever made them, [`judge`], [`chart`] and [`panel`] refuse by 8 those outside their
-/// limits; [`Drawing::figures`] and, with moves of at most 1,000,000, [`Checked::figures`] give
-/// figures that are within them, for rows and codes of a reference text.
+/// are made. Whoever made them, [`judge`], [`measure`], [`chart`] and [`panel`] refuse by 8 those
+/// outside their limits; [`Drawing::figures`] and, with moves of at most 1,000,000,
+/// [`Checked::figures`] give figures that are within them, for rows and codes of a reference text.
 #[derive(Clone, Debug, PartialEq, Eq, Hash)]
 pub struct Figures {
     /// The number of channels, 1 to [`CHANNELS`].
@@ -425,7 +427,7 @@ pub struct LabelAnswer {
 }
 
 /// The figures of an envelope as they are given to the library, but for its codes and X; see
-/// [`judge_given`], [`write_record_into`], [`chart_given`] and [`panel_into`].
+/// [`judge_given`], [`measure_into`], [`write_record_into`], [`chart_given`] and [`panel_into`].
 #[repr(C)]
 #[derive(Clone, Copy, Debug, PartialEq, Eq, Hash)]
 pub struct FiguresGiven {
@@ -677,12 +679,7 @@ pub fn judge(figures: &Figures, text: &[u8]) -> Result<Verdict, Refusal> {
         text,
     );
     accepted(answer.number, answer.line)?;
-    Ok(match answer.verdict {
-        1 => Verdict::Quiet,
-        _ => Verdict::Alarm {
-            excess: answer.excess,
-        },
-    })
+    Ok(verdict(answer.verdict, answer.excess))
 }
 
 /// The library's own call of [`judge`], which takes and answers numbers. `codes` and `scaled_centre` lend
@@ -741,6 +738,14 @@ fn centre_places(n: usize) -> Vec<i64> {
 /// Places for the weights of m rows. More than [`ROWS`] are refused, as above.
 fn weight_places(m: usize) -> Vec<u32> {
     vec![0; m.min(ROWS)]
+}
+
+/// The verdict on an accepted reading.
+fn verdict(number: u32, excess: u64) -> Verdict {
+    match number {
+        1 => Verdict::Quiet,
+        _ => Verdict::Alarm { excess },
+    }
 }
 
 fn ending(settled: bool) -> Ending {

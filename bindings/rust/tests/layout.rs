@@ -2,8 +2,8 @@
 //! with the same numbers in bindings/c/layout.c.
 
 use cundarivo::{
-    CheckAnswer, EnvelopeAnswer, FiguresGiven, LabelAnswer, MarkAnswer, PanelAnswer,
-    ReferenceAnswer, VerdictAnswer, WrittenAnswer,
+    CheckAnswer, EnvelopeAnswer, FiguresGiven, LabelAnswer, MarkAnswer, MeasuredAnswer,
+    PanelAnswer, ReferenceAnswer, VerdictAnswer, WrittenAnswer,
 };
 use std::mem::offset_of;
 
@@ -28,6 +28,7 @@ fn structs_have_the_layout_of_the_header() {
     assert_layout!(CheckAnswer, 32, number 0, line 4, settled 8, scaled_squared_radius 16, scaled_lower_bound 24);
     assert_layout!(FiguresGiven, 32, n 0, scaled_squared_radius 8, scaled_lower_bound 16, settled 24, moves 28);
     assert_layout!(VerdictAnswer, 24, number 0, line 4, verdict 8, excess 16);
+    assert_layout!(MeasuredAnswer, 32, number 0, line 4, verdict 8, excess 16, scaled_squared_distance 24);
     assert_layout!(WrittenAnswer, 16, number 0, line 4, length 8);
     assert_layout!(MarkAnswer, 40, number 0, line 4, mark 8, horizontal 16, vertical 24, radius 32);
     assert_layout!(PanelAnswer, 8, number 0, line 4);

@@ -50,6 +50,7 @@ fn calls() -> Result<(), Refusal> {
     let envelope = drawing.envelope(&codes);
     let figures = &envelope.figures;
     within(CALLS, || cundarivo::judge(figures, &reading))?;
+    within(CALLS, || cundarivo::measure(figures, &reading))?;
     within(CALLS, || cundarivo::chart(figures, 1, n))?;
     within(CALLS, || cundarivo::panel(figures))?;
     let record = within(CALLS, || cundarivo::write_record(&envelope, &table, m))?;

@@ -1,7 +1,9 @@
--- What the exported verdict on a reading answers in numbers.
+-- What the exported calls on a reading answer in numbers.
 --     verdictCode v                      0 where refused, 1 for Quiet, 2 for Alarm, so that no answer left unfilled says Quiet
 --     verdictInNumbers v                 a verdict in numbers
---     judgeAnswer D types ..             what the exported call answers
+--     judgeAnswer D types ..             what the exported verdict answers
+--     measuredInNumbers m                what is measured, in numbers
+--     measuredGiven D types ..           what is measured against the figures that are given
 use Prim.Native.Nat.{ℕ}
 use mathlib.Core.List.{List}
 use lib.IntN.{ℤ}
@@ -10,8 +12,11 @@ use Rattle.channel.specs.Channel.{Types}
 use Rattle.reading.specs.Verdict.{refusedVerdict, verdictNumber, verdictLine, verdictExcess, judged}
 use Rattle.reading.specs.declared.Verdict.{Verdict}
 use Rattle.reading.specs.declared.Verdict.the-variants.{Quiet, Alarm, Refused}
+use Rattle.measured_reading.specs.Measured.{MeasuredReading, notMeasured, measured}
+use Rattle.measured_reading.specs.declared.Measured.{Measured}
 use Rattle.export_figures.specs.Contracts.{answerGiven}
 use Rattle.export_figures.specs.declared.FiguresGiven.{FiguresGiven}
+use Rattle.export_reading.specs.declared.MeasuredAnswer.{MeasuredAnswer}
 use Rattle.export_reading.specs.declared.VerdictAnswer.{VerdictAnswer}
 
 abbrev pub verdictCode : Verdict → ℕ
@@ -26,3 +31,17 @@ verdictInNumbers v =
 unfoldable pub judgeAnswer : ℕ → Types → FiguresGiven → List ℕ → List ℤ → List ℕ → VerdictAnswer
 judgeAnswer D types given codes scaledCentre text =
     verdictInNumbers (answerGiven (λ f. judged D types f text) (refusedVerdict outside-limits 0) given codes scaledCentre)
+
+abbrev pub measuredInNumbers : Measured → MeasuredAnswer
+measuredInNumbers m =
+    record {
+      number = verdictNumber (m .verdict);
+      line = verdictLine (m .verdict);
+      verdict = verdictCode (m .verdict);
+      excess = verdictExcess (m .verdict);
+      «scaled_squared_distance» = m .«scaled_squared_distance»;
+    }
+
+unfoldable pub measuredGiven : ℕ → Types → FiguresGiven → List ℕ → List ℤ → List ℕ → MeasuredReading
+measuredGiven D types given codes scaledCentre text =
+    answerGiven (λ f. measured D types f text) (notMeasured outside-limits 0) given codes scaledCentre

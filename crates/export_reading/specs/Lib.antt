@@ -1,2 +1,2 @@
--- What the verdict on a reading answers.
+-- What the calls on a reading answer.
 pub mod Contracts

@@ -41,7 +41,8 @@ use Rattle.reference_table.specs.AcceptedTable.{accepted-table, accepted-row}
 use Rattle.envelope.specs.Figures.{figuresKnown, figuresOf, drawnFigures}
 use Rattle.envelope.specs.FigureLaws.{drawn-within, checked-within}
 use Rattle.reading_line.specs.Reading.{printReading, ownReading}
-use Rattle.reading.specs.Verdict.{verdictNumber, pointOf, judged}
+use Rattle.reading.specs.Content.{pointOf}
+use Rattle.reading.specs.Verdict.{verdictNumber, judged}
 use Rattle.reading.specs.QuietLaws.{drawn-not-8, checked-not-8, tight-row-quiet}
 use Rattle.reading.specs.declared.Verdict.the-variants.{Quiet}
 

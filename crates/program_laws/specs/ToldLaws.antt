@@ -50,8 +50,9 @@ use Rattle.reference.specs.RefusalLaws.{each-refusal}
 use Rattle.envelope.specs.Figures.{channelCodes, figuresKnown}
 use Rattle.envelope.specs.declared.Figures.{Figures}
 use Rattle.envelope.specs.declared.Envelope.{Envelope}
+use Rattle.reading.specs.Content.{distanceOf}
 use Rattle.reading.specs.Verdict.{judged}
-use Rattle.reading.specs.VerdictLaws.{quiet-or-alarm, distanceOf, each-verdict}
+use Rattle.reading.specs.VerdictLaws.{quiet-or-alarm, each-verdict}
 use Rattle.reading.specs.declared.Verdict.{Verdict}
 use Rattle.reading.specs.declared.Verdict.the-variants.{Quiet, Alarm, Refused as RefusedReading}
 use Rattle.record_form.specs.Record.{printRecord}

@@ -19,8 +19,9 @@ use Rattle.limits.specs.Limits.{total}
 use Rattle.channel.specs.Channel.{channelTypes}
 use Rattle.envelope.specs.Figures.{figuresKnown}
 use Rattle.envelope.specs.declared.Figures.{Figures}
+use Rattle.reading.specs.Content.{distanceOf}
 use Rattle.reading.specs.Verdict.{judged, refusedVerdict, verdictExcess, verdictLine, verdictNumber}
-use Rattle.reading.specs.VerdictLaws.{distanceOf, each-verdict, quiet-or-alarm}
+use Rattle.reading.specs.VerdictLaws.{each-verdict, quiet-or-alarm}
 use Rattle.reading.specs.declared.Verdict.{Verdict}
 use Rattle.reading.specs.declared.Verdict.the-variants.{Alarm, Quiet, Refused as RefusedReading}
 use Rattle.chart.specs.Fraction.{fractionOf, positiveZero}

@@ -29,7 +29,8 @@ use Rattle.reference_rows.specs.Rows.{sound}
 use Rattle.envelope.specs.Figures.{channelCodes, figuresKnown, figuresOf, drawnFigures}
 use Rattle.envelope.specs.declared.Figures.{Figures}
 use Rattle.reading.specs.QuietLaws.{checked-row-quiet, drawn-row-quiet}
-use Rattle.reading.specs.Verdict.{judged, pointOf, verdictNumber}
+use Rattle.reading.specs.Content.{pointOf}
+use Rattle.reading.specs.Verdict.{judged, verdictNumber}
 use Rattle.reading.specs.VerdictLaws.{accepted-number, accepted-printed, alarm-off-ball, printed-accepted, quiet-in-ball}
 use Rattle.reading.specs.declared.Verdict.the-variants.{Alarm, Quiet}
 use Rattle.program_laws.specs.QuietLaws.{reference-checked-quiet, reference-drawn-quiet}

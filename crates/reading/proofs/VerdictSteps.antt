@@ -1,7 +1,7 @@
--- The verdict on a line with its byte 10, from what the code reads.
---     lineVerdict r v                                  the verdict on a line, by what the line is; v where it is within
---     byDistance D f reading                           s against M, of a reading in form
---     judged-line                                      the verdict on a line with its byte 10 is by what the line is told to be
+-- What a line with its byte 10 is, from what the code reads.
+--     lineContent r c                                  what the text is, by what the line is; c where it is within
+--     contentOf reading                                a reading of the values of one in form
+--     content-line                                     what a line with its byte 10 is, by what the line is told to be
 --     PointRead, point-read                            the reading that a line within is, with its values in the lent places, as a row
 --     line-last, line-none                             a text whose last byte is 10, and one whose last byte is another
 use Prim.Native.Nat.{ℕ, suc, _+_, _*_, _≤_, _<_}
@@ -32,39 +32,36 @@ use Rattle.envelope.specs.Figures.{channelCodes, figuresKnown}
 use Rattle.envelope.specs.declared.Figures.{Figures}
 use Rattle.reading_line.specs.Reading.{Reading, oneLine, readingLine, readingOf, tagsAgree}
 use Rattle.reading_line.specs.ReadingLaws.{line-text, text-line}
-use Rattle.reading.specs.Verdict.{refusedVerdict, pointOf, verdictOf, judged}
-use Rattle.reading.specs.VerdictLaws.{refuses-form, refuses-tag, refuses-range, judges}
+use Rattle.reading.specs.Content.{Content, faulty, sound, readingContent, pointOf}
+use Rattle.reading.specs.ContentLaws.{faulty-form, faulty-tag, faulty-range, sound-content}
 use Rattle.reading_line.specs.Contracts.{lineRead, lineAlone, LineRead}
-use Rattle.reading.specs.declared.Verdict.{Verdict}
-use Rattle.reading.specs.declared.Verdict.the-variants.{Quiet}
 use Rattle.reading_line.specs.declared.Line.{Line}
 use Rattle.reading_line.specs.declared.Line.the-variants.{Malformed, TagDiffers, OutOfRange, Within}
 
 -- ---- by what the line is
 
-abbrev pub lineVerdict : Line → Verdict → Verdict
-lineVerdict Malformed v = refusedVerdict line-form 1
-lineVerdict TagDiffers v = refusedVerdict tag-differs 1
-lineVerdict OutOfRange v = refusedVerdict value-range 1
-lineVerdict Within v = v
+abbrev pub lineContent : Line → Content → Content
+lineContent Malformed c = faulty line-form 1
+lineContent TagDiffers c = faulty tag-differs 1
+lineContent OutOfRange c = faulty value-range 1
+lineContent Within c = c
 
-abbrev pub byDistance : ℕ → Figures → Option Reading → Verdict
-byDistance D f none = Quiet
-byDistance D f (some reading) =
-    verdictOf (scaledSquaredDistance D (f .n) (centreOf (f .ball .«scaled_centre»)) (pointOf (reading .values))) (f .ball .«scaled_squared_radius»)
+abbrev pub contentOf : Option Reading → Content
+contentOf none = faulty line-form 1
+contentOf (some reading) = sound (reading .values)
 
 by-line : (D : ℕ) (types : Types) (f : Figures) (text : List ℕ) → figuresKnown D types f ≡ true → textWithin text ≡ true
     → (o : Option Reading) → readingOf (f .n) text ≡ o
-    → lineVerdict (lineRead types (channelCodes f) o) (byDistance D f o) ≡ judged D types f text
-by-line D types f text within bytes none is = sym (refuses-form D types f text within bytes is)
+    → lineContent (lineRead types (channelCodes f) o) (contentOf o) ≡ readingContent D types f text
+by-line D types f text within bytes none is = sym (faulty-form D types f text within bytes is)
 by-line D types f text within bytes (some reading) is =
     go (tagsAgree types (channelCodes f) (reading .tags)) (valuesInRange types (channelCodes f) (reading .values)) refl refl
   where
     go : (agree fit : Bool) → tagsAgree types (channelCodes f) (reading .tags) ≡ agree → valuesInRange types (channelCodes f) (reading .values) ≡ fit
-        → lineVerdict (cond agree (cond fit Within OutOfRange) TagDiffers) (byDistance D f (some reading)) ≡ judged D types f text
-    go true true a v = sym (judges D types f text within bytes is a v)
-    go true false a v = sym (refuses-range D types f text within bytes is a v)
-    go false fit a v = sym (refuses-tag D types f text within bytes is a)
+        → lineContent (cond agree (cond fit Within OutOfRange) TagDiffers) (sound (reading .values)) ≡ readingContent D types f text
+    go true true a v = sym (sound-content D types f text within bytes is a v)
+    go true false a v = sym (faulty-range D types f text within bytes is a v)
+    go false fit a v = sym (faulty-tag D types f text within bytes is a)
 
 -- a line and the byte 10 that ends it
 line-ending : (line : List ℕ) → oneLine (cut lineEnd (line ++ (lineEnd ∷ []))) ≡ lineAlone line
@@ -87,16 +84,16 @@ line-ending line = go (free lineEnd line) refl
     go true h = text-line line h
     go false h = other h (oneLine (cut lineEnd text)) refl
 
-pub judged-line : (D : ℕ) (types : Types) (f : Figures) {line : List ℕ} {lent₀ lent : List ℤ} {r : Line}
+pub content-line : (D : ℕ) (types : Types) (f : Figures) {line : List ℕ} {lent₀ lent : List ℤ} {r : Line}
     → figuresKnown D types f ≡ true → textWithin (line ++ (lineEnd ∷ [])) ≡ true
     → LineRead types (channelCodes f) line lent₀ lent r → length (channelCodes f) ≡ f .n → (told : Line) → r ≡ told
-    → lineVerdict told (byDistance D f (readingLine (f .n) (lineAlone line))) ≡ judged D types f (line ++ (lineEnd ∷ []))
+    → readingContent D types f (line ++ (lineEnd ∷ [])) ≡ lineContent told (contentOf (readingLine (f .n) (lineAlone line)))
 unfolding readingOf
-judged-line D types f {line} within bytes read count told is =
+content-line D types f {line} within bytes read count told is =
     let reading = readingLine (f .n) (lineAlone line) in
-    ap (λ r. lineVerdict r (byDistance D f reading))
+    sym (ap (λ r. lineContent r (contentOf reading))
     (sym is ∙ read .is ∙ ap (λ n. lineRead types (channelCodes f) (readingLine n (lineAlone line))) count)
-    ∙ by-line D types f (line ++ (lineEnd ∷ [])) within bytes reading (ap (readingLine (f .n)) (line-ending line))
+    ∙ by-line D types f (line ++ (lineEnd ∷ [])) within bytes reading (ap (readingLine (f .n)) (line-ending line)))
 
 -- ---- a line within
 
@@ -105,6 +102,7 @@ pub record PointRead (text : List ℕ) (lent : List ℤ) (n : ℕ) : Type 0 wher
   pub reading : Reading
   pub is : readingLine n (lineAlone text) ≡ some reading
   pub row : RowAt lent n 0
+  pub first : take n lent ≡ map reads (reading .values)
   pub distance : (D : ℕ) (X : ℕ → ℤ) → scaledSquaredDistance D n X (coordinate lent n 0) ≡ scaledSquaredDistance D n X (pointOf (reading .values))
 
 -- a line within has a reading, whose values are within their ranges
@@ -139,6 +137,9 @@ module _ {types : Types} {codes text : List ℕ} {lent₀ lent : List ℤ} (read
                         (in-range types codes values values-count (within .2) k (omega arith)),
                   );
             };
+        first =
+            ap₂ (λ k (l : List ℤ). take k l) (sym count ∙ sym values-count ∙ sym (length-map values reads)) written
+            ∙ take-append-seam (map reads values) rest;
         distance = λ D X. distance-cong D n {X = X} {Y = X} (λ k l. refl) point-at;
       }
     where

@@ -32,8 +32,9 @@ use Rattle.envelope.specs.Figures.{figuresKnown, figuresOf, drawnFigures}
 use Rattle.envelope.specs.FigureLaws.{drawn-within, checked-within}
 use Rattle.envelope.specs.declared.Figures.{Figures}
 use Rattle.reading_line.specs.Reading.{printReading, ownReading}
-use Rattle.reading.specs.Verdict.{verdictNumber, pointOf, judged}
-use Rattle.reading.specs.VerdictLaws.{accepted-number, within-quiet, distanceOf, each-verdict, printed-accepted}
+use Rattle.reading.specs.Content.{pointOf, distanceOf}
+use Rattle.reading.specs.Verdict.{verdictNumber, judged}
+use Rattle.reading.specs.VerdictLaws.{accepted-number, within-quiet, each-verdict, printed-accepted}
 use Rattle.reading.specs.declared.Verdict.the-variants.{Quiet}
 
 -- ---- 2.14: no 8

@@ -1,15 +1,18 @@
 // The verdict on a reading against the figures of an envelope (document 01, "Texts"): Quiet when s of the reading, taken as a row,
 // is at most M, else Alarm with s - M. Whoever made the figures and the text, the tags are matched before a value's range counts.
+ghost use Prim.Native.Nat.{_≤_};
 ghost use mathlib.Core.Path.{_≡_};
 ghost use mathlib.Core.Bool.{true};
 ghost use mathlib.Core.List.{[], _∷_, _++_};
-ghost use Rattle.limits.specs.Limits.{total};
+ghost use lib.ListN.{length};
+ghost use Rattle.limits.specs.Limits.{total, channelLimit};
 ghost use Rattle.channel.specs.Channel.{channelTypes};
 ghost use Rattle.ball.specs.Ball.{filledBall};
 ghost use Rattle.envelope.specs.Figures.{figuresKnown, figuresOf};
 ghost use Rattle.envelope.specs.Contracts.{lentFigures};
 ghost use Rattle.text.specs.Parts.{lineEnd, textWithin};
-ghost use Rattle.reading.specs.Verdict.{refusedVerdict, verdictOf, judged};
+ghost use Rattle.reading.specs.Verdict.{verdictOf, judged};
+ghost use Rattle.reading.specs.Contracts.{refusedPlace, Placing};
 use channel::Code;
 use envelope::Figures;
 use envelope::Scalars;
@@ -29,14 +32,76 @@ pub enum Verdict {
     Refused(Refusal),
 }
 
-fn refused(number: u32, line: u32) -> Verdict
-    ensures { λ r. ⌜ r ≡ refusedVerdict number line ⌝ }
+// What a text is told to be: a reading with this s, or refused.
+pub enum Placed {
+    At(u64),
+    Refused(Refusal),
+}
+
+fn refused(number: u32, line: u32) -> Placed
+    ensures { λ r. ⌜ r ≡ refusedPlace number line ⌝ }
 {
-    Verdict::Refused(Refusal { number, line })
+    Placed::Refused(Refusal { number, line })
+}
+
+// What the text that is this line and its byte 10 is told to be, its values put into the lent places.
+fn place_line(
+    scalars: Scalars,
+    codes: &[Code],
+    scaled_centre: &[i64],
+    line: &[u8],
+    places: &mut [i32],
+) -> Placed
+    requires { ⌜ (figuresKnown total channelTypes (lentFigures scalars (now codes) (now «scaled_centre»)) ≡ true)
+        × ((textWithin (now line ++ (lineEnd ∷ [])) ≡ true) × (channelLimit ≤ length (now places))) ⌝ }
+    ensures { λ r.
+        ⌜ Placing total channelTypes (lentFigures scalars (now (codes .entry)) (now («scaled_centre» .entry)))
+        (now (line .entry) ++ (lineEnd ∷ [])) (now (places .entry)) (now (places .exit)) r ⌝ }
+{
+    let n = scalars.n;
+    let read = read_line(line, codes, n, places);
+    match read {
+        Line::Malformed => refused(refusal::LINE_FORM, 1),
+        Line::TagDiffers => refused(refusal::TAG_DIFFERS, 1),
+        Line::OutOfRange => refused(refusal::VALUE_RANGE, 1),
+        Line::Within => {
+            let distance = scaled_squared_distance(places, n, 0, scaled_centre);
+            Placed::At(distance)
+        }
+    }
+}
+
+// What a text is told to be against the figures of an envelope whose codes and X are lent, the values of a reading put into the lent
+// places. Refused: 8, 1, 3, the leftmost 10, the leftmost 4.
+pub fn place_text(
+    scalars: Scalars,
+    codes: &[Code],
+    scaled_centre: &[i64],
+    text: &[u8],
+    places: &mut [i32],
+) -> Placed
+    requires { ⌜ channelLimit ≤ length (now places) ⌝ }
+    ensures { λ r.
+        ⌜ Placing total channelTypes (lentFigures scalars (now (codes .entry)) (now («scaled_centre» .entry)))
+        (now (text .entry)) (now (places .entry)) (now (places .exit)) r ⌝ }
+{
+    let known = figures_known_lent(scalars, codes, scaled_centre);
+    let within = text_within(text);
+    if !known {
+        return refused(refusal::OUTSIDE_LIMITS, 0);
+    }
+    if !within {
+        return refused(refusal::TEXT_LENGTH, 0);
+    }
+    let end = text.len() - 1;
+    if text[end] != LINE_END {
+        return refused(refusal::LINE_FORM, 1);
+    }
+    place_line(scalars, codes, scaled_centre, &text[..end], places)
 }
 
 // s against M.
-fn verdict_of(scaled_squared_distance: u64, scaled_squared_radius: u64) -> Verdict
+pub fn verdict_of(scaled_squared_distance: u64, scaled_squared_radius: u64) -> Verdict
     ensures { λ r. ⌜ r ≡ verdictOf «scaled_squared_distance» «scaled_squared_radius» ⌝ }
 {
     let within = scaled_squared_distance <= scaled_squared_radius;
@@ -48,32 +113,8 @@ fn verdict_of(scaled_squared_distance: u64, scaled_squared_radius: u64) -> Verdi
     }
 }
 
-// The verdict on the text that is this line and its byte 10.
-fn judge_line(scalars: Scalars, codes: &[Code], scaled_centre: &[i64], line: &[u8]) -> Verdict
-    requires { ⌜ (figuresKnown total channelTypes (lentFigures scalars (now codes) (now «scaled_centre»)) ≡ true)
-        × (textWithin (now line ++ (lineEnd ∷ [])) ≡ true) ⌝ }
-    ensures { λ r.
-        ⌜ r ≡ judged total channelTypes (lentFigures scalars (now (codes .entry)) (now («scaled_centre» .entry)))
-        (now (line .entry) ++ (lineEnd ∷ [])) ⌝ }
-{
-    let n = scalars.n;
-    let mut values = [0i32; CHANNELS];
-    let read = read_line(line, codes, n, &mut values);
-    match read {
-        Line::Malformed => refused(refusal::LINE_FORM, 1),
-        Line::TagDiffers => refused(refusal::TAG_DIFFERS, 1),
-        Line::OutOfRange => refused(refusal::VALUE_RANGE, 1),
-        Line::Within => {
-            verdict_of(
-                scaled_squared_distance(&values, n, 0, scaled_centre),
-                scalars.scaled_squared_radius,
-            )
-        }
-    }
-}
-
 // The verdict on a text against the figures of an envelope whose codes and X are lent. The single numbers come one by one, since a
-// struct goes through memory, for which a reading of one channel waits. Refused: 8, 1, 3, the leftmost 10, the leftmost 4.
+// struct goes through memory, for which a reading of one channel waits. Refused as above.
 pub fn judge_lent(
     n: usize,
     scaled_squared_radius: u64,
@@ -95,19 +136,15 @@ pub fn judge_lent(
         settled,
         scaled_lower_bound,
     };
-    let known = figures_known_lent(scalars, codes, scaled_centre);
-    let within = text_within(text);
-    if !known {
-        return refused(refusal::OUTSIDE_LIMITS, 0);
+    let mut places = [0i32; CHANNELS];
+    let placed = place_text(scalars, codes, scaled_centre, text, &mut places);
+    match placed {
+        Placed::At(distance) => verdict_of(distance, scaled_squared_radius),
+        Placed::Refused(refusal) => Verdict::Refused(Refusal {
+            number: refusal.number,
+            line: refusal.line,
+        }),
     }
-    if !within {
-        return refused(refusal::TEXT_LENGTH, 0);
-    }
-    let end = text.len() - 1;
-    if text[end] != LINE_END {
-        return refused(refusal::LINE_FORM, 1);
-    }
-    judge_line(scalars, codes, scaled_centre, &text[..end])
 }
 
 // The same against figures as one value.

@@ -1,25 +1,17 @@
--- The tests of the figures and of the text's length are the definition's own. A text whose last byte is not 10 is not in form; a text
--- whose last byte is 10 is what stands before it and that byte, and the verdict is that on these.
-use Prim.Native.Nat.{_-_, _≤_}
+-- The verdict is by what the text is told to be, which is what it is.
 use mathlib.Core.Path.{_≡_, sym, ap, _∙_}
-use mathlib.Core.Bool.{true}
-use mathlib.Core.List.{[], _∷_, _++_}
-use native.Mathlib.Omega.{arith}
 use borrow.Author.Needs.{needs}
-use borrow.Author.Tests.{not-true, not-false}
-use lib.ListN.{length, take}
-use lib.Seq.{length-take-le}
 use denote.Ref.{now}
 use Rattle.limits.specs.Limits.{total}
-use Rattle.text.specs.Parts.{lineEnd, textWithin}
-use Rattle.text.specs.PartsLaws.{text-within}
 use Rattle.channel.specs.Channel.{channelTypes}
 use Rattle.ball.specs.Ball.{filledBall}
-use Rattle.envelope.specs.Figures.{figuresKnown, figuresOf}
+use Rattle.envelope.specs.Figures.{figuresOf}
 use Rattle.envelope.specs.declared.Figures.{Figures}
-use Rattle.reading.specs.Verdict.{judged}
-use Rattle.reading.specs.VerdictLaws.{refuses-figures, refuses-length, refuses-form}
-use Rattle.reading.proofs.VerdictSteps.{line-last, line-none}
+use Rattle.reading.specs.Content.{readingContent}
+use Rattle.reading.specs.Contracts.{placedAs, placed-at, placed-refused}
+use Rattle.reading.specs.Verdict.{verdictOf}
+use Rattle.reading.specs.VerdictLaws.{verdict-on}
+use Rattle.reading.specs.declared.Placed.{Placed}
 use Rattle.reading.proofs.judge_lent.Statement.{statement}
 use Rattle.reading.proofs.judge_lent.Tie as tie
 
@@ -29,90 +21,41 @@ figures c =
     let a = c .args in
     figuresOf (a .n) (now (a .codes)) (filledBall (now (a .scaled-centre)) (a .scaled-squared-radius) (a .scaled-lower-bound) (a .settled)) (a .moves)
 
--- from where both tests are known
-abbrev start-of : tie.After-text-within → tie.Start
+abbrev start-of : tie.After-place-text → tie.Start
 start-of c = c .before .before .before .before
+
+-- what the text is told to be
+told : (c : tie.After-place-text) {placed : Placed} → c .place-text .result ≡ placed
+    → placedAs total (figures (start-of c)) (readingContent total channelTypes (figures (start-of c)) (now (start-of c .args .text))) ≡ placed
+told c is = sym (c .place-text .ensures .is) ∙ is
 
 returns : tie.Need-returns
 returns c =
-    let tests = c .before .before in
-    let start = start-of tests in
-    c .refused .ensures
-    ∙ sym (refuses-figures total channelTypes (figures start) (now (start .args .text))
-    (sym (tests .before .figures-known-lent .ensures) ∙ not-true _ (c .before .if1 .taken)))
-
--- past the test of the figures
-within : (c : tie.Else1) → figuresKnown total channelTypes (figures (start-of (c .before))) ≡ true
-within c = sym (c .before .before .figures-known-lent .ensures) ∙ not-false _ (c .if1 .left)
+    let at-arm = c .before .before in
+    let at-text = at-arm .before .before .before in
+    let start = start-of at-text in
+    let f = figures start in
+    let text = now (start .args .text) in
+    let at = placed-at total f (readingContent total channelTypes f text) (told at-text (at-arm .placed .given .1)) in
+    c .verdict-of .ensures ∙ ap (λ s. verdictOf s (start .args .scaled-squared-radius)) (at .2) ∙ sym (verdict-on total channelTypes f text (at .1))
 
 returns-2 : tie.Need-returns-2
 returns-2 c =
-    let past-figures = c .before .before in
-    let start = start-of (past-figures .before) in
-    c .refused2 .ensures
-    ∙ sym (refuses-length total channelTypes (figures start) (now (start .args .text)) (within past-figures)
-    (sym (past-figures .before .text-within .ensures) ∙ not-true _ (c .before .if2 .taken)))
-
--- past the test of the text
-fitting : (c : tie.Else2) → textWithin (now (start-of (c .before .before) .args .text)) ≡ true
-fitting c = sym (c .before .before .text-within .ensures) ∙ not-false _ (c .if2 .left)
-
--- the text has a last byte
-some-byte : (c : tie.Else2) → 1 ≤ length (now (start-of (c .before .before) .args .text))
-some-byte c = text-within (now (start-of (c .before .before) .args .text)) (fitting c) .0
-
-sub-end : tie.Need-sub-end
-sub-end c = some-byte c
-
-shared-slice-read-if3 : tie.Need-shared-slice-read-if3
-shared-slice-read-if3 c = omega (arith, some-byte (c .before))
-
-returns-3 : tie.Need-returns-3
-returns-3 c =
-    let past-text = c .before .before .before in
-    let past-figures = past-text .before in
-    let start = start-of (past-figures .before) in
+    let at-arm = c .before in
+    let at-text = at-arm .before .before .before in
+    let start = start-of at-text in
+    let f = figures start in
     let text = now (start .args .text) in
-    c .refused3 .ensures
-    ∙ sym (refuses-form total channelTypes (figures start) text (within past-figures) (fitting past-text)
-    (line-none text (length text - 1) (omega (arith, some-byte past-text)) (start .args .n) (c .before .if3 .taken)))
-
-slice-aggregate-judge-line : tie.Need-slice-aggregate-judge-line
-slice-aggregate-judge-line c = sym (length-take-le _ _ (omega arith))
-
--- the text is the line before its last byte 10, and that byte
-whole : (c : tie.Else3) → let text = now (start-of (c .before .before .before .before) .args .text) in
-    take (length text - 1) text ++ (lineEnd ∷ []) ≡ text
-whole c =
-    let past-text = c .before .before in
-    let text = now (start-of (past-text .before .before) .args .text) in
-    line-last text (length text - 1) (omega (arith, some-byte past-text)) (c .if3 .left)
-
-judge-line-requires : tie.Need-judge-line-requires
-judge-line-requires c κs =
-    let past-text = c .before .before .before in
-    (within (past-text .before), ap textWithin (whole (c .before)) ∙ fitting past-text)
-
-returns-4 : tie.Need-returns-4
-returns-4 c =
-    let last-test = c .before .before in
-    let start = start-of (last-test .before .before .before .before) in
-    c .judge-line .ensures ∙ ap (judged total channelTypes (figures start)) (whole last-test)
+    sym (verdict-on total channelTypes f text (placed-refused total f (readingContent total channelTypes f text) (told at-text (at-arm .placed2 .given .1))))
 
 pub judge-lent-spec : {M : Type 1} → statement M
 judge-lent-spec =
     tie.close
     (tie.spec
+    (λ c. search needs)
     (λ c κs. search needs)
+    (λ c. search needs)
     (λ c κs. search needs)
-    (λ c κs. search needs)
+    (λ c. search needs)
     returns
-    (λ c κs. search needs)
-    returns-2
-    sub-end
-    shared-slice-read-if3
-    (λ c κs. search needs)
-    returns-3
-    slice-aggregate-judge-line
-    judge-line-requires
-    returns-4)
+    returns-2)

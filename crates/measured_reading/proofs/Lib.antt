@@ -1,0 +1,2 @@
+-- How the code comes to what is measured.
+pub mod MeasureSteps
