@@ -6,7 +6,7 @@ use crate::product::{LentFigures, given, owned, refused};
 use outside::charts::{self, Mark, Point};
 use outside::random::Random;
 use outside::readings::EnvelopeFigures;
-use outside::rules::Refusal;
+use outside::rules::{self, Refusal};
 
 /// Figures in memory and two channels, with what both must say of them.
 #[derive(Clone, Debug)]
@@ -150,7 +150,7 @@ impl Panel {
         let (types, centre) = (lent.types.slice(), lent.centre.slice());
         let answer = cundarivo::panel_into(given(&self.figures), types, centre, written.lent());
         let expected = match &self.outcome {
-            Ok(shown) => charts::hand_out(shown, owed.lent()),
+            Ok(shown) => rules::hand_out(shown, owed.lent()),
             Err(refusal) => Err(*refusal),
         };
         let (number, line) = expected.map_or_else(|r| (r.number, r.line), |()| (0, 0));

@@ -3,7 +3,7 @@
 
 use crate::fractions::Fraction;
 use crate::readings::EnvelopeFigures;
-use crate::rules::{BUFFER_TOO_SHORT, OUTSIDE_LIMITS, Refusal, TOTAL};
+use crate::rules::{OUTSIDE_LIMITS, Refusal, TOTAL};
 
 /// The coordinates of the centre in a chart.
 #[derive(Clone, Copy, Debug, PartialEq, Eq)]
@@ -77,13 +77,6 @@ pub fn chart(
 pub fn panel(figures: &EnvelopeFigures) -> Result<Vec<i32>, Refusal> {
     let (_, centre) = figures.within_limits()?;
     Ok(centre.into_iter().map(nearest_step).collect())
-}
-
-/// Fills the first places of lent steps with what the panel shows; refusal 13.
-pub fn hand_out(shown: &[i32], steps: &mut [i32]) -> Result<(), Refusal> {
-    let places = steps.get_mut(..shown.len()).ok_or(BUFFER_TOO_SHORT)?;
-    places.copy_from_slice(shown);
-    Ok(())
 }
 
 fn over_total(numerator: i128) -> Fraction {

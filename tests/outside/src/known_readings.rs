@@ -15,7 +15,7 @@ pub struct KnownReading {
 }
 
 /// The limit on s.
-const MOST: u64 = 2_199_023_255_552_000_000;
+pub(crate) const MOST: u64 = 2_199_023_255_552_000_000;
 
 /// The envelope of document 01's record: the centre is (3, 4) and the radius is 5.
 pub fn record() -> EnvelopeFigures {
@@ -43,7 +43,11 @@ pub fn record_with_budget_1() -> EnvelopeFigures {
 }
 
 /// One channel of this type, with this X and this M.
-fn one_channel(code: u8, scaled_centre: i64, scaled_squared_radius: u64) -> EnvelopeFigures {
+pub(crate) fn one_channel(
+    code: u8,
+    scaled_centre: i64,
+    scaled_squared_radius: u64,
+) -> EnvelopeFigures {
     EnvelopeFigures {
         n: 1,
         types: vec![code],
@@ -57,7 +61,7 @@ fn one_channel(code: u8, scaled_centre: i64, scaled_squared_radius: u64) -> Enve
 
 /// Eight channels of CND, each X at its limit below, with this M. A value of 4000 is as far from X
 /// as any can be: 524,288,000.
-fn widest(scaled_squared_radius: u64) -> EnvelopeFigures {
+pub(crate) fn widest(scaled_squared_radius: u64) -> EnvelopeFigures {
     EnvelopeFigures {
         n: 8,
         types: vec![4; 8],
@@ -66,7 +70,7 @@ fn widest(scaled_squared_radius: u64) -> EnvelopeFigures {
     }
 }
 
-fn farthest_reading() -> String {
+pub(crate) fn farthest_reading() -> String {
     format!("A{}\n", ",CND,4000".repeat(8))
 }
 
@@ -426,7 +430,7 @@ pub fn orders() -> Vec<KnownReading> {
 }
 
 /// The record's figures with one of them changed.
-fn changed(change: impl FnOnce(&mut EnvelopeFigures)) -> EnvelopeFigures {
+pub(crate) fn changed(change: impl FnOnce(&mut EnvelopeFigures)) -> EnvelopeFigures {
     let mut figures = record();
     change(&mut figures);
     figures

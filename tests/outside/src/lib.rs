@@ -3,7 +3,8 @@
 //!
 //! - `rules`: the figures, the move, the drawing, the check and their refusals.
 //! - `reference`: reading a reference text and finding its labels, and the refusals of both.
-//! - `readings`: the figures of an envelope, the verdict on a reading, and the refusals.
+//! - `readings`: the figures of an envelope, the verdict on a reading, s and the values of a measured
+//!   reading, and the refusals.
 //! - `records`: reading and writing the record of an envelope, and the refusals of both.
 //! - `fractions`: exact fractions, and the bits of the binary64 number that equals one.
 //! - `charts`: the mark of an envelope in a chart, what the panel shows, and the refusals of both.
@@ -25,7 +26,9 @@
 //! - `reading_texts`: readings within the rules.
 //! - `reading_faults`: calls with one fault, and with two in both orders.
 //! - `reading_damage`: readings damaged in any way.
+//! - `reading_calls`: seeded calls of a reading of all these kinds.
 //! - `known_readings`: the readings that document 01 and the list of bad input name.
+//! - `known_measured`: measured readings of each answer and each length of the lent values.
 //! - `record_texts`: rows, types, envelopes of them, and their records as lines of fields.
 //! - `record_faults`: records out of form.
 //! - `record_disagreements`: records in form that disagree with their rows or types.
@@ -50,6 +53,7 @@ pub mod faults;
 pub mod fractions;
 pub mod known;
 pub mod known_charts;
+pub mod known_measured;
 pub mod known_programs;
 pub mod known_readings;
 pub mod known_records;
@@ -59,6 +63,7 @@ pub mod program_inputs;
 pub mod programs;
 pub mod projections;
 pub mod random;
+pub mod reading_calls;
 pub mod reading_damage;
 pub mod reading_faults;
 pub mod reading_texts;

@@ -234,8 +234,7 @@ pub fn write_into(
 
 /// Fills the first places of a buffer with a text and gives their number; refusal 13.
 pub fn place_text(text: &[u8], buffer: &mut [u8]) -> Result<usize, Refusal> {
-    let places = buffer.get_mut(..text.len()).ok_or(BUFFER_TOO_SHORT)?;
-    places.copy_from_slice(text);
+    rules::hand_out(text, buffer)?;
     Ok(text.len())
 }
 

@@ -26,6 +26,13 @@ const fn without_line(number: u32) -> Refusal {
     Refusal { number, line: 0 }
 }
 
+/// Fills the first lent places with these numbers, and no other; refusal 13 where there are fewer.
+pub fn hand_out<Number: Copy>(numbers: &[Number], lent: &mut [Number]) -> Result<(), Refusal> {
+    let places = lent.get_mut(..numbers.len()).ok_or(BUFFER_TOO_SHORT)?;
+    places.copy_from_slice(numbers);
+    Ok(())
+}
+
 /// A row or a centre, a place a channel.
 pub type Vector = Vec<i128>;
 

@@ -109,6 +109,16 @@ fn one_channel(tag: &[u8], field: &[u8]) -> Vec<u8> {
     [b"A,", tag, b",", field, b"\n"].concat()
 }
 
+/// Readings that differ little from small ones, with the codes of their types: every change of one
+/// byte, every value and every tag.
+pub fn readings(mut visit: impl FnMut(&[u8], &[u8])) {
+    for (text, codes) in SMALL_READINGS {
+        one_byte_changes(text.as_bytes(), |changed| visit(codes, changed));
+    }
+    values_of_readings(|channel, text| visit(&[channel.code], text));
+    tags_of_readings(|channel, text| visit(&[channel.code], text));
+}
+
 /// For every type, a reading of one channel with each short field, and with each number in and
 /// round the ranges, plain and after `<`.
 pub fn values_of_readings(mut visit: impl FnMut(&ChannelType, &[u8])) {

@@ -10,7 +10,7 @@ use outside::known_readings::record;
 use outside::projections::{self, Tested};
 use outside::random::Random;
 use outside::readings::{CENTRE_LIMIT, DISTANCE_LIMIT, EnvelopeFigures};
-use outside::rules::{BUFFER_TOO_SHORT, OUTSIDE_LIMITS};
+use outside::rules::{self, BUFFER_TOO_SHORT, OUTSIDE_LIMITS};
 use std::collections::BTreeSet;
 
 fn fraction(numerator: i128, denominator: i128) -> Fraction {
@@ -319,7 +319,7 @@ fn steps_are_handed_out() {
     let mut short = 0;
     for length in 0..=10 {
         let mut steps = vec![77; length];
-        let outcome = charts::hand_out(&shown, &mut steps);
+        let outcome = rules::hand_out(&shown, &mut steps);
         if length < 8 {
             assert_eq!(outcome, Err(BUFFER_TOO_SHORT));
             assert!(steps.iter().all(|&step| step == 77));
