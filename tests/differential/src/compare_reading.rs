@@ -1,13 +1,13 @@
 //! One reading through the product and through the outside implementation.
 
 use crate::lent::{self, Followed};
-use crate::product::{LentFigures, given, owned, refused};
+use crate::product::{LentFigures, given, owned, refused, verdict, verdict_in_numbers};
 use outside::readings::{self, EnvelopeFigures, Verdict};
 use outside::rules::Refusal;
 
 /// What follows the text in memory: a product that read past its end would take it for the text's
 /// byte 10.
-const BEHIND_TEXT: &[u8] = b"\n,TOC,1\n";
+pub const BEHIND_TEXT: &[u8] = b"\n,TOC,1\n";
 
 /// A reading and the figures that it is judged against, in memory, with what both must say of it.
 #[derive(Clone, Debug)]
@@ -47,14 +47,7 @@ impl Reading {
             return;
         };
         let given = cundarivo::judge(&figures, self.text.slice());
-        let owed = match self.outcome {
-            Ok(Verdict::Quiet) => Ok(cundarivo::Verdict::Quiet),
-            Ok(Verdict::Alarm { excess }) => {
-                let excess = narrow(excess);
-                Ok(cundarivo::Verdict::Alarm { excess })
-            }
-            Err(refusal) => Err(refused(refusal)),
-        };
+        let owed = self.outcome.map(verdict).map_err(refused);
         assert_eq!(given, owed, "wrapper, {}", self.shown());
     }
 
@@ -64,15 +57,10 @@ impl Reading {
     }
 }
 
-fn narrow(excess: i128) -> u64 {
-    u64::try_from(excess).expect("s is at most its limit")
-}
-
 fn in_numbers(outcome: &Result<Verdict, Refusal>) -> cundarivo::VerdictAnswer {
-    let (number, line, verdict, excess) = match *outcome {
-        Ok(Verdict::Quiet) => (0, 0, 1, 0),
-        Ok(Verdict::Alarm { excess }) => (0, 0, 2, narrow(excess)),
-        Err(refusal) => (refusal.number, refusal.line, 0, 0),
+    let (number, line, (verdict, excess)) = match *outcome {
+        Ok(verdict) => (0, 0, verdict_in_numbers(verdict)),
+        Err(refusal) => (refusal.number, refusal.line, (0, 0)),
     };
     cundarivo::VerdictAnswer {
         number,

@@ -3,6 +3,7 @@
 //! - `compare`: one case through both, every figure and every place of lent memory compared.
 //! - `compare_text`: one reference text through both, in the same way.
 //! - `compare_reading`: one reading through both, in the same way.
+//! - `compare_measured`: one measured reading through both, in the same way.
 //! - `compare_record`: one record read and one envelope written through both, in the same way.
 //! - `compare_chart`: one chart and one panel through both, in the same way.
 //! - `compare_program`: one run of a program through both, in the same way.
@@ -15,6 +16,7 @@
 
 pub mod compare;
 pub mod compare_chart;
+pub mod compare_measured;
 pub mod compare_program;
 pub mod compare_reading;
 pub mod compare_record;

@@ -1,7 +1,7 @@
 //! The figures of an envelope, refusals and answers, as the product takes and gives them.
 
 use crate::lent::Followed;
-use outside::readings::EnvelopeFigures;
+use outside::readings::{EnvelopeFigures, Verdict};
 use outside::rules::Refusal;
 
 /// What follows the lent slices in memory: a product that read past an end would take it for types
@@ -60,6 +60,29 @@ pub fn refused(refusal: Refusal) -> cundarivo::Refusal {
         number: refusal.number,
         line: refusal.line,
     }
+}
+
+/// A verdict as the wrapper gives it.
+pub fn verdict(verdict: Verdict) -> cundarivo::Verdict {
+    match verdict {
+        Verdict::Quiet => cundarivo::Verdict::Quiet,
+        Verdict::Alarm { excess } => cundarivo::Verdict::Alarm {
+            excess: narrow(excess),
+        },
+    }
+}
+
+/// A verdict and its excess as the library's own calls give them.
+pub fn verdict_in_numbers(verdict: Verdict) -> (u32, u64) {
+    match verdict {
+        Verdict::Quiet => (1, 0),
+        Verdict::Alarm { excess } => (2, narrow(excess)),
+    }
+}
+
+/// s or an excess in the bits that the product gives it.
+pub fn narrow(distance: i128) -> u64 {
+    u64::try_from(distance).expect("s is at most its limit")
 }
 
 /// The answer to a writing of so many bytes, or its refusal.
