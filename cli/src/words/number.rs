@@ -1,0 +1,148 @@
+//! The form of a plain number: what keeps a field from being one, as a person would name it.
+
+use super::line::{self, Blank, Place};
+
+#[derive(Clone, Copy, Debug, PartialEq, Eq)]
+pub enum Fault {
+    Empty,
+    Blank(Blank),
+    /// The name of a sign that is no hyphen.
+    Minus(&'static str),
+    Plus,
+    Point,
+    MinusZero,
+    LeadingZeros,
+    /// No digit is in the field.
+    NoDigit,
+    Other,
+}
+
+const MINUSES: [(&[u8], &str); 3] = [
+    (b"\xe2\x88\x92", "the minus sign U+2212"),
+    (b"\xe2\x80\x93", "the dash U+2013"),
+    (b"\xe2\x80\x94", "the dash U+2014"),
+];
+
+/// None where the field is a plain number, of any length.
+pub fn fault(field: &[u8]) -> Option<Fault> {
+    let magnitude = field.strip_prefix(b"-").unwrap_or(field);
+    match (digits(magnitude), magnitude) {
+        (true, b"0") if magnitude.len() < field.len() => Some(Fault::MinusZero),
+        (true, b"0") => None,
+        (true, [b'0', ..]) => Some(Fault::LeadingZeros),
+        (true, _) => None,
+        (false, _) => Some(named(field)),
+    }
+}
+
+pub fn digits(field: &[u8]) -> bool {
+    !field.is_empty() && field.iter().all(u8::is_ascii_digit)
+}
+
+fn named(field: &[u8]) -> Fault {
+    let minus = MINUSES
+        .iter()
+        .find(|(sign, _)| field.starts_with(sign) && field.len() > sign.len());
+    let blank = line::blank(field);
+    match (field, minus, blank) {
+        ([], _, _) => Fault::Empty,
+        (_, _, Some(blank)) => Fault::Blank(blank),
+        (_, Some((_, name)), _) => Fault::Minus(name),
+        ([b'+', ..], _, _) => Fault::Plus,
+        _ if apart(field).is_some() => Fault::Point,
+        _ if !field.iter().any(u8::is_ascii_digit) => Fault::NoDigit,
+        _ => Fault::Other,
+    }
+}
+
+/// Sign, digits before and digits behind the point of a decimal number.
+pub fn apart(field: &[u8]) -> Option<(bool, &[u8], &[u8])> {
+    let magnitude = field.strip_prefix(b"-").unwrap_or(field);
+    let point = magnitude.iter().position(|&byte| byte == b'.')?;
+    let (before, behind) = (&magnitude[..point], &magnitude[point + 1..]);
+    let form = digits(before) && digits(behind);
+    form.then_some((magnitude.len() < field.len(), before, behind))
+}
+
+/// A whole number of few digits, leading zeros allowed.
+pub fn small(field: &[u8]) -> Option<i64> {
+    let magnitude = field.strip_prefix(b"-").unwrap_or(field);
+    let few = digits(magnitude) && magnitude.len() <= 10;
+    let text = std::str::from_utf8(field).ok().filter(|_| few)?;
+    text.parse().ok()
+}
+
+impl Fault {
+    /// As it follows the field that has it.
+    pub fn words(self) -> String {
+        match self {
+            Fault::Empty => "is empty".to_string(),
+            Fault::Blank(blank) if blank.place == Place::Inside => {
+                format!(
+                    "has {} between its digits: a number has no separators",
+                    blank.name
+                )
+            }
+            Fault::Blank(blank) => format!("{}: there are no blanks in a line", blank.words()),
+            Fault::Minus(name) => format!("starts with {name}: a minus is written - (byte 45)"),
+            Fault::Plus => "starts with a plus sign: a number above 0 has no sign".to_string(),
+            Fault::Point => "has a decimal point: whole numbers are asked for".to_string(),
+            Fault::MinusZero => "is a zero with a minus: zero is written 0".to_string(),
+            Fault::LeadingZeros => "has leading zeros: it is written without them".to_string(),
+            Fault::NoDigit => "is no number".to_string(),
+            Fault::Other => "is not a whole number".to_string(),
+        }
+    }
+}
+
+#[cfg(test)]
+mod tests {
+    use super::{Fault, apart, fault};
+    use crate::types::TYPES;
+    use crate::words::value;
+
+    #[test]
+    fn faults_are_named() {
+        let faults = [
+            (&b"5"[..], None),
+            (b"0", None),
+            (b"-12", None),
+            (b"-0", Some(Fault::MinusZero)),
+            (b"065", Some(Fault::LeadingZeros)),
+            (b"-00", Some(Fault::LeadingZeros)),
+            (b"", Some(Fault::Empty)),
+            (b"+7", Some(Fault::Plus)),
+            (b"22.8", Some(Fault::Point)),
+            (b"-.5", Some(Fault::Other)),
+            (b"n/a", Some(Fault::NoDigit)),
+            (b"-", Some(Fault::NoDigit)),
+            (b"5ppb", Some(Fault::Other)),
+            (
+                b"\xe2\x88\x9220",
+                Some(Fault::Minus("the minus sign U+2212")),
+            ),
+        ];
+        for (field, expected) in faults {
+            assert_eq!(fault(field), expected, "{field:?}");
+        }
+        assert_eq!(apart(b"-2.05"), Some((true, &b"2"[..], &b"05"[..])));
+    }
+
+    /// A field of up to four of these bytes has a fault exactly where the library refuses it by 3.
+    #[test]
+    fn a_fault_is_what_the_library_refuses() {
+        let bytes = b"019-+. ";
+        let mut compared = 0;
+        for code in 0..(bytes.len() + 1).pow(4) {
+            let digits = [code, code / 8, code / 64, code / 512].map(|digit| digit % 8);
+            let field: Vec<u8> = digits
+                .iter()
+                .filter_map(|&digit| bytes.get(digit).copied())
+                .collect();
+            let refused = value::refusal(&TYPES[7], &field) == 3;
+            assert_eq!(fault(&field).is_some(), refused, "{field:?}");
+            compared += 1;
+        }
+        assert_eq!(compared, 4_096);
+    }
+}

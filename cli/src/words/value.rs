@@ -1,0 +1,166 @@
+//! A value under its channel's type: what keeps it from being in form, or where it lies beside its range.
+
+use super::line::Place;
+use super::number::Fault;
+use super::{field, number};
+use crate::types::Type;
+use crate::units;
+
+/// The number by which the library refuses a field as a value of a type, 0 where it accepts it.
+pub fn refusal(channel: &Type, field: &[u8]) -> u32 {
+    if field.contains(&b',') || field.contains(&b'\n') {
+        return 3;
+    }
+    let heading = format!("REF,1,{}\nA,", channel.tag);
+    let text = [heading.as_bytes(), field, b"\n"].concat();
+    let (mut table, mut codes) = ([0], [0]);
+    let read = cundarivo::read_reference(&text, &mut table, &mut codes);
+    read.err().map_or(0, |refusal| refusal.number)
+}
+
+/// What is told of the leftmost value that the library refuses by a number, 3 or 4.
+pub fn first<'f>(
+    values: impl Iterator<Item = &'f &'f [u8]>,
+    channels: &[&Type],
+    number: u32,
+) -> Option<String> {
+    let mut values = values.zip(channels).enumerate();
+    let at_fault =
+        |(_, (text, channel)): &(usize, (&&[u8], &&Type))| refusal(channel, text) == number;
+    let (index, (text, channel)) = values.find(at_fault)?;
+    let subject = format!("value {} ({})", index + 1, channel.tag);
+    Some(match number {
+        4 => format!(
+            "{}{}",
+            range(&subject, channel, text),
+            alike(channel, channels)
+        ),
+        _ => form(&subject, channel, text),
+    })
+}
+
+/// That other channels are of the same type, where a value may stand under the wrong one.
+fn alike(channel: &Type, channels: &[&Type]) -> String {
+    let count = channels.iter().filter(|other| **other == channel).count();
+    match count {
+        0 | 1 => String::new(),
+        _ => format!("; {count} channels are {}", channel.tag),
+    }
+}
+
+/// Why a field is no value in form. `subject` names its place on the line.
+fn form(subject: &str, channel: &Type, text: &[u8]) -> String {
+    let below = text.starts_with(b"<");
+    let number = text.strip_prefix(b"<").unwrap_or(text);
+    let named = format!("{subject}, {},", field(text));
+    let limit = format!("below detection is <v, v from 1 to {}", channel.high);
+    match number::fault(number) {
+        Some(Fault::Empty) if below => format!("{named} has nothing behind <: {limit}"),
+        Some(Fault::Empty) => {
+            format!("{subject} is empty: no value may be missing, and {limit}")
+        }
+        Some(Fault::NoDigit) => {
+            format!("{named} is no number: no value may be missing, and {limit}")
+        }
+        Some(Fault::Point) => format!(
+            "{named} has a decimal point: {}",
+            in_steps(channel, below, number)
+        ),
+        Some(Fault::LeadingZeros) => {
+            let sign = if below { "<" } else { "" };
+            let plain = field(without_zeros(number).as_bytes());
+            format!(
+                "{named} has leading zeros: without them it is {sign}{}",
+                plain.trim_matches('\'')
+            )
+        }
+        Some(Fault::Blank(blank)) if below => {
+            let place = match blank.place {
+                Place::Start => "behind <",
+                Place::Inside => "between its digits",
+                Place::End => "at its end",
+            };
+            format!(
+                "{named} has {} {place}: there are no blanks in a line",
+                blank.name
+            )
+        }
+        Some(Fault::Other) | None => format!(
+            "{named} is not a whole number of steps of {}, nor < and one",
+            units::step(channel)
+        ),
+        Some(fault) => format!("{named} {}", fault.words()),
+    }
+}
+
+/// What the steps of a type are and, where a decimal number is a whole number of them within the range,
+/// which.
+fn in_steps(channel: &Type, below: bool, number: &[u8]) -> String {
+    let steps = format!(
+        "values are whole numbers of steps of {}",
+        units::step(channel)
+    );
+    let low = if below { 1 } else { i64::from(channel.low) };
+    match exact(channel, number) {
+        Some(count) if (low..=i64::from(channel.high)).contains(&count) => {
+            let value = units::whole(channel, count);
+            match below {
+                true => format!("{steps}, and below {value} is <{count}"),
+                false => format!("{steps}, and {value} is {count}"),
+            }
+        }
+        _ => steps,
+    }
+}
+
+/// How many steps a decimal number in the type's unit is, where they are whole and few.
+pub fn exact(channel: &Type, number: &[u8]) -> Option<i64> {
+    let (negative, before, behind) = number::apart(number)?;
+    let zeros = behind
+        .iter()
+        .rev()
+        .take_while(|&&byte| byte == b'0')
+        .count();
+    let behind = &behind[..behind.len() - zeros];
+    let missing = channel.decimals.checked_sub(behind.len())?;
+    let digits = [before, behind, &b"0000"[..missing]].concat();
+    let count = number::small(&digits)?;
+    Some(if negative { -count } else { count })
+}
+
+fn without_zeros(number: &[u8]) -> String {
+    let magnitude = number.strip_prefix(b"-").unwrap_or(number);
+    let zeros = magnitude.iter().take_while(|&&byte| byte == b'0').count();
+    let rest = String::from_utf8_lossy(&magnitude[zeros..]);
+    match (rest.is_empty(), magnitude.len() < number.len()) {
+        (true, _) => "0".to_string(),
+        (false, true) => format!("-{rest}"),
+        (false, false) => rest.into_owned(),
+    }
+}
+
+/// Where a value in form lies beside its range.
+fn range(subject: &str, channel: &Type, text: &[u8]) -> String {
+    let Type { tag, low, high, .. } = channel;
+    let of = |steps: i32| units::whole(channel, i64::from(steps));
+    if text.starts_with(b"<") {
+        return format!(
+            "{subject}, {}, is beside the range: behind < stands a number from 1 to {high} ({} to {})",
+            field(text),
+            of(1),
+            of(*high)
+        );
+    }
+    let value = match number::small(text) {
+        Some(steps) => format!(", {steps}, is {}", units::whole(channel, steps)),
+        None => format!(
+            " has {} digits",
+            text.iter().filter(|byte| byte.is_ascii_digit()).count()
+        ),
+    };
+    format!(
+        "{subject}{value}; {tag} goes from {} to {} ({low} to {high})",
+        of(*low),
+        of(*high)
+    )
+}
