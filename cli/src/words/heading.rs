@@ -92,29 +92,30 @@ fn no_count(fields: &[&[u8]], word: &str) -> Option<String> {
 fn other_count(fields: &[&[u8]]) -> Option<String> {
     let (n, tags) = (number::small(fields[1])?, &fields[2..]);
     let n = usize::try_from(n).ok()?;
-    let shown = counted(tags.len(), "field");
     if tags.len() == n {
         None
     } else if tags.len() > n && tags[n..].iter().all(|tag| tag.is_empty()) {
         let commas = counted(tags.len() - n, "comma");
         Some(format!(
-            "the line ends in {commas} too many: n is {n}, and behind it stand {n} tags"
+            "the line ends in {commas} too many behind its {}",
+            counted(n, "tag")
         ))
     } else if tags.iter().all(|tag| types::of_tag(tag).is_some()) {
         Some(format!(
-            "n is {n}, and behind it stand {}",
+            "n is {n}, with {} behind it",
             counted(tags.len(), "tag")
         ))
     } else {
+        let seen = counted(tags.len(), "field");
         Some(format!(
-            "n is {n}, and behind it stand {shown} in place of {}",
+            "n is {n}, with {seen} behind it in place of {}",
             counted(n, "tag")
         ))
     }
 }
 
 /// What is told of a tag that no type has.
-pub fn unknown(tag: &[u8]) -> Option<String> {
+fn unknown(tag: &[u8]) -> Option<String> {
     let shown = field(tag);
     let upper = tag.to_ascii_uppercase();
     match (types::of_tag(tag), types::of_tag(&upper)) {
@@ -135,17 +136,12 @@ pub fn unknown(tag: &[u8]) -> Option<String> {
     }
 }
 
-/// The only tag with the same first letter whose letters all stand in the word, in their order.
+/// The tag that the word is with one letter more in its middle, as TEMP is TMP.
 fn meant(word: &[u8]) -> Option<&'static str> {
-    let fits = |known: &&Type| {
-        let mut rest = word.iter();
-        let within = known
-            .tag
-            .bytes()
-            .all(|letter| rest.any(|&byte| byte == letter));
-        within && word.first() == known.tag.as_bytes().first()
-    };
-    let mut fitting = TYPES.iter().filter(fits).map(|known| known.tag);
-    let first = fitting.next().filter(|_| word.len() <= 12)?;
-    fitting.next().is_none().then_some(first)
+    let without = |place: usize| [&word[..place], &word[place + 1..]].concat();
+    let (first, last) = (1, word.len().checked_sub(1)?);
+    let mut tags = (first..last).filter_map(|place| types::of_tag(&without(place)));
+    tags.next()
+        .map(|known| known.tag)
+        .filter(|tag| tag.len() > 2)
 }

@@ -65,7 +65,7 @@ fn byte_order_mark(line: Line<'_>) -> Option<String> {
 
 fn every_second_is_zero(bytes: &[u8]) -> bool {
     let zeros_from = |start: usize| bytes.iter().skip(start).step_by(2).all(|&byte| byte == 0);
-    bytes.len() > 2 && (zeros_from(0) != zeros_from(1))
+    bytes.len() > 5 && (zeros_from(0) != zeros_from(1))
 }
 
 fn carriage_return(line: Line<'_>) -> Option<String> {
@@ -97,14 +97,12 @@ fn quotes(line: Line<'_>) -> Option<String> {
 }
 
 fn separator(line: Line<'_>) -> Option<String> {
-    let commas = line.has(b',');
-    let seen = match (line.has(b';'), line.has(b'\t'), commas) {
+    let (commas, inside) = (line.has(b','), line.bytes.trim_ascii());
+    let seen = match (line.has(b';'), inside.contains(&b'\t'), commas) {
         (true, _, false) => "semicolons stand between the fields",
         (true, _, true) => "the line has a semicolon",
         (false, true, false) => "tabs stand between the fields",
-        (false, false, false) if line.bytes.trim_ascii().contains(&b' ') => {
-            "the line has blanks and no comma"
-        }
+        (false, false, false) if inside.contains(&b' ') => "the line has blanks and no comma",
         _ => return None,
     };
     Some(format!(
@@ -132,13 +130,12 @@ pub enum Place {
     End,
 }
 
-const BLANKS: [(&[u8], &str); 6] = [
+const BLANKS: [(&[u8], &str); 5] = [
     (b" ", "a blank"),
     (b"\t", "a tab"),
     (b"\xc2\xa0", "a no-break space (U+00A0)"),
     (b"\xe2\x80\xaf", "a narrow space (U+202F)"),
     (b"\xe2\x80\x89", "a thin space (U+2009)"),
-    (b"\xa0", "a no-break space (byte A0)"),
 ];
 
 /// The first blank of a field, one at its start or end before one inside.

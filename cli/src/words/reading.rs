@@ -1,7 +1,7 @@
 //! A single reading: a label, then tag and value of each channel of the envelope.
 
 use super::line::{self, Line};
-use super::{counted, field, fields, heading, label, number, value};
+use super::{counted, field, fields, label, number, value};
 use crate::types::{self, Type};
 use cundarivo::Refusal;
 
@@ -119,18 +119,14 @@ fn tag(fields: &[&[u8]], channels: &[&Type]) -> String {
             blank.words()
         );
     }
-    if types::of_tag(tag).is_some() {
-        let more = if same_tags(&tags, channels) {
-            "the same tags in another order; "
-        } else {
-            ""
-        };
-        return format!("{seen}: {more}{}", asked(channels));
-    }
-    match heading::unknown(tag) {
-        Some(unknown) => format!("{seen}: {unknown}"),
-        None => seen,
-    }
+    let more = if tag.eq_ignore_ascii_case(channel.tag.as_bytes()) {
+        "tags are in upper case; "
+    } else if same_tags(&tags, channels) {
+        "the same tags in another order; "
+    } else {
+        ""
+    };
+    format!("{seen}: {more}{}", asked(channels))
 }
 
 fn same_tags(tags: &[&[u8]], channels: &[&Type]) -> bool {

@@ -68,11 +68,9 @@ fn form(subject: &str, channel: &Type, text: &[u8]) -> String {
         ),
         Some(Fault::LeadingZeros) => {
             let sign = if below { "<" } else { "" };
-            let plain = field(without_zeros(number).as_bytes());
-            format!(
-                "{named} has leading zeros: without them it is {sign}{}",
-                plain.trim_matches('\'')
-            )
+            let plain = number::small(number).map(|plain| format!("{sign}{plain}"));
+            let plain = plain.unwrap_or_else(|| "in form".to_string());
+            format!("{named} has leading zeros: without them it is {plain}")
         }
         Some(Fault::Blank(blank)) if below => {
             let place = match blank.place {
@@ -128,17 +126,6 @@ pub fn exact(channel: &Type, number: &[u8]) -> Option<i64> {
     Some(if negative { -count } else { count })
 }
 
-fn without_zeros(number: &[u8]) -> String {
-    let magnitude = number.strip_prefix(b"-").unwrap_or(number);
-    let zeros = magnitude.iter().take_while(|&&byte| byte == b'0').count();
-    let rest = String::from_utf8_lossy(&magnitude[zeros..]);
-    match (rest.is_empty(), magnitude.len() < number.len()) {
-        (true, _) => "0".to_string(),
-        (false, true) => format!("-{rest}"),
-        (false, false) => rest.into_owned(),
-    }
-}
-
 /// Where a value in form lies beside its range.
 fn range(subject: &str, channel: &Type, text: &[u8]) -> String {
     let Type { tag, low, high, .. } = channel;
@@ -163,4 +150,70 @@ fn range(subject: &str, channel: &Type, text: &[u8]) -> String {
         of(*low),
         of(*high)
     )
+}
+
+#[cfg(test)]
+mod tests {
+    use super::{exact, first, refusal};
+    use crate::types::{TYPES, of_tag};
+    use crate::units;
+
+    /// The hint on a field alone under a tag.
+    fn hint(tag: &str, field: &str, number: u32) -> String {
+        let channel = of_tag(tag.as_bytes()).expect("a tag");
+        assert_eq!(refusal(channel, field.as_bytes()), number, "{field}");
+        first([field.as_bytes()].iter(), &[channel], number).expect("a hint")
+    }
+
+    #[test]
+    fn values_are_told_in_their_units() {
+        let steps = "values are whole numbers of steps of";
+        let told = [
+            ("TMP", "22.8", format!("{steps} 0.1 °C, and 22.8 °C is 228")),
+            (
+                "TMP",
+                "22.80",
+                format!("{steps} 0.1 °C, and 22.8 °C is 228"),
+            ),
+            ("TMP", "22.85", format!("{steps} 0.1 °C")),
+            (
+                "CND",
+                "1.473",
+                format!("{steps} 0.001 µS/cm, and 1.473 µS/cm is 1473"),
+            ),
+            ("CND", "1427.0", format!("{steps} 0.001 µS/cm")),
+            (
+                "CND",
+                "<0.005",
+                format!("{steps} 0.001 µS/cm, and below 0.005 µS/cm is <5"),
+            ),
+            ("CND", "<0.0", format!("{steps} 0.001 µS/cm")),
+            ("PH", "5.85", format!("{steps} 0.01, and 5.85 is 585")),
+        ];
+        for (tag, field, end) in told {
+            let hint = hint(tag, field, 3);
+            assert_eq!(
+                hint,
+                format!("value 1 ({tag}), '{field}', has a decimal point: {end}")
+            );
+        }
+        assert!(
+            hint("ORP", "-2001", 4)
+                .ends_with("-2001, is -2001 mV; ORP goes from -2000 mV to 2000 mV (-2000 to 2000)")
+        );
+        assert!(hint("FLW", "<4001", 4).ends_with("from 1 to 4000 (0.1 l/min to 400.0 l/min)"));
+    }
+
+    /// What a hint says that a decimal number is, the library reads, and it is that many of the unit.
+    #[test]
+    fn steps_of_decimal_numbers_are_exact() {
+        for channel in TYPES.iter().filter(|channel| channel.decimals > 0) {
+            for steps in (channel.low..=channel.high).map(i64::from) {
+                let whole = units::whole(channel, steps);
+                let number = whole.split(' ').next().expect("a number");
+                assert_eq!(exact(channel, number.as_bytes()), Some(steps), "{number}");
+                assert_eq!(refusal(channel, steps.to_string().as_bytes()), 0);
+            }
+        }
+    }
 }
