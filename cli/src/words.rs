@@ -11,6 +11,8 @@ mod fields;
 mod heading;
 mod label;
 mod line;
+#[cfg(test)]
+mod mistakes;
 mod number;
 mod reading;
 mod record;
@@ -37,35 +39,25 @@ pub fn tell_refused(refused: &Refused<'_>) {
 /// Tells the first refused readings of those that `judge` answered, and how many more there are.
 pub fn tell_refused_readings(readings: &Text, answer: &[u8], codes: &[u8]) {
     let lines = readings.bytes.split_inclusive(|&byte| byte == b'\n');
-    let answers = answer.split(|&byte| byte == b'\n');
-    let refused = (1..)
-        .zip(lines.zip(answers))
-        .filter_map(|(place, (line, answer))| {
-            let number = refused_by(answer)?;
-            Some((place, number, line))
-        });
-    let mut count: usize = 0;
-    for (place, number, line) in refused {
-        count += 1;
-        if count <= TOLD {
-            let hint = reading::hint(Refusal { number, line: 1 }, line, codes);
-            tell(
-                readings,
-                Refusal {
-                    number,
-                    line: place,
-                },
-                &hint,
-            );
-        }
-    }
-    if count > TOLD {
-        let more = match count - TOLD {
-            1 => "1 more reading is refused".to_string(),
-            more => format!("{more} more readings are refused"),
+    let answers = answer.split(|&byte| byte == b'\n').map(refused_by);
+    let answered = (1..).zip(lines).zip(answers);
+    let refused: Vec<(u32, &[u8], u32)> = answered
+        .filter_map(|((place, line), number)| Some((place, line, number?)))
+        .collect();
+    for &(place, line, number) in refused.iter().take(TOLD) {
+        let hint = reading::hint(Refusal { number, line: 1 }, line, codes);
+        let refusal = Refusal {
+            number,
+            line: place,
         };
-        failure::tell(&format!("{}: {more}", readings.source.shown()));
+        tell(readings, refusal, &hint);
     }
+    let more = match refused.len().saturating_sub(TOLD) {
+        0 => return,
+        1 => "1 more reading is refused".to_string(),
+        more => format!("{more} more readings are refused"),
+    };
+    failure::tell(&format!("{}: {more}", readings.source.shown()));
 }
 
 /// The number of a refused reading's answer, `NO,3,1`.

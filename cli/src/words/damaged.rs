@@ -58,12 +58,13 @@ const PIECES: [&[u8]; 34] = [
 ];
 
 /// A seeded source of numbers (SplitMix64).
-struct Random {
-    state: u64,
+pub struct Random {
+    pub state: u64,
 }
 
 impl Random {
-    fn index(&mut self, count: usize) -> usize {
+    /// An index into `count` places.
+    pub fn index(&mut self, count: usize) -> usize {
         self.state = self.state.wrapping_add(0x9E37_79B9_7F4A_7C15);
         let mixed = (self.state ^ (self.state >> 30)).wrapping_mul(0xBF58_476D_1CE4_E5B9);
         let mixed = (mixed ^ (mixed >> 27)).wrapping_mul(0x94D0_49BB_1331_11EB);

@@ -1,15 +1,17 @@
 //! Another number of fields than a row asks for.
 
+use super::line::{self, Line};
 use super::{counted, field, number, value};
 use crate::types::Type;
 use crate::units;
 
 /// What is told of the fields of a row where they are not a label and a value of each channel.
-pub fn of_row(fields: &[&[u8]], channels: &[&Type]) -> Option<String> {
+pub fn of_row(line: Line<'_>, channels: &[&Type]) -> Option<String> {
+    let fields = line.fields();
     let parts = format!("a label and {}", counted(channels.len(), "value"));
-    let seen = count(fields, channels.len() + 1, &parts)?;
-    let comma = decimal_comma(fields, channels).unwrap_or_default();
-    Some(format!("{seen}{comma}"))
+    let seen = count(&fields, channels.len() + 1, &parts)?;
+    let comma = decimal_comma(&fields, channels).unwrap_or_default();
+    line::comment(line).or(Some(format!("{seen}{comma}")))
 }
 
 /// Another number of fields than is asked for; `parts` says what they are.
@@ -39,7 +41,7 @@ fn decimal_comma(fields: &[&[u8]], channels: &[&Type]) -> Option<String> {
     let values = fields
         .get(1..)
         .filter(|values| values.len() > channels.len())?;
-    let numbers = values.iter().all(|value| number::fault(value).is_none());
+    let numbers = values.iter().all(|value| number::small(value).is_some());
     let mut pairs = (0..channels.len()).filter_map(|place| joined(values, channels, place));
     match (pairs.next(), pairs.next()) {
         (Some(pair), None) => Some(pair),

@@ -18,6 +18,7 @@ pub fn channels(line: Line<'_>) -> Vec<&'static Type> {
 pub fn form(line: Line<'_>, word: &str) -> String {
     let fields = line.fields();
     line::saved_otherwise(line)
+        .or_else(|| line::comment(line))
         .or_else(|| blank(&fields))
         .or_else(|| no_word(&fields, word))
         .or_else(|| no_count(&fields, word))

@@ -53,6 +53,6 @@ fn other(label: &[u8]) -> Option<String> {
     let of_blank = line::blank(label).is_some();
     let byte = label
         .iter()
-        .find(|&&byte| !may(byte) && !(of_blank && byte > 127))?;
+        .find(|&&byte| !(may(byte) || of_blank && byte > 127))?;
     Some(field(&[*byte]))
 }

@@ -3,7 +3,7 @@
 
 /// What a person does about line ends and marks of other programs.
 const UNIX_LINE_ENDS: &str = "save the text with Unix line ends (byte 10 alone)";
-const WITHOUT_MARK: &str = "save the text as ASCII, or as UTF-8 without a mark";
+const PLAIN: &str = "save the text as plain ASCII, or as UTF-8 without a mark";
 
 #[derive(Clone, Copy, Debug)]
 pub struct Line<'t> {
@@ -47,7 +47,7 @@ pub fn count(text: &[u8]) -> usize {
 pub fn saved_otherwise(line: Line<'_>) -> Option<String> {
     byte_order_mark(line)
         .or_else(|| carriage_return(line))
-        .or_else(|| comment(line))
+        .or_else(|| comment(line).filter(|_| !line.has(b',')))
         .or_else(|| quotes(line))
         .or_else(|| separator(line))
 }
@@ -57,10 +57,11 @@ fn byte_order_mark(line: Line<'_>) -> Option<String> {
         [0xef, 0xbb, 0xbf, ..] => "the line starts with a byte order mark (bytes EF BB BF)",
         [0xff, 0xfe, ..] => "the line starts with bytes FF FE, the mark of UTF-16",
         [0xfe, 0xff, ..] => "the line starts with bytes FE FF, the mark of UTF-16",
+        [b'P', b'K', 3, 4, ..] => "the line starts with bytes of an archive, as a spreadsheet has",
         bytes if every_second_is_zero(bytes) => "every second byte of the line is 0, as in UTF-16",
         _ => return None,
     };
-    Some(format!("{seen}: {WITHOUT_MARK}"))
+    Some(format!("{seen}: {PLAIN}"))
 }
 
 fn every_second_is_zero(bytes: &[u8]) -> bool {
@@ -82,12 +83,13 @@ fn carriage_return(line: Line<'_>) -> Option<String> {
     Some(format!("{seen}: {UNIX_LINE_ENDS}"))
 }
 
-fn comment(line: Line<'_>) -> Option<String> {
+/// A comment, as which a line is taken that has another number of fields than is asked for.
+pub fn comment(line: Line<'_>) -> Option<String> {
     let sign = ["#", "//"]
         .into_iter()
         .find(|sign| line.bytes.starts_with(sign.as_bytes()))?;
     Some(format!(
-        "the line starts with '{sign}': a text has no comment lines, remove it"
+        "the line starts with '{sign}': a text has no comment lines"
     ))
 }
 
@@ -152,6 +154,22 @@ pub fn blank(field: &[u8]) -> Option<Blank> {
     at(Place::Start)
         .or_else(|| at(Place::End))
         .or_else(|| at(Place::Inside))
+}
+
+/// A field without its blanks.
+pub fn without_blanks(field: &[u8]) -> Vec<u8> {
+    let mut rest = Vec::new();
+    let mut field = field;
+    while let Some((first, others)) = field.split_first() {
+        let blank = BLANKS
+            .iter()
+            .find_map(|(bytes, _)| field.strip_prefix(*bytes));
+        if blank.is_none() {
+            rest.push(*first);
+        }
+        field = blank.unwrap_or(others);
+    }
+    rest
 }
 
 impl Blank {

@@ -6,6 +6,8 @@ use super::line::{self, Blank, Place};
 pub enum Fault {
     Empty,
     Blank(Blank),
+    /// The name of a blank between digits.
+    Separator(&'static str),
     /// The name of a sign that is no hyphen.
     Minus(&'static str),
     Plus,
@@ -46,6 +48,9 @@ fn named(field: &[u8]) -> Fault {
     let blank = line::blank(field);
     match (field, minus, blank) {
         ([], _, _) => Fault::Empty,
+        (_, _, Some(blank)) if blank.place == Place::Inside && separated(field) => {
+            Fault::Separator(blank.name)
+        }
         (_, _, Some(blank)) => Fault::Blank(blank),
         (_, Some((_, name)), _) => Fault::Minus(name),
         ([b'+', ..], _, _) => Fault::Plus,
@@ -53,6 +58,12 @@ fn named(field: &[u8]) -> Fault {
         _ if !field.iter().any(u8::is_ascii_digit) => Fault::NoDigit,
         _ => Fault::Other,
     }
+}
+
+/// Whether the blanks of a field all stand between its digits, where there is none at its start and end.
+fn separated(field: &[u8]) -> bool {
+    let magnitude = field.strip_prefix(b"-").unwrap_or(field);
+    magnitude.first().is_some_and(u8::is_ascii_digit) && digits(&line::without_blanks(magnitude))
 }
 
 /// Sign, digits before and digits behind the point of a decimal number.
@@ -77,15 +88,12 @@ impl Fault {
     pub fn words(self) -> String {
         match self {
             Fault::Empty => "is empty".to_string(),
-            Fault::Blank(blank) if blank.place == Place::Inside => {
-                format!(
-                    "has {} between its digits: a number has no separators",
-                    blank.name
-                )
+            Fault::Separator(name) => {
+                format!("has {name} between its digits: a number has no separators")
             }
             Fault::Blank(blank) => format!("{}: there are no blanks in a line", blank.words()),
-            Fault::Minus(name) => format!("starts with {name}: a minus is written - (byte 45)"),
-            Fault::Plus => "starts with a plus sign: a number above 0 has no sign".to_string(),
+            Fault::Minus(name) => format!("has {name}: a minus is written - (byte 45)"),
+            Fault::Plus => "has a plus sign: a number above 0 has no sign".to_string(),
             Fault::Point => "has a decimal point: whole numbers are asked for".to_string(),
             Fault::MinusZero => "is a zero with a minus: zero is written 0".to_string(),
             Fault::LeadingZeros => "has leading zeros: it is written without them".to_string(),
@@ -101,6 +109,14 @@ mod tests {
     use crate::types::TYPES;
     use crate::words::value;
 
+    /// The blank of `- 5` stands between no digits.
+    #[test]
+    fn a_blank_behind_a_minus_is_no_separator() {
+        let words = fault(b"- 5").map(Fault::words);
+        let expected = "has a blank in it: there are no blanks in a line";
+        assert_eq!(words.as_deref(), Some(expected));
+    }
+
     #[test]
     fn faults_are_named() {
         let faults = [
@@ -114,6 +130,12 @@ mod tests {
             (b"+7", Some(Fault::Plus)),
             (b"22.8", Some(Fault::Point)),
             (b"-.5", Some(Fault::Other)),
+            (b"1 473", Some(Fault::Separator("a blank"))),
+            (
+                b"1\xe2\x80\xaf473",
+                Some(Fault::Separator("a narrow space (U+202F)")),
+            ),
+            (b"-1 473", Some(Fault::Separator("a blank"))),
             (b"n/a", Some(Fault::NoDigit)),
             (b"-", Some(Fault::NoDigit)),
             (b"5ppb", Some(Fault::Other)),

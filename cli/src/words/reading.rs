@@ -33,7 +33,7 @@ fn form(line: Line<'_>, channels: &[&Type]) -> String {
     }
     let fields = line.fields();
     line::saved_otherwise(line)
-        .or_else(|| count(&fields, channels))
+        .or_else(|| count(line, &fields, channels))
         .or_else(|| (!label::accepted(fields[0])).then(|| label::form(fields[0])))
         .or_else(|| value::first(values(&fields), channels, 3))
         .or_else(|| line::no_end(line))
@@ -41,7 +41,7 @@ fn form(line: Line<'_>, channels: &[&Type]) -> String {
 }
 
 /// Another number of fields than the envelope's channels ask for.
-fn count(fields: &[&[u8]], channels: &[&Type]) -> Option<String> {
+fn count(line: Line<'_>, fields: &[&[u8]], channels: &[&Type]) -> Option<String> {
     let parts = format!(
         "a label, then tag and value of {}",
         counted(channels.len(), "channel")
@@ -51,6 +51,9 @@ fn count(fields: &[&[u8]], channels: &[&Type]) -> Option<String> {
         return Some(format!(
             "the line starts with {word}, as a heading: readings have none"
         ));
+    }
+    if let Some(comment) = line::comment(line) {
+        return Some(comment);
     }
     let more = no_tags(fields, channels)
         .or_else(|| no_label(fields, channels))
@@ -95,7 +98,7 @@ fn side_by_side(fields: &[&[u8]]) -> Option<String> {
         .find(|pair| number::fault(pair[0]).is_none() && number::digits(pair[1]))?;
     let shown = field(&[pair[0], b",", pair[1]].concat());
     Some(format!(
-        "{shown} has no tag in it, and a number has no comma"
+        "{shown} is two numbers with no tag between them, and a number has no comma"
     ))
 }
 

@@ -4,10 +4,10 @@ use super::line::{self, Line};
 use super::{counted, field, heading, number};
 use crate::types;
 use cundarivo::{ROWS, Refusal};
+use std::ops::RangeInclusive;
 
-/// The most digits of a number, and the most moves.
+/// The most digits of a number.
 const DIGITS: usize = 19;
-const MOVES: i64 = 1_000_000;
 
 /// `codes` are those of the reference text.
 pub fn hint(text: &[u8], refusal: Refusal, codes: &[u8]) -> String {
@@ -24,8 +24,10 @@ fn asked(number: u32, n: usize) -> String {
     match number {
         1 => "line 1 is the heading: ENV, n and n tags".to_string(),
         2 => format!("line 2 is C and {}, the centre", counted(n, "number")),
-        3 => "line 3 is R, ball, floor, moves and the letter S or B".to_string(),
-        _ => format!("from line 4 on stand W, a row of 1 to {ROWS}, rising, and its weight"),
+        3 => "line 3 is R, squared radius, lower bound, moves and the letter S or B".to_string(),
+        _ => format!(
+            "each line from 4 on is W, a row of 1 to {ROWS} above the one before, and its weight"
+        ),
     }
 }
 
@@ -48,6 +50,7 @@ fn form(text: &[u8], place: u32) -> String {
     }
     let fields = line.fields();
     let seen = line::saved_otherwise(line)
+        .or_else(|| line::comment(line))
         .or_else(|| word(&fields, place))
         .or_else(|| count(&fields, place, n))
         .or_else(|| numbers(&fields, place))
@@ -102,24 +105,24 @@ fn numbers(fields: &[&[u8]], place: u32) -> Option<String> {
 }
 
 fn limits(fields: &[&[u8]], place: u32) -> Option<String> {
-    let within = |text: &[u8], most: i64, least: i64| {
-        number::small(text).is_some_and(|number| (least..=most).contains(&number))
+    let outside = |text: &[u8], limits: RangeInclusive<i64>| {
+        !number::small(text).is_some_and(|number| limits.contains(&number))
     };
     match place {
-        3 if !within(fields[3], MOVES, 0) => Some(format!(
-            "the moves are {}, and 1,000,000 are the most",
-            field(fields[3])
-        )),
+        3 if outside(fields[3], 0..=1_000_000) => {
+            let moves = field(fields[3]);
+            Some(format!("the moves are {moves}, not 0 to 1,000,000"))
+        }
         3 if fields[4] != b"S" && fields[4] != b"B" => {
             Some(format!("the letter is {}", field(fields[4])))
         }
-        4.. if !within(fields[1], ROWS as i64, 1) => {
+        4.. if outside(fields[1], 1..=ROWS as i64) => {
             Some(format!("the row is {}", field(fields[1])))
         }
-        4.. if fields[2].starts_with(b"-") || fields[2] == b"0" => Some(format!(
-            "the weight is {}, which is not above 0",
-            field(fields[2])
-        )),
+        4.. if fields[2].starts_with(b"-") || fields[2] == b"0" => {
+            let weight = field(fields[2]);
+            Some(format!("the weight is {weight}, which is not above 0"))
+        }
         _ => None,
     }
 }
@@ -138,9 +141,9 @@ fn disagreement(heading: Option<Line<'_>>, codes: &[u8]) -> String {
     let record = tags(record.iter().map(|channel| channel.tag).collect());
     let reference = tags(codes.iter().map(|&code| types::of_code(code).tag).collect());
     let seen = match record == reference {
-        true => "a figure is not what these rows and the record's weights give: the record was drawn from \
-                 other rows, or changed"
-            .to_string(),
+        true => {
+            "the record does not agree with these rows: it is of others, or was changed".to_string()
+        }
         false => format!("the record has the tags {record}, and the reference text {reference}"),
     };
     format!("{seen}; draw it again from this reference text")

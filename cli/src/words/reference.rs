@@ -55,7 +55,7 @@ fn row(line: Line<'_>, channels: &[&Type]) -> String {
     let parts = line.fields();
     line::saved_otherwise(line)
         .or_else(|| no_row(&parts, line))
-        .or_else(|| fields::of_row(&parts, channels))
+        .or_else(|| fields::of_row(line, channels))
         .or_else(|| (!label::accepted(parts[0])).then(|| label::form(parts[0])))
         .or_else(|| value::first(parts[1..].iter(), channels, 3))
         .or_else(|| line::no_end(line))
@@ -87,7 +87,10 @@ fn rows(text: &[u8], line: Option<Line<'_>>) -> String {
             "the line is empty, where a row past the last would stand: {asked} and no empty line"
         ),
         Some(_) => {
-            format!("this would be row 257: the text has {lines} with its heading, and {asked}")
+            format!(
+                "this would be row {}: the text has {lines} with its heading, and {asked}",
+                ROWS + 1
+            )
         }
     }
 }

@@ -52,42 +52,39 @@ fn alike(channel: &Type, channels: &[&Type]) -> String {
 fn form(subject: &str, channel: &Type, text: &[u8]) -> String {
     let below = text.starts_with(b"<");
     let number = text.strip_prefix(b"<").unwrap_or(text);
-    let named = format!("{subject}, {},", field(text));
-    let limit = format!("below detection is <v, v from 1 to {}", channel.high);
-    match number::fault(number) {
-        Some(Fault::Empty) if below => format!("{named} has nothing behind <: {limit}"),
-        Some(Fault::Empty) => {
-            format!("{subject} is empty: no value may be missing, and {limit}")
+    let Some(fault) = number::fault(number).filter(|fault| *fault != Fault::Other) else {
+        let steps = units::step(channel);
+        let text = field(text);
+        return format!(
+            "{subject}, {text}, is not a whole number of steps of {steps}, nor < and one"
+        );
+    };
+    if fault == Fault::Empty && !below {
+        return format!("{subject} is empty: {}", missing(channel));
+    }
+    let seen = match fault {
+        Fault::Empty => format!("has nothing behind <: {}", missing(channel)),
+        Fault::NoDigit => format!("is no number: {}", missing(channel)),
+        Fault::Point => format!("has a decimal point: {}", in_steps(channel, below, number)),
+        Fault::LeadingZeros => leading_zeros(below, number),
+        Fault::Blank(blank) if below && blank.place == Place::Start => {
+            format!("has {} behind <: there are no blanks in a line", blank.name)
         }
-        Some(Fault::NoDigit) => {
-            format!("{named} is no number: no value may be missing, and {limit}")
-        }
-        Some(Fault::Point) => format!(
-            "{named} has a decimal point: {}",
-            in_steps(channel, below, number)
-        ),
-        Some(Fault::LeadingZeros) => {
-            let sign = if below { "<" } else { "" };
-            let plain = number::small(number).map(|plain| format!("{sign}{plain}"));
-            let plain = plain.unwrap_or_else(|| "in form".to_string());
-            format!("{named} has leading zeros: without them it is {plain}")
-        }
-        Some(Fault::Blank(blank)) if below => {
-            let place = match blank.place {
-                Place::Start => "behind <",
-                Place::Inside => "between its digits",
-                Place::End => "at its end",
-            };
-            format!(
-                "{named} has {} {place}: there are no blanks in a line",
-                blank.name
-            )
-        }
-        Some(Fault::Other) | None => format!(
-            "{named} is not a whole number of steps of {}, nor < and one",
-            units::step(channel)
-        ),
-        Some(fault) => format!("{named} {}", fault.words()),
+        fault => fault.words(),
+    };
+    format!("{subject}, {}, {seen}", field(text))
+}
+
+fn missing(channel: &Type) -> String {
+    let high = channel.high;
+    format!("no value may be missing, and below detection is <v, v from 1 to {high}")
+}
+
+fn leading_zeros(below: bool, number: &[u8]) -> String {
+    let sign = if below { "<" } else { "" };
+    match number::small(number) {
+        Some(plain) => format!("has leading zeros: without them it is {sign}{plain}"),
+        None => Fault::LeadingZeros.words(),
     }
 }
 

@@ -5,7 +5,7 @@
 use programs::folder::Folder;
 use programs::process::{Ended, command, end};
 use programs::script::{envelope, path};
-use programs::{RECORD, REFERENCE, TEXT_LIMIT};
+use programs::{READING, RECORD, REFERENCE, TEXT_LIMIT};
 use std::path::{Path, PathBuf};
 
 /// The fixtures that are accepted, of which nothing is said.
@@ -20,6 +20,8 @@ const REFUSED: usize = 50;
 const READINGS: [&str; 2] = ["crlf.readings", "day.readings"];
 /// The most bytes of a line on standard error: a name of 60 bytes as `\xHH` and a hint of 400.
 const LINE_LIMIT: usize = 700;
+const WINDOWS: &str = "the line has a Windows line end (bytes 13 and 10): save the text with Unix line ends \
+                       (byte 10 alone)";
 
 fn fixtures() -> PathBuf {
     Path::new(env!("CARGO_MANIFEST_DIR")).join("fixtures/analyst")
@@ -99,264 +101,299 @@ fn every_fixture_has_what_is_said() {
 /// A refused text is told alike by every command that reads it, standard input by its own name.
 #[test]
 fn every_command_tells_a_refused_text() {
+    let reference = "REF,1,TOC\nA,05\n";
     let folder = Folder::new();
-    let refused = folder.write("x.ref", "REF,1,TOC\nA,05\n");
-    let (refused, hint) = (
-        refused.to_str().expect("a path in UTF-8"),
-        "value 1 (TOC), '05', has leading zeros",
-    );
+    folder.write("x.ref", reference);
     for words in [
-        &["draw", refused][..],
-        &["verify", refused, "-"],
-        &["panel", refused, "-"],
-        &["judge", refused, "-", refused],
+        &["draw", "x.ref"][..],
+        &["draw", "-"],
+        &["verify", "x.ref", "-"],
+        &["panel", "-", "x.ref"],
+        &["judge", "x.ref", "-", "x.ref"],
     ] {
-        let ended = envelope(words, b"");
-        assert_eq!((ended.status, ended.text()), (1, "NO,3,2\n"));
-        let start = format!(
-            "envelope: {}, line 2: refused by 3: line not in form\n  {hint}",
-            programs::quoted(refused.as_bytes())
+        let mut command = command(path());
+        let ended = end(
+            command.args(words).current_dir(folder.path()),
+            reference.as_bytes(),
         );
-        assert!(ended.messages.starts_with(&start), "{}", ended.messages);
+        assert_eq!((ended.status, ended.text()), (1, "NO,3,2\n"));
+        let name = if words[1] == "-" {
+            "standard input"
+        } else {
+            "'x.ref'"
+        };
+        let hint = "value 1 (TOC), '05', has leading zeros: without them it is 5";
+        let told = format!("envelope: {name}, line 2: refused by 3: line not in form\n  {hint}\n");
+        assert_eq!(ended.messages, told);
     }
-    let ended = envelope(&["draw"], b"REF,1,TOC\nA,05\n");
-    let said = "envelope: standard input, line 2: refused by 3: line not in form\n  \
-                value 1 (TOC), '05', has leading zeros: without them it is 5\n";
-    assert_eq!(ended.messages, said);
 }
 
-/// What is told of a record of document 01's example: line and hint.
-fn assert_record(record: &str, number: u32, line: u32, hint: &str) {
+/// Asserts what is told of a record beside the rows of document 01's example.
+fn assert_record(record: &str, (number, line): (u32, u32), hint: &str) {
     let folder = Folder::new();
     let reference = folder.write("x.ref", REFERENCE);
-    let ended = envelope(
-        &["verify".as_ref(), reference.as_os_str()],
-        record.as_bytes(),
-    );
-    assert_eq!(
-        (ended.status, ended.text()),
-        (1, &*format!("NO,{number},{line}\n")),
-        "{record:?}"
-    );
-    let place = if line == 0 {
-        String::new()
-    } else {
-        format!(", line {line}")
+    let words = ["verify".as_ref(), reference.as_os_str()];
+    let ended = envelope(&words, record.as_bytes());
+    assert_eq!(ended.text(), format!("NO,{number},{line}\n"), "{record:?}");
+    assert_eq!(ended.status, 1);
+    let told = match number {
+        11 => format!("standard input, line {line}: refused by 11: record not in form"),
+        _ => "standard input: refused by 12: record that disagrees with the rows".to_string(),
     };
-    let reason = match number {
-        11 => "record not in form",
-        _ => "record that disagrees with the rows",
-    };
-    let told =
-        format!("envelope: standard input{place}: refused by {number}: {reason}\n  {hint}\n");
+    let told = format!("envelope: {told}\n  {hint}\n");
     assert_eq!(ended.messages, told, "{record:?}");
 }
 
+/// What is asked for in a line of the record.
+fn asked(line: u32) -> &'static str {
+    match line {
+        2 => "line 2 is C and 2 numbers, the centre",
+        3 => "line 3 is R, squared radius, lower bound, moves and the letter S or B",
+        _ => "each line from 4 on is W, a row of 1 to 256 above the one before, and its weight",
+    }
+}
+
+/// Edits of the record that are not in form, each with its line and what is seen there.
+const RECORD_EDITS: [(&str, &str, u32, &str); 15] = [
+    (
+        "C,196608",
+        "D,196608",
+        2,
+        "the line starts with 'D' in place of C",
+    ),
+    ("C,196608", "C", 2, "the line has 2 fields in place of 3"),
+    (
+        "196608",
+        "3.0",
+        2,
+        "the field '3.0' has a decimal point: whole numbers are asked for",
+    ),
+    ("196608", "", 2, "a field is empty"),
+    (
+        "196608",
+        "19660800000000000000",
+        2,
+        "a number has 20 digits, and 19 are the most",
+    ),
+    (",2,S", ",2", 3, "the line has 4 fields in place of 5"),
+    (
+        ",2,S",
+        ",1000001,S",
+        3,
+        "the moves are '1000001', not 0 to 1,000,000",
+    ),
+    (",2,S", ",-2,S", 3, "the moves are '-2', not 0 to 1,000,000"),
+    (",2,S", ",2,s", 3, "the letter is 's'"),
+    ("W,2", "W,0", 4, "the row is '0'"),
+    ("W,2", "W,257", 4, "the row is '257'"),
+    (
+        "2,32768",
+        "2,0",
+        4,
+        "the weight is '0', which is not above 0",
+    ),
+    (
+        "2,32768",
+        "2, 1",
+        4,
+        "the field '\\x201' starts with a blank: there are no blanks in a line",
+    ),
+    ("W,3", "W,2", 5, "row 2 follows row 2"),
+    (
+        "W,3",
+        "END\nW,3",
+        5,
+        "the line starts with 'END' in place of W",
+    ),
+];
+
 #[test]
-fn records_not_in_form() {
-    let heading = "the first line is the heading: ENV, n and n tags";
-    let centre = "line 2 is C and 2 numbers, the centre";
-    let radius = "line 3 is R, ball, floor, moves and the letter S or B";
-    let weights = "from line 4 on stand W, a row of 1 to 256, rising, and its weight";
-    let windows = "the line has a Windows line end (bytes 13 and 10): save the text with Unix line ends (byte 10 alone)";
-    let changed = |from: &str, to: &str| {
-        assert!(RECORD.contains(from));
-        RECORD.replacen(from, to, 1)
-    };
-    let cases = [
-        (
-            REFERENCE.to_string(),
-            1,
-            format!("the line starts with 'REF', as a reference text does; {heading}"),
-        ),
-        (
-            changed("ENV", "env"),
-            1,
-            "'env' has lower-case letters: the word is ENV".to_string(),
-        ),
-        (
-            changed("ENV,2", "ENV,3"),
-            1,
-            "n is 3, with 2 tags behind it".to_string(),
-        ),
-        (RECORD.replace('\n', "\r\n"), 1, windows.to_string()),
-        (
-            "ENV,2,TOC,CND\n".to_string(),
-            2,
-            format!("the record ends before this line: {centre}"),
-        ),
-        (
-            changed("C,196608", "D,196608"),
-            2,
-            format!("the line starts with 'D' in place of C; {centre}"),
-        ),
-        (
-            changed("C,196608", "C"),
-            2,
-            format!("the line has 2 fields in place of 3; {centre}"),
-        ),
-        (
-            changed("196608", "3.0"),
-            2,
-            format!("the field '3.0' has a decimal point: whole numbers are asked for; {centre}"),
-        ),
-        (
-            changed("196608", "19660800000000000000"),
-            2,
-            format!("a number has 20 digits, and 19 are the most; {centre}"),
-        ),
-        (
-            changed(",2,S", ",2"),
-            3,
-            format!("the line has 4 fields in place of 5; {radius}"),
-        ),
-        (
-            changed(",2,S", ",1000001,S"),
-            3,
-            format!("the moves are '1000001', and 1,000,000 are the most; {radius}"),
-        ),
-        (
-            changed(",2,S", ",2,s"),
-            3,
-            format!("the letter is 's'; {radius}"),
-        ),
-        (
-            changed("W,2", "\nW,2"),
-            4,
-            format!("the line is empty: {weights}"),
-        ),
-        (
-            changed("W,2", "W,0"),
-            4,
-            format!("the row is '0'; {weights}"),
-        ),
-        (
-            changed("W,2,32768", "W,2,0"),
-            4,
-            format!("the weight is '0', which is not above 0; {weights}"),
-        ),
-        (
-            changed("W,2,32768", "W,2, 32768"),
-            4,
-            format!(
-                "the field '\\x2032768' starts with a blank: there are no blanks in a line; {weights}"
-            ),
-        ),
-        (
-            RECORD
-                .lines()
-                .take(3)
-                .map(|line| format!("{line}\n"))
-                .collect(),
-            4,
-            format!("the record ends before this line: {weights}"),
-        ),
-        (
-            changed("W,3", "W,2"),
-            5,
-            format!("row 2 follows row 2; {weights}"),
-        ),
-        (
-            changed("W,3,32768\n", "W,3,32768"),
-            5,
-            format!(
-                "the line has no line end: each line ends in byte 10, the last one too; {weights}"
-            ),
-        ),
-        (
-            format!("{RECORD}\n"),
-            6,
-            "the line is empty: nothing follows the last W line".to_string(),
-        ),
-        (
-            format!("{RECORD}END\n"),
-            6,
-            format!("the line starts with 'END' in place of W; {weights}"),
-        ),
-    ];
-    for (record, line, hint) in cases {
-        assert_record(&record, 11, line, &hint);
+fn records_with_a_line_not_in_form() {
+    for (from, to, line, seen) in RECORD_EDITS {
+        let record = RECORD.replacen(from, to, 1);
+        assert_ne!(record, RECORD, "{from}");
+        assert_record(&record, (11, line), &format!("{seen}; {}", asked(line)));
+    }
+}
+
+#[test]
+fn records_that_end_early_or_late() {
+    let lines: Vec<String> = RECORD.lines().map(|line| format!("{line}\n")).collect();
+    for line in 2..=4 {
+        let start = lines[..line as usize - 1].concat();
+        let ends = "the record ends before this line";
+        assert_record(&start, (11, line), &format!("{ends}: {}", asked(line)));
+        let empty = format!("{start}\n");
+        assert_record(
+            &empty,
+            (11, line),
+            &format!("the line is empty: {}", asked(line)),
+        );
+    }
+    let empty = "the line is empty: nothing follows the last W line";
+    assert_record(&format!("{RECORD}\n"), (11, 6), empty);
+    let end = "the line has no line end: each line ends in byte 10, the last one too";
+    assert_record(RECORD.trim_end(), (11, 5), &format!("{end}; {}", asked(5)));
+}
+
+/// Records with a faulty heading, and the hints.
+const RECORD_HEADINGS: [(&str, &str); 5] = [
+    (
+        REFERENCE,
+        "the line starts with 'REF', as a reference text does; the first line is the heading: ENV, n and n tags",
+    ),
+    (
+        "env,2,TOC,CND\n",
+        "'env' has lower-case letters: the word is ENV",
+    ),
+    ("ENV,3,TOC,CND\n", "n is 3, with 2 tags behind it"),
+    ("ENV,2,TOC,CND\r\n", WINDOWS),
+    (
+        "\u{feff}ENV,2,TOC,CND\n",
+        "the line starts with a byte order mark (bytes EF BB BF): save the text as plain ASCII, or as UTF-8 without a mark",
+    ),
+];
+
+#[test]
+fn records_with_a_faulty_heading() {
+    for (record, hint) in RECORD_HEADINGS {
+        assert_record(record, (11, 1), hint);
     }
 }
 
 #[test]
 fn records_that_disagree() {
-    let rows = "a figure is not what these rows and the record's weights give: the record was drawn from other rows, \
-                or changed; draw it again from this reference text";
+    let again = "draw it again from this reference text";
+    let rows = format!(
+        "the record does not agree with these rows: it is of others, or was changed; {again}"
+    );
     for (from, to) in [
         ("C,196608", "C,196609"),
         ("W,2,32768", "W,2,32767"),
         ("W,3", "W,4"),
         (",2,S", ",2,B"),
     ] {
-        assert_record(&RECORD.replacen(from, to, 1), 12, 0, rows);
+        assert_record(&RECORD.replacen(from, to, 1), (12, 0), &rows);
     }
-    let tags = |tags: &str| {
-        format!(
-            "the record has the tags {tags}, and the reference text TOC,CND; draw it again from this reference text"
-        )
-    };
-    assert_record(
-        &RECORD.replacen("TOC,CND", "CND,TOC", 1),
-        12,
-        0,
-        &tags("CND,TOC"),
-    );
     let one = "ENV,1,TOC\nC,196608\nR,107374182400,107374182400,2,S\nW,2,32768\nW,3,32768\n";
-    assert_record(one, 12, 0, &tags("TOC"));
+    let exchanged = RECORD.replacen("TOC,CND", "CND,TOC", 1);
+    for (record, tags) in [(one, "TOC"), (&exchanged, "CND,TOC")] {
+        let hint =
+            format!("the record has the tags {tags}, and the reference text TOC,CND; {again}");
+        assert_record(record, (12, 0), &hint);
+    }
 }
 
 /// Judges readings against document 01's example.
 fn judge(readings: &[u8]) -> Ended {
     let folder = Folder::new();
-    let [reference, record] = [
-        folder.write("x.ref", REFERENCE),
-        folder.write("x.env", RECORD),
-    ];
-    envelope(
-        &["judge".as_ref(), reference.as_os_str(), record.as_os_str()],
-        readings,
-    )
+    let reference = folder.write("x.ref", REFERENCE);
+    let record = folder.write("x.env", RECORD);
+    let words = ["judge".as_ref(), reference.as_os_str(), record.as_os_str()];
+    envelope(&words, readings)
 }
+
+/// Readings that are refused by 3, and the hints.
+const NOT_IN_FORM: [(&str, &str); 12] = [
+    ("A,TOC,3,CND,4\r\n", WINDOWS),
+    ("\n", "the line is empty: remove it, each line is a reading"),
+    (
+        "A,3,4\n",
+        "the line has 3 fields, and 5 are asked for, a label, then tag and value of 2 channels; behind the label stand values without tags",
+    ),
+    (
+        "TOC,3,CND,4\n",
+        "the line has 4 fields, and 5 are asked for, a label, then tag and value of 2 channels; the line starts with the first tag, without a label",
+    ),
+    (
+        "A,TOC,3,CND,0,004\n",
+        "the line has 6 fields, and 5 are asked for, a label, then tag and value of 2 channels; '0,004' is two numbers with no tag between them, and a number has no comma",
+    ),
+    (
+        "A,TOC,3,CND,4,\n",
+        "the line ends in 1 comma too many: 5 fields are asked for, a label, then tag and value of 2 channels",
+    ),
+    (
+        "REF,2,TOC,CND\n",
+        "the line starts with REF, as a heading: readings have none",
+    ),
+    (
+        "# Monday\n",
+        "the line starts with '#': a text has no comment lines",
+    ),
+    (
+        "a,TOC,3,CND,4\n",
+        "the label 'a' has lower-case letters: a label is 1 to 12 bytes of A-Z, 0-9 and hyphen",
+    ),
+    (
+        "A,TOC,3,CND,0.004\n",
+        "value 2 (CND), '0.004', has a decimal point: values are whole numbers of steps of 0.001 µS/cm, and 0.004 µS/cm is 4",
+    ),
+    (
+        "A;TOC;3;CND;4\n",
+        "semicolons stand between the fields: fields are parted by commas, and by nothing else",
+    ),
+    (
+        "A,TOC,3,CND,4",
+        "the line has no line end: each line ends in byte 10, the last one too",
+    ),
+];
+
+/// Readings that are refused by 4.
+const BESIDE_RANGE: [(&str, &str); 2] = [
+    (
+        "A,TOC,2001,CND,4\n",
+        "value 1 (TOC), 2001, is 2001 ppb; TOC goes from 0 ppb to 2000 ppb (0 to 2000)",
+    ),
+    (
+        "A,TOC,3,CND,<0\n",
+        "value 2 (CND), '<0', is beside the range: behind < stands a number from 1 to 4000 (0.001 µS/cm to 4.000 µS/cm)",
+    ),
+];
+
+/// Readings that are refused by 10.
+const OTHER_TAGS: [(&str, &str); 5] = [
+    (
+        "A,CND,4,TOC,3\n",
+        "tag 1 is 'CND', and TOC is expected there: the same tags in another order; a reading is a label, then tag and value of TOC, CND in this order",
+    ),
+    (
+        "A,TOC,3,cnd,4\n",
+        "tag 2 is 'cnd', and CND is expected there: tags are in upper case; a reading is a label, then tag and value of TOC, CND in this order",
+    ),
+    (
+        "A,TOC,3,PH,4\n",
+        "tag 2 is 'PH', and CND is expected there: a reading is a label, then tag and value of TOC, CND in this order",
+    ),
+    (
+        "A,TOC,3,,4\n",
+        "tag 2 is '', and CND is expected there: a reading is a label, then tag and value of TOC, CND in this order",
+    ),
+    (
+        "A,TOC,3, CND,4\n",
+        "tag 2 is '\\x20CND', and CND is expected there: the tag starts with a blank, and there are no blanks in a line",
+    ),
+];
 
 #[test]
 fn single_readings() {
-    let form = "a reading is a label, then tag and value of TOC, CND in this order";
-    let fields = "5 are asked for, a label, then tag and value of 2 channels";
-    let cases = [
-        ("A,TOC,3,CND,4\r\n", 3, "the line has a Windows line end (bytes 13 and 10): save the text with Unix line ends (byte 10 alone)".to_string()),
-        ("\n", 3, "the line is empty: remove it, each line is a reading".to_string()),
-        ("A,3,4\n", 3, format!("the line has 3 fields, and {fields}; behind the label stand values without tags")),
-        ("TOC,3,CND,4\n", 3, format!("the line has 4 fields, and {fields}; the line starts with the first tag, without a label")),
-        ("A,TOC,3,CND,0,004\n", 3, format!("the line has 6 fields, and {fields}; '0,004' has no tag in it, and a number has no comma")),
-        ("A,TOC,3,CND,4,\n", 3, "the line ends in 1 comma too many: 5 fields are asked for, a label, then tag and value of 2 channels".to_string()),
-        ("REF,2,TOC,CND\n", 3, "the line starts with REF, as a heading: readings have none".to_string()),
-        ("a,TOC,3,CND,4\n", 3, "the label 'a' has lower-case letters: a label is 1 to 12 bytes of A-Z, 0-9 and hyphen".to_string()),
-        ("A,TOC,3,CND,0.004\n", 3, "value 2 (CND), '0.004', has a decimal point: values are whole numbers of steps of 0.001 µS/cm, and 0.004 µS/cm is 4".to_string()),
-        ("A;TOC;3;CND;4\n", 3, "semicolons stand between the fields: fields are parted by commas, and by nothing else".to_string()),
-        ("A,TOC,3,CND,4", 3, "the line has no line end: each line ends in byte 10, the last one too".to_string()),
-        ("A,TOC,2001,CND,4\n", 4, "value 1 (TOC), 2001, is 2001 ppb; TOC goes from 0 ppb to 2000 ppb (0 to 2000)".to_string()),
-        ("A,TOC,3,CND,<0\n", 4, "value 2 (CND), '<0', is beside the range: behind < stands a number from 1 to 4000 (0.001 µS/cm to 4.000 µS/cm)".to_string()),
-        ("A,CND,4,TOC,3\n", 10, format!("tag 1 is 'CND', and TOC is expected there: the same tags in another order; {form}")),
-        ("A,TOC,3,cnd,4\n", 10, format!("tag 2 is 'cnd', and CND is expected there: tags are in upper case; {form}")),
-        ("A,TOC,3,PH,4\n", 10, format!("tag 2 is 'PH', and CND is expected there: {form}")),
-        ("A,TOC,3, CND,4\n", 10, "tag 2 is '\\x20CND', and CND is expected there: the tag starts with a blank, and there are no blanks in a line".to_string()),
-    ];
-    for (reading, number, hint) in cases {
-        let ended = judge(reading.as_bytes());
-        assert_eq!(
-            (ended.status, ended.text()),
-            (3, &*format!("NO,{number},1\n")),
-            "{reading:?}"
-        );
-        let reason = match number {
-            3 => "line not in form",
-            4 => "value outside its type's range",
-            _ => "tag that is not the envelope's",
-        };
-        let told =
-            format!("envelope: standard input, line 1: refused by {number}: {reason}\n  {hint}\n");
-        assert_eq!(ended.messages, told, "{reading:?}");
+    let form = (3, "line not in form", &NOT_IN_FORM[..]);
+    let range = (4, "value outside its type's range", &BESIDE_RANGE[..]);
+    let tag = (10, "tag that is not the envelope's", &OTHER_TAGS[..]);
+    for (number, reason, readings) in [form, range, tag] {
+        for (reading, hint) in readings {
+            let ended = judge(reading.as_bytes());
+            assert_eq!(
+                (ended.status, ended.text()),
+                (3, &*format!("NO,{number},1\n"))
+            );
+            let start = format!("envelope: standard input, line 1: refused by {number}: {reason}");
+            assert_eq!(
+                ended.messages,
+                format!("{start}\n  {hint}\n"),
+                "{reading:?}"
+            );
+        }
     }
 }
 
@@ -398,30 +435,29 @@ fn many_refused_readings() {
 #[test]
 fn texts_of_no_byte_and_of_too_many() {
     let long = vec![b'A'; TEXT_LIMIT + 1];
-    for (text, words) in [
-        (&b""[..], ["is empty", "is empty", "are empty"]),
-        (&long, ["has", "has", "have"]),
+    let size = "more than 65,536 bytes";
+    for (place, name, is, has) in [
+        (0, "the reference text", "is", "has"),
+        (1, "the record", "is", "has"),
+        (2, "the readings together", "are", "have"),
     ] {
-        let names = ["the reference text", "the record", "the readings together"];
-        for place in 0..3 {
-            let mut texts = [REFERENCE.as_bytes(), RECORD.as_bytes(), b"A,TOC,3,CND,4\n"];
-            texts[place] = text;
-            let folder = Folder::new();
-            let files = folder.write_texts(&texts);
-            let words = match text.is_empty() {
-                true => words[place].to_string(),
-                false => format!("{} more than 65,536 bytes", words[place]),
-            };
-            let ended = end(command(path()).arg("judge").args(&files), b"");
-            assert_eq!((ended.status, ended.text()), (1, "NO,1,0\n"));
-            let file = programs::quoted(files[place].as_os_str().as_encoded_bytes());
-            let told = format!(
-                "envelope: {file}: refused by 1: text empty or above 65,536 bytes\n  {} {words}\n",
-                names[place]
-            );
-            assert_eq!(ended.messages, told);
-        }
+        assert_size(place, b"", &format!("{name} {is} empty"));
+        assert_size(place, &long, &format!("{name} {has} {size}"));
     }
+}
+
+/// Asserts what is told of texts for `judge`, of which one is refused for its size.
+fn assert_size(place: usize, text: &[u8], hint: &str) {
+    let mut texts = [REFERENCE, RECORD, READING].map(str::as_bytes);
+    texts[place] = text;
+    let folder = Folder::new();
+    let files = folder.write_texts(&texts);
+    let ended = end(command(path()).arg("judge").args(&files), b"");
+    assert_eq!((ended.status, ended.text()), (1, "NO,1,0\n"));
+    let file = programs::quoted(files[place].as_os_str().as_encoded_bytes());
+    let told =
+        format!("envelope: {file}: refused by 1: text empty or above 65,536 bytes\n  {hint}\n");
+    assert_eq!(ended.messages, told);
 }
 
 /// Asserts that every message is of short lines without control bytes.
@@ -441,7 +477,7 @@ fn assert_harmless(ended: &Ended) {
     }
 }
 
-/// Escape sequences, bytes 0 and above 127 and very long fields in the place of each field of each text.
+/// Escape sequences, bytes 0 and above 127 and very long fields, before each field of each text.
 #[test]
 fn hostile_bytes() {
     let hostile: [&[u8]; 7] = [
@@ -453,28 +489,25 @@ fn hostile_bytes() {
         &[b'9'; 60_000],
         &[b','; 60_000],
     ];
-    let readings = "A,TOC,3,CND,4\n";
+    let texts = [REFERENCE, RECORD, READING].map(str::as_bytes);
     for bytes in hostile {
-        for (place, text) in [REFERENCE, RECORD, readings].into_iter().enumerate() {
-            let starts = (0..text.len())
-                .filter(|&start| start == 0 || b",\n".contains(&text.as_bytes()[start - 1]));
-            for start in starts {
-                let damaged =
-                    [&text.as_bytes()[..start], bytes, &text.as_bytes()[start..]].concat();
-                let mut texts = [REFERENCE.as_bytes(), RECORD.as_bytes(), readings.as_bytes()];
-                texts[place] = &damaged;
+        for (place, text) in texts.into_iter().enumerate() {
+            for start in field_starts(text) {
+                let mut texts = texts.map(<[u8]>::to_vec);
+                texts[place].splice(start..start, bytes.iter().copied());
                 let folder = Folder::new();
-                let ended = end(
-                    command(path())
-                        .arg("judge")
-                        .args(folder.write_texts(&texts)),
-                    b"",
-                );
+                let files = folder.write_texts(&texts);
+                let ended = end(command(path()).arg("judge").args(files), b"");
                 assert!([1, 3].contains(&ended.status), "{}", ended.messages);
                 assert_harmless(&ended);
             }
         }
     }
+}
+
+fn field_starts(text: &[u8]) -> Vec<usize> {
+    let starts = |&start: &usize| start == 0 || b",\n".contains(&text[start - 1]);
+    (0..text.len()).filter(starts).collect()
 }
 
 /// The name of a file is a stranger's too.
