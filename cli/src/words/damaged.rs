@@ -145,11 +145,7 @@ fn something_is_seen_on_a_refused_line() {
         };
         if let Err(refusal) = read(&text) {
             refused[refusal.number as usize] += 1;
-            let hint = if refusal.number == 1 {
-                "empty".into()
-            } else {
-                reference::hint(&text, refusal)
-            };
+            let hint = reference::hint(&text, refusal);
             require_seen(&hint, &text);
         }
         let line = random.damaged(READING);

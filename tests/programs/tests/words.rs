@@ -240,7 +240,8 @@ fn records_that_end_early_or_late() {
 const RECORD_HEADINGS: [(&str, &str); 5] = [
     (
         REFERENCE,
-        "the line starts with 'REF', as a reference text does; the first line is the heading: ENV, n and n tags",
+        "the line starts with 'REF', as a reference text does; the first line is the heading: \
+         ENV, n and n tags",
     ),
     (
         "env,2,TOC,CND\n",
@@ -250,7 +251,8 @@ const RECORD_HEADINGS: [(&str, &str); 5] = [
     ("ENV,2,TOC,CND\r\n", WINDOWS),
     (
         "\u{feff}ENV,2,TOC,CND\n",
-        "the line starts with a byte order mark (bytes EF BB BF): save the text as plain ASCII, or as UTF-8 without a mark",
+        "the line starts with a byte order mark (bytes EF BB BF): save the text as plain ASCII, \
+         or as UTF-8 without a mark",
     ),
 ];
 
@@ -299,19 +301,23 @@ const NOT_IN_FORM: [(&str, &str); 12] = [
     ("\n", "the line is empty: remove it, each line is a reading"),
     (
         "A,3,4\n",
-        "the line has 3 fields, and 5 are asked for, a label, then tag and value of 2 channels; behind the label stand values without tags",
+        "the line has 3 fields, and 5 are asked for, a label, then tag and value of 2 channels; \
+         behind the label stand values without tags",
     ),
     (
         "TOC,3,CND,4\n",
-        "the line has 4 fields, and 5 are asked for, a label, then tag and value of 2 channels; the line starts with the first tag, without a label",
+        "the line has 4 fields, and 5 are asked for, a label, then tag and value of 2 channels; \
+         the line starts with the first tag, without a label",
     ),
     (
         "A,TOC,3,CND,0,004\n",
-        "the line has 6 fields, and 5 are asked for, a label, then tag and value of 2 channels; '0,004' is two numbers with no tag between them, and a number has no comma",
+        "the line has 6 fields, and 5 are asked for, a label, then tag and value of 2 channels; \
+         '0,004' is two numbers with no tag between them, and a number has no comma",
     ),
     (
         "A,TOC,3,CND,4,\n",
-        "the line ends in 1 comma too many: 5 fields are asked for, a label, then tag and value of 2 channels",
+        "the line ends in 1 comma too many: 5 fields are asked for, a label, then tag and value \
+         of 2 channels",
     ),
     (
         "REF,2,TOC,CND\n",
@@ -327,7 +333,8 @@ const NOT_IN_FORM: [(&str, &str); 12] = [
     ),
     (
         "A,TOC,3,CND,0.004\n",
-        "value 2 (CND), '0.004', has a decimal point: values are whole numbers of steps of 0.001 µS/cm, and 0.004 µS/cm is 4",
+        "value 2 (CND), '0.004', has a decimal point: values are whole numbers of steps of 0.001 \
+         µS/cm, and 0.004 µS/cm is 4",
     ),
     (
         "A;TOC;3;CND;4\n",
@@ -347,7 +354,8 @@ const BESIDE_RANGE: [(&str, &str); 2] = [
     ),
     (
         "A,TOC,3,CND,<0\n",
-        "value 2 (CND), '<0', is beside the range: behind < stands a number from 1 to 4000 (0.001 µS/cm to 4.000 µS/cm)",
+        "value 2 (CND), '<0', is beside the range: behind < stands a number from 1 to 4000 (0.001 \
+         µS/cm to 4.000 µS/cm)",
     ),
 ];
 
@@ -355,23 +363,28 @@ const BESIDE_RANGE: [(&str, &str); 2] = [
 const OTHER_TAGS: [(&str, &str); 5] = [
     (
         "A,CND,4,TOC,3\n",
-        "tag 1 is 'CND', and TOC is expected there: the same tags in another order; a reading is a label, then tag and value of TOC, CND in this order",
+        "tag 1 is 'CND', and TOC is expected there: the same tags in another order; a reading is \
+         a label, then tag and value of TOC, CND in this order",
     ),
     (
         "A,TOC,3,cnd,4\n",
-        "tag 2 is 'cnd', and CND is expected there: tags are in upper case; a reading is a label, then tag and value of TOC, CND in this order",
+        "tag 2 is 'cnd', and CND is expected there: tags are in upper case; a reading is a label, \
+         then tag and value of TOC, CND in this order",
     ),
     (
         "A,TOC,3,PH,4\n",
-        "tag 2 is 'PH', and CND is expected there: a reading is a label, then tag and value of TOC, CND in this order",
+        "tag 2 is 'PH', and CND is expected there: a reading is a label, then tag and value of \
+         TOC, CND in this order",
     ),
     (
         "A,TOC,3,,4\n",
-        "tag 2 is '', and CND is expected there: a reading is a label, then tag and value of TOC, CND in this order",
+        "tag 2 is '', and CND is expected there: a reading is a label, then tag and value of TOC, \
+         CND in this order",
     ),
     (
         "A,TOC,3, CND,4\n",
-        "tag 2 is '\\x20CND', and CND is expected there: the tag starts with a blank, and there are no blanks in a line",
+        "tag 2 is '\\x20CND', and CND is expected there: the tag starts with a blank, and there \
+         are no blanks in a line",
     ),
 ];
 
