@@ -77,7 +77,7 @@ fn carriage_return(line: Line<'_>) -> Option<String> {
             "byte 13, an old Mac line end, stands in the line, and no byte 10 ends it"
         }
         (false, true, false) => "the line ends in byte 13 and has no byte 10",
-        (true, false, true) => "byte 13 stands in the middle of the line",
+        (true, false, true) => "byte 13 stands in the line",
         (false, false, _) => return None,
     };
     Some(format!("{seen}: {UNIX_LINE_ENDS}"))
@@ -101,9 +101,9 @@ fn quotes(line: Line<'_>) -> Option<String> {
 fn separator(line: Line<'_>) -> Option<String> {
     let (commas, inside) = (line.has(b','), line.bytes.trim_ascii());
     let seen = match (line.has(b';'), inside.contains(&b'\t'), commas) {
-        (true, _, false) => "semicolons stand between the fields",
+        (true, _, false) => "the line has semicolons and no comma",
         (true, _, true) => "the line has a semicolon",
-        (false, true, false) => "tabs stand between the fields",
+        (false, true, false) => "the line has tabs and no comma",
         (false, false, false) if inside.contains(&b' ') => "the line has blanks and no comma",
         _ => return None,
     };

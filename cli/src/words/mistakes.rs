@@ -177,7 +177,7 @@ fn values_not_in_form() {
 }
 
 #[test]
-fn values_beside_their_range() {
+fn values_outside_their_range() {
     require_value(4, |channel, random| {
         let steps = match random.index(2) {
             0 => channel.low - 1 - random.index(3_000) as i32,
@@ -190,12 +190,12 @@ fn values_beside_their_range() {
 }
 
 #[test]
-fn values_below_detection_beside_their_range() {
+fn values_below_detection_outside_their_range() {
     require_value(4, |channel, random| {
         let high = channel.high;
         let number = [0, -5, high + 1][random.index(3)];
         let start = format!(
-            ", '<{number}', is beside the range: behind < stands a number from 1 to {high} ("
+            ", '<{number}', is outside the range: behind < stands a number from 1 to {high} ("
         );
         (format!("<{number}"), start, String::new())
     });
@@ -234,7 +234,7 @@ fn rows_saved_otherwise() {
     for (sign, name) in [(";", "semicolons"), ("\t", "tabs")] {
         require_row(|case| {
             case.rows[case.row] = vec![case.rows[case.row].join(sign)];
-            format!("{name} stand between the fields")
+            format!("the line has {name} and no comma")
         });
     }
     require_row(|case| {

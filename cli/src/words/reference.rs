@@ -36,7 +36,7 @@ fn empty(text: &[u8], number: u32) -> String {
 
 /// Blanks alone, or a heading again.
 fn no_row(parts: &[&[u8]], line: Line<'_>) -> Option<String> {
-    if line.bytes.trim_ascii().is_empty() {
+    if line.bytes.iter().all(|byte| b" \t".contains(byte)) {
         return Some(
             "the line has only blanks: remove it, each line behind the heading is a row"
                 .to_string(),
@@ -83,7 +83,7 @@ fn rows(text: &[u8], line: Option<Line<'_>>) -> String {
     let asked = format!("a reference text has 1 to {ROWS} rows");
     match line {
         None => format!("no row follows the heading: {asked}"),
-        Some(line) if line.bytes.trim_ascii().is_empty() => format!(
+        Some(line) if line.bytes.is_empty() => format!(
             "the line is empty, where a row past the last would stand: {asked} and no empty line"
         ),
         Some(_) => {

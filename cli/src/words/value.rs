@@ -1,4 +1,4 @@
-//! A value under its channel's type: what keeps it from being in form, or where it lies beside its range.
+//! A value under its channel's type: what keeps it from being in form, or how it lies outside its range.
 
 use super::line::Place;
 use super::number::Fault;
@@ -123,13 +123,13 @@ pub fn exact(channel: &Type, number: &[u8]) -> Option<i64> {
     Some(if negative { -count } else { count })
 }
 
-/// Where a value in form lies beside its range.
+/// How a value in form lies outside its range.
 fn range(subject: &str, channel: &Type, text: &[u8]) -> String {
     let Type { tag, low, high, .. } = channel;
     let of = |steps: i32| units::whole(channel, i64::from(steps));
     if text.starts_with(b"<") {
         return format!(
-            "{subject}, {}, is beside the range: behind < stands a number from 1 to {high} ({} to {})",
+            "{subject}, {}, is outside the range: behind < stands a number from 1 to {high} ({} to {})",
             field(text),
             of(1),
             of(*high)

@@ -338,7 +338,7 @@ const NOT_IN_FORM: [(&str, &str); 12] = [
     ),
     (
         "A;TOC;3;CND;4\n",
-        "semicolons stand between the fields: fields are parted by commas, and by nothing else",
+        "the line has semicolons and no comma: fields are parted by commas, and by nothing else",
     ),
     (
         "A,TOC,3,CND,4",
@@ -347,14 +347,14 @@ const NOT_IN_FORM: [(&str, &str); 12] = [
 ];
 
 /// Readings that are refused by 4.
-const BESIDE_RANGE: [(&str, &str); 2] = [
+const OUTSIDE_RANGE: [(&str, &str); 2] = [
     (
         "A,TOC,2001,CND,4\n",
         "value 1 (TOC), 2001, is 2001 ppb; TOC goes from 0 ppb to 2000 ppb (0 to 2000)",
     ),
     (
         "A,TOC,3,CND,<0\n",
-        "value 2 (CND), '<0', is beside the range: behind < stands a number from 1 to 4000 (0.001 \
+        "value 2 (CND), '<0', is outside the range: behind < stands a number from 1 to 4000 (0.001 \
          µS/cm to 4.000 µS/cm)",
     ),
 ];
@@ -391,7 +391,7 @@ const OTHER_TAGS: [(&str, &str); 5] = [
 #[test]
 fn single_readings() {
     let form = (3, "line not in form", &NOT_IN_FORM[..]);
-    let range = (4, "value outside its type's range", &BESIDE_RANGE[..]);
+    let range = (4, "value outside its type's range", &OUTSIDE_RANGE[..]);
     let tag = (10, "tag that is not the envelope's", &OTHER_TAGS[..]);
     for (number, reason, readings) in [form, range, tag] {
         for (reading, hint) in readings {
