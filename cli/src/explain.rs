@@ -2,9 +2,9 @@
 
 use crate::columns::{Side, aligned};
 use crate::distances::{farthest_channel, share_above, share_below};
-use crate::judged::{Reading, reason};
+use crate::judged::Reading;
 use crate::types;
-use crate::{shown, units};
+use crate::{shown, units, words};
 use cundarivo::{Figures, Measured, TOTAL, Verdict};
 
 const HEADING: [&str; 5] = ["line", "label", "verdict", "of radius", "most in"];
@@ -41,7 +41,7 @@ fn line(figures: &Figures, number: usize, reading: &Reading<'_>) -> Vec<String> 
             ]);
         }
         Err(refusal) => {
-            let reason = reason(refusal, reading.line, &figures.codes);
+            let reason = words::refused_reading(*refusal, reading.line, &figures.codes);
             cells.extend(["TURNED BACK".to_string(), reason]);
         }
     }

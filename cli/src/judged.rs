@@ -27,12 +27,6 @@ impl Reading<'_> {
     }
 }
 
-/// Why a reading is turned back, in one line: where `words` is asked, with the reading's line (with its byte 10,
-/// where it has one) and the codes of the channels.
-pub fn reason(refusal: &Refusal, _line: &[u8], _codes: &[u8]) -> String {
-    refusal.to_string()
-}
-
 /// Every reading of accepted texts, once the whole answer of the program is what they ask for.
 pub fn measure_all<'t>(
     figures: &Figures,

@@ -3,7 +3,7 @@
 use crate::arguments::Words;
 use crate::examined::{Reference, Refused, require_answer};
 use crate::explain;
-use crate::failure::{self, Failure};
+use crate::failure::Failure;
 use crate::judged::{self, Reading};
 use crate::output;
 use crate::status::Status;
@@ -37,9 +37,6 @@ pub fn panel(words: &[OsString]) -> Result<Status, Failure> {
     conclude(refused, &answer, b"")
 }
 
-/// The most readings that are told in words.
-const TOLD_READINGS: usize = 20;
-
 pub fn judge(words: &[OsString]) -> Result<Status, Failure> {
     let words = Words::of(words, &["--explain"])?;
     let [reference, record, readings] = &read_named("judge", &words)?;
@@ -58,29 +55,12 @@ pub fn judge(words: &[OsString]) -> Result<Status, Failure> {
         output::print(explain::explained(&figures, &judged).as_bytes())?;
     } else {
         output::print(&answer)?;
-        tell_turned_back(readings, &figures.codes, &judged);
+        words::tell_refused_readings(readings, &judged, &figures.codes);
     }
     Ok(match judged.iter().all(Reading::is_quiet) {
         true => Status::Done,
         false => Status::NotAllQuiet,
     })
-}
-
-/// Says in words why readings are turned back: of the first ones, and how many more there are.
-fn tell_turned_back(text: &Text, codes: &[u8], readings: &[Reading<'_>]) {
-    let numbered = readings.iter().enumerate();
-    let mut turned_back = numbered.filter_map(|(index, reading)| {
-        let refusal = reading.measured.as_ref().err()?;
-        Some((index + 1, judged::reason(refusal, reading.line, codes)))
-    });
-    let source = text.source.shown();
-    for (number, reason) in turned_back.by_ref().take(TOLD_READINGS) {
-        failure::tell(&format!("{source}, line {number}: {reason}"));
-    }
-    match turned_back.count() {
-        0 => {}
-        more => failure::tell(&format!("{source}: {more} more readings are turned back")),
-    }
 }
 
 fn read_texts<const COUNT: usize>(

@@ -21,6 +21,7 @@ mod value;
 
 use crate::examined::{Kind, Refused};
 use crate::failure;
+use crate::judged::Reading;
 use crate::refusals;
 use crate::shown;
 use crate::texts::Text;
@@ -36,35 +37,30 @@ pub fn tell_refused(refused: &Refused<'_>) {
     tell(refused.text, refused.refusal, &hint(refused));
 }
 
-/// Tells the first refused readings of those that `judge` answered, and how many more there are.
-pub fn tell_refused_readings(readings: &Text, answer: &[u8], codes: &[u8]) {
-    let lines = readings.bytes.split_inclusive(|&byte| byte == b'\n');
-    let answers = answer.split(|&byte| byte == b'\n').map(refused_by);
-    let answered = (1..).zip(lines).zip(answers);
-    let refused: Vec<(u32, &[u8], u32)> = answered
-        .filter_map(|((place, line), number)| Some((place, line, number?)))
-        .collect();
-    for &(place, line, number) in refused.iter().take(TOLD) {
-        let hint = reading::hint(Refusal { number, line: 1 }, line, codes);
-        let refusal = Refusal {
-            number,
-            line: place,
-        };
-        tell(readings, refusal, &hint);
+/// Tells the first refused readings, and how many more there are. `codes` are those of the envelope.
+pub fn tell_refused_readings(text: &Text, readings: &[Reading<'_>], codes: &[u8]) {
+    let mut refused = (1..).zip(readings).filter_map(|(place, reading)| {
+        let refusal = *reading.measured.as_ref().err()?;
+        Some((place, refusal, reading.line))
+    });
+    for (place, refusal, line) in refused.by_ref().take(TOLD) {
+        let hint = reading::hint(refusal, line, codes);
+        let number = refusal.number;
+        tell(
+            text,
+            Refusal {
+                number,
+                line: place,
+            },
+            &hint,
+        );
     }
-    let more = match refused.len().saturating_sub(TOLD) {
+    let more = match refused.count() {
         0 => return,
         1 => "1 more reading is refused".to_string(),
         more => format!("{more} more readings are refused"),
     };
-    failure::tell(&format!("{}: {more}", readings.source.shown()));
-}
-
-/// The number of a refused reading's answer, `NO,3,1`.
-fn refused_by(answer: &[u8]) -> Option<u32> {
-    let answer = std::str::from_utf8(answer).ok()?;
-    let (number, _) = answer.strip_prefix("NO,")?.split_once(',')?;
-    number.parse().ok()
+    failure::tell(&format!("{}: {more}", text.source.shown()));
 }
 
 /// Number, reason and hint of a refused reading, on one line. `line` is the reading with its byte 10 where
