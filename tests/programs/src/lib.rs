@@ -2,13 +2,13 @@
 //! repository.
 //!
 //! - `process`: running a command to its end on input, whole, in pieces or endless.
-//! - `call`: running a program on its texts, by itself and through the script.
+//! - `call`: running a program on its texts, by itself and as a command of `envelope`.
 //! - `system`: calls of the system that the standard library has not: fifos, pipes that are not ready,
 //!   peak memory, kills, another user.
 //! - `folder`: temporary folders.
 //! - `presented`: what the command prints for people, read back.
-//! - `script`: running `./envelope`.
-//! - `repository`: the script in a folder of its own, with other tools or programs.
+//! - `script`: running the program that `./envelope` starts.
+//! - `repository`: `./envelope` in a folder of its own, with other tools and another program.
 
 pub mod call;
 pub mod folder;

@@ -31,6 +31,14 @@ impl Ended {
         assert_eq!((self.text(), self.status), ("", status));
     }
 
+    /// Asserts that each line of the messages is one of the command's.
+    pub fn assert_words(&self) {
+        for line in self.messages.lines() {
+            let ours = line.starts_with("envelope: ") || line.starts_with("  ");
+            assert!(ours, "{}", self.messages);
+        }
+    }
+
     /// Asserts status 2, no output, and a message with these words.
     pub fn assert_failed(&self, words: &str) {
         assert_eq!((self.status, self.text()), (2, ""), "{}", self.messages);

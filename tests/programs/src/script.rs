@@ -11,6 +11,11 @@ pub fn path() -> PathBuf {
     path
 }
 
+/// `./envelope` itself, which builds that program where the sources have changed, and starts it.
+pub fn starter() -> PathBuf {
+    crate::root().join("envelope")
+}
+
 pub fn envelope<Word: AsRef<OsStr>>(words: &[Word], input: &[u8]) -> Ended {
     end(command(path()).args(words), input)
 }

@@ -32,15 +32,19 @@ const O_NONBLOCK: i32 = 0o4000;
 const O_DIRECT: i32 = 0o40000;
 const NOBODY: u32 = 65_534;
 
-/// Waits for a child, which must end with status 0, and gives the most kibibytes that it had resident.
-/// What the calling process has resident counts as well, so that this is at least the child's own peak.
-pub fn wait_for_peak(child: Child) -> i64 {
+/// Waits for a child, and gives its status and the most kibibytes that it had resident. What the calling
+/// process has resident counts as well, so that this is at least the child's own peak.
+pub fn wait_for_peak(child: Child) -> (i32, i64) {
     let (mut status, mut usage) = (0, ResourceUsage::default());
     let id = child.id() as i32;
     // SAFETY: both pointers are to places of this function, as large as C's.
     let ended = unsafe { wait4(id, &mut status, 0, &mut usage) };
-    assert_eq!((ended, status), (id, 0), "the program ends with status 0");
-    usage.peak_kibibytes
+    assert_eq!(
+        (ended, status & 0x7f),
+        (id, 0),
+        "a program that is not killed"
+    );
+    (status >> 8, usage.peak_kibibytes)
 }
 
 /// Kills the process group that a child leads, and waits for the child. False where it had ended

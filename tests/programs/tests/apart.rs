@@ -1,5 +1,5 @@
 //! A text that holds other texts, or stands in the place of another, is refused as what it stands for: by
-//! the program itself and through the script.
+//! the program in Rattle and by the command.
 
 use programs::call::{WAYS, Way, run};
 use programs::folder::Folder;
@@ -21,8 +21,7 @@ fn assert_refused(name: &str, texts: &[&str], output: &str) {
     let folder = Folder::new();
     let files = folder.write_texts(texts);
     for way in WAYS {
-        let ended = way.run(name, &files);
-        ended.assert_printed(output, way.refused());
+        way.assert_answer(&way.run(name, &files), name, output);
     }
 }
 
@@ -48,14 +47,15 @@ fn the_stranger_gains_nothing_without_embedding() {
     assert_eq!(alarm, format!("ALARM,{excess}\n").as_bytes());
 }
 
-/// Joined texts on standard input are one text: none of them is found by the script.
+/// Joined texts on standard input are one text: none of them is found by the command.
 #[test]
 fn joined_texts_are_not_taken_apart() {
     let embedded = format!("{WIDE}\n{}", record(WIDE));
     let joined = format!("{embedded}\n{}\n{HIGH}", record(HONEST));
     let ended = envelope(&["judge"], joined.as_bytes());
     ended.assert_failed("too few or too many texts");
-    envelope(&["draw"], joined.as_bytes()).assert_printed("NO,3,4\n", 1);
+    let ended = envelope(&["draw"], joined.as_bytes());
+    Way::Command.assert_answer(&ended, "draw", "NO,3,4\n");
 }
 
 #[test]
@@ -79,7 +79,7 @@ fn texts_embedded_in_the_readings_are_readings() {
     let (form, tag) = ("NO,3,1\n".repeat(8), "NO,10,1\n".repeat(2));
     let verdicts = format!("QUIET\n{form}{tag}NO,3,1\nQUIET\n");
     for way in WAYS {
-        way.run("judge", &files).assert_printed(&verdicts, 0);
+        way.assert_answer(&way.run("judge", &files), "judge", &verdicts);
     }
 }
 
@@ -135,7 +135,7 @@ fn the_same_file_twice_is_refused_in_the_second_place() {
     let [reference, record, readings] = [&files[0], &files[1], &files[2]];
     for way in WAYS {
         let refused = |name, files: &[&std::path::PathBuf], output| {
-            way.run(name, files).assert_printed(output, way.refused());
+            way.assert_answer(&way.run(name, files), name, output);
         };
         refused("verify", &[reference, reference], "NO,11,1\n");
         refused("panel", &[reference, reference], "NO,11,1\n");
@@ -145,6 +145,8 @@ fn the_same_file_twice_is_refused_in_the_second_place() {
         refused("judge", &[record, record, record], "NO,2,1\n");
     }
     // Each line of a record is a reading that is not in form.
-    let ended = Way::Script.run("judge", &[reference, record, record]);
-    ended.assert_printed(&"NO,3,1\n".repeat(5), 0);
+    for way in WAYS {
+        let ended = way.run("judge", &[reference, record, record]);
+        way.assert_answer(&ended, "judge", "NO,3,1\n".repeat(5));
+    }
 }

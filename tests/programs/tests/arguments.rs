@@ -1,4 +1,5 @@
-//! The programs' arguments: their number, their length, and names of files of any bytes.
+//! The arguments of the programs and of their commands: their number, their length, and names of files of
+//! any bytes.
 
 use programs::call::{WAYS, Way};
 use programs::folder::Folder;
@@ -63,19 +64,21 @@ fn in_each_place(name: &OsStr, mut try_files: impl FnMut(&str, usize, &[OsString
     }
 }
 
+/// A program has room for the longest name alone, and says which argument is longer.
 #[test]
 fn an_argument_too_long_is_told() {
     let start = format!("'{}'...: File name too long", "a".repeat(60));
     for (length, counted) in [(LONGEST, false), (LONGEST + 1, true), (100_000, true)] {
         let name = OsString::from("a".repeat(length));
         in_each_place(&name, |program, place, files| {
-            let line = match counted {
-                true => format!("{program}: argument {} {start}", place + 1),
-                false => format!("{program}: {start}"),
+            let argument = match counted {
+                true => format!("argument {} ", place + 1),
+                false => String::new(),
             };
-            for way in WAYS {
-                way.run(program, files).assert_told(&line, way.failed());
-            }
+            let line = format!("{program}: {argument}{start}");
+            Way::Program.run(program, files).assert_told(&line, 0);
+            let line = format!("envelope: {start}");
+            Way::Command.run(program, files).assert_told(&line, 2);
         });
     }
 }
@@ -90,11 +93,11 @@ fn the_longest_name_is_opened() {
             .iter()
             .map(|file| file.display().to_string())
             .collect();
-        for file in &mut files[..texts(name) - 1] {
+        for file in &mut files {
             *file = "/".repeat(LONGEST - 1 - file.len()) + file;
         }
         for way in WAYS {
-            way.run(name, &files).assert_printed(answer(name), 0);
+            way.assert_answer(&way.run(name, &files), name, answer(name));
         }
     }
 }
@@ -102,8 +105,8 @@ fn the_longest_name_is_opened() {
 #[test]
 fn an_empty_argument_names_no_file() {
     in_each_place(OsStr::new(""), |program, _, files| {
-        let line = format!("{program}: '': No such file or directory");
         for way in WAYS {
+            let line = format!("{}: '': No such file or directory", way.teller(program));
             way.run(program, files).assert_told(&line, way.failed());
         }
     });
@@ -149,7 +152,7 @@ fn odd_names() -> Vec<OsString> {
     names.chain(bytes).chain(lengths).collect()
 }
 
-/// The script takes `-` for standard input, also behind `--`.
+/// The command takes `-` for standard input, also behind `--`.
 fn words(files: &[OsString]) -> Vec<OsString> {
     let word = |file: &OsString| match file == "-" {
         true => OsString::from("./-"),
@@ -177,8 +180,8 @@ fn a_file_of_any_name_is_read() {
                 let mut alone = Way::Program.command(name, before);
                 let ended = end_on(alone.current_dir(folder.path()), input);
                 ended.assert_printed(answer(name), 0);
-                let mut script = Way::Script.command(name, &words(&files));
-                let ended = end(script.current_dir(folder.path()), b"");
+                let mut command = Way::Command.command(name, &words(&files));
+                let ended = end(command.current_dir(folder.path()), b"");
                 ended.assert_printed(answer(name), 0);
             }
         }
@@ -189,59 +192,59 @@ fn a_file_of_any_name_is_read() {
 fn a_missing_file_of_any_name_is_told_in_one_line_of_printable_bytes() {
     for odd in odd_names() {
         let folder = Folder::new();
+        let reason = format!("{}: No such file or directory", quoted(odd.as_bytes()));
+        assert!(reason.bytes().all(|byte| (32..127).contains(&byte)));
         in_each_place(&odd, |program, _, files| {
-            let line = format!(
-                "{program}: {}: No such file or directory",
-                quoted(odd.as_bytes())
-            );
-            assert!(line.bytes().all(|byte| (32..127).contains(&byte)));
             let before = &files[..files.len() - 1];
             let mut alone = Way::Program.command(program, before);
-            end(alone.current_dir(folder.path()), b"").assert_told(&line, 0);
+            let ended = end(alone.current_dir(folder.path()), b"");
+            ended.assert_told(&format!("{program}: {reason}"), 0);
             if odd != "-" {
-                let mut script = Way::Script.command(program, &words(files));
-                end(script.current_dir(folder.path()), b"").assert_told(&line, 2);
+                let mut command = Way::Command.command(program, &words(files));
+                let ended = end(command.current_dir(folder.path()), b"");
+                ended.assert_told(&format!("envelope: {reason}"), 2);
             }
         });
     }
 }
 
-/// As the shell would take it for an argument.
+/// By itself a program gets no last text that cannot be opened. A locale changes nothing.
 #[test]
-fn a_missing_last_file_is_told_by_the_script_in_one_line() {
+fn a_missing_last_file_is_told_by_the_command_in_one_line() {
     let long = "n".repeat(300);
-    let names: [(&[u8], &str, &str); 13] = [
-        (b"x.ref", "x.ref", "No such file or directory"),
-        (b"two words", "two\\ words", "No such file or directory"),
-        (b"line\nend", "$'line\\nend'", "No such file or directory"),
-        (b"a: b\nc: d", "$'a: b\\nc: d'", "No such file or directory"),
-        (b"\xff\xfe", "$'\\377\\376'", "No such file or directory"),
-        (b": \xff: x", "$': \\377: x'", "No such file or directory"),
-        (b"back\\slash", "back\\\\slash", "No such file or directory"),
-        (b"--", "--", "No such file or directory"),
-        (b"-x", "-x", "No such file or directory"),
-        (b"", "''", "No such file or directory"),
-        (b"x/", "x/", "No such file or directory"),
-        (b"/dev/null/x", "/dev/null/x", "Not a directory"),
-        (long.as_bytes(), &long, "File name too long"),
+    let names: [(&[u8], &str); 14] = [
+        (b"x.ref", "No such file or directory"),
+        (b"two words", "No such file or directory"),
+        (b"line\nend", "No such file or directory"),
+        (b"a: b\nc: d", "No such file or directory"),
+        (b"\xff\xfe", "No such file or directory"),
+        (b"\x1b[31m\x07", "No such file or directory"),
+        (b": \xff: x", "No such file or directory"),
+        (b"back\\slash", "No such file or directory"),
+        (b"--", "No such file or directory"),
+        (b"-x", "No such file or directory"),
+        (b"", "No such file or directory"),
+        (b"x/", "No such file or directory"),
+        (b"/dev/null/x", "Not a directory"),
+        (long.as_bytes(), "File name too long"),
     ];
     let folder = Folder::new();
-    for (name, shown, reason) in names {
+    for (name, reason) in names {
         for program in PROGRAMS {
             let mut files: Vec<OsString> = vec!["/dev/null".into(); texts(program) - 1];
             files.push(OsStr::from_bytes(name).into());
-            for locale in ["C", "C.UTF-8"] {
-                let mut script = Way::Script.command(program, &words(&files));
-                script.env("LC_ALL", locale).current_dir(folder.path());
-                let line = format!("envelope: {shown}: {reason}");
-                end(&mut script, b"").assert_told(&line, 2);
+            for locale in ["C", "C.UTF-8", "no such locale"] {
+                let mut command = Way::Command.command(program, &words(&files));
+                command.env("LC_ALL", locale).current_dir(folder.path());
+                let line = format!("envelope: {}: {reason}", quoted(name));
+                end(&mut command, b"").assert_told(&line, 2);
             }
         }
     }
 }
 
-/// In a redirection the shell takes such names for a socket or a descriptor. The first to call the port
-/// that listens here is this test.
+/// A shell takes such names for a socket or a descriptor. The first to call the port that listens here is
+/// this test.
 #[test]
 fn no_name_is_taken_for_a_socket_or_a_descriptor() {
     let listener = TcpListener::bind("127.0.0.1:0").expect("a port");
@@ -249,15 +252,12 @@ fn no_name_is_taken_for_a_socket_or_a_descriptor() {
     let caller = thread::spawn(move || listener.accept().expect("a caller").1);
     let socket = format!("/dev/tcp/127.0.0.1/{}", address.port());
     for name in PROGRAMS {
-        for file in [&socket, &socket[1..], "/dev/udp/127.0.0.1/9"] {
+        for file in [&socket, &socket[1..], "/dev/udp/127.0.0.1/9", "&0"] {
             let mut files = vec!["/dev/null"; texts(name) - 1];
             files.push(file);
-            let line = format!("envelope: {file}: No such file or directory");
-            Way::Script.run(name, &files).assert_told(&line, 2);
+            let line = format!("envelope: '{file}': No such file or directory");
+            Way::Command.run(name, &files).assert_told(&line, 2);
         }
-        let files = vec![socket.as_str(); texts(name)];
-        let ended = Way::Script.run(name, &files);
-        ended.assert_failed("No such file or directory");
     }
     let own = TcpStream::connect(address).expect("a port that listens");
     let caller = caller.join().expect("a caller");

@@ -1,5 +1,5 @@
-//! `./envelope` with the four programs: where it takes the texts from, what it passes on, its exit statuses
-//! and its help.
+//! The command with the four programs: where it takes the texts from, what it prints, its exit statuses and
+//! its help.
 
 use programs::call::Way;
 use programs::folder::Folder;
@@ -8,18 +8,21 @@ use programs::script::{envelope, path};
 use programs::{
     EXAMPLES, PROGRAMS, READING, RECORD, REFERENCE, TEXT_LIMIT, accepted, answer, example, texts,
 };
+use std::ffi::OsStr;
 use std::fs::File;
 use std::io::{Seek, SeekFrom, Write};
 use std::os::fd::OwnedFd;
-use std::os::unix::fs::{OpenOptionsExt, symlink};
+use std::os::unix::ffi::OsStrExt;
+use std::os::unix::fs::OpenOptionsExt;
 use std::os::unix::net::UnixStream;
 use std::path::PathBuf;
 use std::process::Stdio;
 
 fn assert_ends(name: &str, texts: &[&str], output: &str, status: i32) {
     let folder = Folder::new();
-    let ended = Way::Script.run(name, &folder.write_texts(texts));
-    ended.assert_printed(output, status);
+    let ended = Way::Command.run(name, &folder.write_texts(texts));
+    Way::Command.assert_answer(&ended, name, output);
+    assert_eq!(ended.status, status);
 }
 
 #[test]
@@ -64,24 +67,41 @@ fn refused_texts_end_in_1() {
 
 /// A reading that is refused is a verdict, also where it is the first or the only one.
 #[test]
-fn refused_readings_end_in_0() {
+fn refused_readings_end_in_3() {
     for (reading, verdict) in [
         ("\n", "NO,3,1\n"),
         ("A,TOC,2001,CND,4\n", "NO,4,1\n"),
         ("A,PH,480,CND,4\n", "NO,10,1\n"),
     ] {
-        assert_ends("judge", &[REFERENCE, RECORD, reading], verdict, 0);
+        assert_ends("judge", &[REFERENCE, RECORD, reading], verdict, 3);
         let readings = format!("{reading}{READING}");
         let verdicts = format!("{verdict}QUIET\n");
-        assert_ends("judge", &[REFERENCE, RECORD, &readings], &verdicts, 0);
+        assert_ends("judge", &[REFERENCE, RECORD, &readings], &verdicts, 3);
+        let readings = format!("{READING}{reading}");
+        let verdicts = format!("QUIET\n{verdict}");
+        assert_ends("judge", &[REFERENCE, RECORD, &readings], &verdicts, 3);
     }
+}
+
+/// Wherever it is among others that are quiet. Its distance is 6, the radius 5.
+#[test]
+fn an_alarm_ends_in_3() {
+    let (alarm, verdict) = ("X,TOC,9,CND,4\n", "ALARM,47244640256\n");
+    for place in 0..3 {
+        let (mut readings, mut verdicts) = ([READING; 3], ["QUIET\n"; 3]);
+        (readings[place], verdicts[place]) = (alarm, verdict);
+        let texts = [REFERENCE, RECORD, &readings.concat()];
+        assert_ends("judge", &texts, &verdicts.concat(), 3);
+    }
+    let quiet = "QUIET\n".repeat(3);
+    assert_ends("judge", &[REFERENCE, RECORD, &READING.repeat(3)], &quiet, 0);
 }
 
 #[test]
 fn the_longest_output_is_passed_on_whole() {
     let readings = "\n".repeat(TEXT_LIMIT);
     let verdicts = "NO,3,1\n".repeat(TEXT_LIMIT);
-    assert_ends("judge", &[REFERENCE, RECORD, &readings], &verdicts, 0);
+    assert_ends("judge", &[REFERENCE, RECORD, &readings], &verdicts, 3);
 }
 
 #[test]
@@ -93,7 +113,7 @@ fn the_examples_give_what_stands_beside_them() {
         assert_ends("draw", &[&reference], &record, 0);
         assert_ends("verify", &[&reference, &record], "OK\n", 0);
         assert_ends("panel", &[&reference, &record], &panel, 0);
-        assert_ends("judge", &[&reference, &record, &readings], &verdicts, 0);
+        assert_ends("judge", &[&reference, &record, &readings], &verdicts, 3);
         for word in ["QUIET", "ALARM,", "NO,3,1", "NO,4,1", "NO,10,1"] {
             assert!(verdicts.contains(word), "{point} has no {word}");
         }
@@ -121,7 +141,7 @@ fn from_standard_input(mut input: impl FnMut(&[u8]) -> Stdio, mut see: impl FnMu
             }
             for words in ways {
                 let input = input(&accepted(name)[place]);
-                see(name, end_on(&mut Way::Script.command(name, &words), input));
+                see(name, end_on(&mut Way::Command.command(name, &words), input));
             }
         }
     }
@@ -172,7 +192,9 @@ fn a_fifo_whose_writer_has_gone_is_an_empty_text() {
         let options = options.read(true).custom_flags(O_NONBLOCK);
         Stdio::from(options.open(folder.path().join("fifo")).expect("a fifo"))
     };
-    from_standard_input(fifo, |_, ended| ended.assert_printed("NO,1,0\n", 1));
+    from_standard_input(fifo, |name, ended| {
+        Way::Command.assert_answer(&ended, name, "NO,1,0\n");
+    });
 }
 
 /// The file of that name is `./-`.
@@ -181,16 +203,16 @@ fn a_hyphen_is_standard_input_also_behind_two() {
     let folder = Folder::new();
     folder.write("-", REFERENCE);
     let run = |words: &[&str]| {
-        let mut command = Way::Script.command("draw", words);
+        let mut command = Way::Command.command("draw", words);
         end(command.current_dir(folder.path()), b"REF,0\n")
     };
     for words in [&["-"][..], &["--", "-"], &["-", "--"], &["--"], &[]] {
-        run(words).assert_printed("NO,2,1\n", 1);
+        Way::Command.assert_answer(&run(words), "draw", "NO,2,1\n");
     }
     for words in [&["./-"][..], &["--", "./-"]] {
         run(words).assert_printed(RECORD, 0);
     }
-    run(&["--", "--"]).assert_told("envelope: --: No such file or directory", 2);
+    run(&["--", "--"]).assert_told("envelope: '--': No such file or directory", 2);
 }
 
 #[test]
@@ -220,37 +242,13 @@ fn standard_input_for_two_texts_is_bad_usage() {
     }
 }
 
-/// Options and functions that a shell takes from its environment, and a file that it runs first.
-#[test]
-fn the_environment_of_a_shell_changes_nothing() {
-    let folder = Folder::new();
-    let reference = folder.write("x.ref", REFERENCE);
-    let first = folder.write("first", "echo first; exit 0\n");
-    for (name, value) in [
-        ("SHELLOPTS", "noexec"),
-        ("SHELLOPTS", "errexit"),
-        ("BASHOPTS", "nullglob"),
-        ("BASH_ENV", first.to_str().expect("a path in UTF-8")),
-        ("BASH_FUNC_head%%", "() { :; }"),
-        ("BASH_FUNC_cd%%", "() { echo cd; }"),
-        ("CDPATH", "/"),
-    ] {
-        let mut command = Way::Script.command("draw", &[&reference]);
-        end(command.env(name, value), b"").assert_printed(RECORD, 0);
-        let record = folder.write("x.env", RECORD);
-        let mut command = Way::Script.command("verify", &["-".as_ref(), record.as_path()]);
-        end(command.env(name, value), REFERENCE.as_bytes()).assert_printed("OK\n", 0);
-        let mut command = Way::Script.command("draw", &[folder.path().join("missing")]);
-        end(command.env(name, value), b"").assert_failed("missing: No such file or directory\n");
-    }
-}
-
 #[test]
 fn a_word_of_any_bytes_is_told_on_one_line() {
-    let line = "envelope: there is no command $'dr\\now'; see 'envelope help'";
+    let line = "envelope: there is no command 'dr\\x0aow'; see 'envelope help'";
     envelope(&["dr\now"], b"").assert_told(line, 2);
-    let line = "envelope: cannot read the folder $'no\\nfolder'";
-    envelope(&["redraw", "no\nfolder"], b"").assert_told(line, 2);
+    let word = OsStr::from_bytes(b"\x1b]0;title\x07\xff\\");
+    let line = "envelope: there is no command '\\x1b]0;title\\x07\\xff\\x5c'; see 'envelope help'";
+    envelope(&[word], b"").assert_told(line, 2);
 }
 
 #[test]
@@ -283,10 +281,10 @@ fn an_option_is_bad_usage() {
     let folder = Folder::new();
     for (option, shown) in [
         ("-x", "-x"),
-        ("--help", "--help"),
+        ("--halp", "--halp"),
         ("---", "---"),
-        ("-two words", "-two\\ words"),
-        ("-\n", "$'-\\n'"),
+        ("-two words", "-two\\x20words"),
+        ("-\n", "-\\x0a"),
     ] {
         folder.write(option, REFERENCE);
         for name in PROGRAMS {
@@ -294,8 +292,7 @@ fn an_option_is_bad_usage() {
                 let mut command = command(path());
                 command.args(words).current_dir(folder.path());
                 let line = format!(
-                    "envelope: there is no option {shown}; for a file of that name write ./{shown}, \
-                     or put -- before it"
+                    "envelope: there is no option '{shown}'; for a file of that name put -- before it"
                 );
                 end(&mut command, REFERENCE.as_bytes()).assert_told(&line, 2);
             }
@@ -320,8 +317,11 @@ fn help_names_every_command_and_status() {
         "envelope draw [REF]\n",
         "envelope verify REF [ENV]\n",
         "envelope panel REF [ENV]\n",
-        "envelope judge REF ENV [READINGS]\n",
-        "envelope redraw DIR\n",
+        "envelope judge ",
+        "envelope redraw ",
+        "envelope show REF [ENV]\n",
+        "envelope types\n",
+        "envelope refusals\n",
         "Exit status",
         "standard input",
         "'--'",
@@ -335,31 +335,29 @@ fn help_names_every_command_and_status() {
     assert_eq!(words, ["./envelope", "draw", "examples/purified-water.ref"]);
 }
 
+/// What the loader and a shell take from the environment does not reach a program that is linked
+/// statically, and no temporary file is needed.
 #[test]
-fn it_runs_from_anywhere_and_through_links() {
+fn the_environment_changes_nothing() {
     let folder = Folder::new();
-    symlink(path(), folder.path().join("one")).expect("a link");
-    symlink("one", folder.path().join("an other")).expect("a link");
-    folder.write("x.ref", REFERENCE);
-    let mut command = command("./an other");
-    command.args(["draw", "x.ref"]).current_dir(folder.path());
-    end(&mut command, b"").assert_printed(RECORD, 0);
-}
-
-/// The copy of standard input has no name.
-#[test]
-fn no_temporary_file_is_left_and_none_is_needed_without_a_copy() {
-    let folder = Folder::new();
-    let files = folder.write_texts(&[REFERENCE, RECORD]);
-    let temporary = Folder::new();
-    let copied = [PathBuf::from("-"), files[1].clone()];
-    let mut command = Way::Script.command("verify", &copied);
-    command.env("TMPDIR", temporary.path());
-    end(&mut command, REFERENCE.as_bytes()).assert_printed("OK\n", 0);
-    assert_eq!(temporary.names(), [""; 0]);
-    command.env("TMPDIR", "/none");
-    let line = "envelope: no temporary file: No such file or directory";
-    end(&mut command, REFERENCE.as_bytes()).assert_told(line, 2);
-    let mut command = Way::Script.command("verify", &files);
-    end(command.env("TMPDIR", "/none"), b"").assert_printed("OK\n", 0);
+    let record = folder.write("x.env", RECORD);
+    let library = folder.write("library.so", "no library");
+    let library = library.to_str().expect("a path in UTF-8");
+    for (name, value) in [
+        ("LD_PRELOAD", library),
+        ("LD_LIBRARY_PATH", "."),
+        ("LD_AUDIT", library),
+        ("PATH", "."),
+        ("PATH", ""),
+        ("TMPDIR", "/none"),
+        ("HOME", "/none"),
+        ("LC_ALL", "no such locale"),
+        ("RUST_BACKTRACE", "full"),
+        ("RUST_MIN_STACK", "1"),
+    ] {
+        let mut command = Way::Command.command("verify", &["-".as_ref(), record.as_path()]);
+        end(command.env(name, value), REFERENCE.as_bytes()).assert_printed("OK\n", 0);
+    }
+    let mut command = Way::Command.command("verify", &["-".as_ref(), record.as_path()]);
+    end(command.env_clear(), REFERENCE.as_bytes()).assert_printed("OK\n", 0);
 }

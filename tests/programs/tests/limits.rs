@@ -1,7 +1,7 @@
 //! Texts at and above the limit in each place, from files and from pipes; endless texts; and the longest
 //! output.
 
-use programs::call::{WAYS, Way, run};
+use programs::call::{WAYS, Way};
 use programs::folder::Folder;
 use programs::process::{Ended, end_fed, end_on, write_endless, write_single_bytes};
 use programs::{PROGRAMS, READING, RECORD, REFERENCE, TEXT_LIMIT, accepted, texts};
@@ -46,22 +46,6 @@ fn with_filled(name: &str, place: usize, length: usize) -> (Vec<Vec<u8>>, String
     }
 }
 
-fn assert_ends(ended: &Ended, way: Way, output: &str) {
-    assert_eq!(ended.messages, "");
-    assert!(
-        ended.output == output.as_bytes(),
-        "{} bytes",
-        ended.output.len()
-    );
-    // Readings that are refused are no refused text.
-    let status = if output.starts_with("NO,3,1") {
-        0
-    } else {
-        way.refused()
-    };
-    assert_eq!(ended.status, status);
-}
-
 /// Tries texts at the limit and above in each place.
 fn at_the_limit(mut try_texts: impl FnMut(Way, &str, usize, &[Vec<u8>]) -> Ended) {
     for name in PROGRAMS {
@@ -69,7 +53,7 @@ fn at_the_limit(mut try_texts: impl FnMut(Way, &str, usize, &[Vec<u8>]) -> Ended
             for length in [TEXT_LIMIT, TEXT_LIMIT + 1] {
                 let (texts, output) = with_filled(name, place, length);
                 for way in WAYS {
-                    assert_ends(&try_texts(way, name, place, &texts), way, &output);
+                    way.assert_answer(&try_texts(way, name, place, &texts), name, &output);
                 }
             }
         }
@@ -113,18 +97,23 @@ fn a_text_at_the_limit_is_read_and_one_above_refused_from_standard_input_in_sing
     });
 }
 
+/// Asserts what is printed of texts in files.
+fn assert_both_print<Text: AsRef<[u8]>>(name: &str, texts: &[Text], output: &str) {
+    let folder = Folder::new();
+    let files = folder.write_texts(texts);
+    for way in WAYS {
+        way.assert_answer(&way.run(name, &files), name, output);
+    }
+}
+
 #[test]
 fn a_text_far_above_the_limit_is_refused_by_1() {
     for name in PROGRAMS {
         for place in 0..texts(name) {
             for length in [TEXT_LIMIT + 2, 2 * TEXT_LIMIT, MEGABYTES] {
-                let (texts, _) = with_filled(name, place, length);
-                let output = run(name, &texts);
-                assert_eq!(
-                    output,
-                    TOO_LONG.as_bytes(),
-                    "{name}, text {place} of {length} bytes"
-                );
+                let (texts, output) = with_filled(name, place, length);
+                assert_eq!(output, TOO_LONG);
+                assert_both_print(name, &texts, &output);
             }
         }
     }
@@ -135,10 +124,10 @@ fn a_text_far_above_the_limit_is_refused_by_1() {
 fn a_refusal_of_an_earlier_text_stands() {
     let long = "A,0\n".repeat(MEGABYTES / 4);
     let refused = "REF,1,TOC\nA,2001\n";
-    assert_eq!(run("verify", &[refused, &long]), b"NO,4,2\n");
-    assert_eq!(run("panel", &[refused, &long]), b"NO,4,2\n");
-    assert_eq!(run("judge", &[refused, &long, &long]), b"NO,4,2\n");
-    assert_eq!(run("judge", &[REFERENCE, "ENV,0\n", &long]), b"NO,11,1\n");
+    assert_both_print("verify", &[refused, &long], "NO,4,2\n");
+    assert_both_print("panel", &[refused, &long], "NO,4,2\n");
+    assert_both_print("judge", &[refused, &long, &long], "NO,4,2\n");
+    assert_both_print("judge", &[REFERENCE, "ENV,0\n", &long], "NO,11,1\n");
 }
 
 /// Runs a program on texts of which one is at another path.
@@ -156,7 +145,7 @@ fn assert_endless_refused(way: Way, name: &str, place: usize, repeated: &str) {
     let (fifo, writer) =
         folder.write_fifo("fifo", move |pipe| write_endless(pipe, repeated.as_bytes()));
     let ended = with_path(name, place, fifo, way);
-    assert_ends(&ended, way, TOO_LONG);
+    way.assert_answer(&ended, name, TOO_LONG);
     let taken = writer.join().expect("a writer that ends");
     assert!(taken <= TEXT_LIMIT + 1 + PIPE, "{name} took {taken} bytes");
 }
@@ -178,7 +167,7 @@ fn an_endless_device_is_refused_by_1() {
         for place in 0..texts(name) {
             for way in WAYS {
                 let ended = with_path(name, place, PathBuf::from("/dev/zero"), way);
-                assert_ends(&ended, way, TOO_LONG);
+                way.assert_answer(&ended, name, TOO_LONG);
             }
         }
     }
@@ -194,7 +183,7 @@ fn with_standard_input(way: Way, name: &str, place: usize, files: &[PathBuf]) ->
     words[place] = PathBuf::from("-");
     match way {
         Way::Program => None,
-        Way::Script => Some(way.command(name, &words)),
+        Way::Command => Some(way.command(name, &words)),
     }
 }
 
@@ -212,7 +201,7 @@ fn an_endless_standard_input_is_refused_by_1() {
             let mut yes = yes.expect("a command that runs");
             let input = yes.stdout.take().expect("a pipe");
             let ended = end_on(&mut command, input);
-            assert_ends(&ended, way, TOO_LONG);
+            way.assert_answer(&ended, name, TOO_LONG);
             drop(command);
             yes.wait().expect("a command that ends");
         }
@@ -222,12 +211,8 @@ fn an_endless_standard_input_is_refused_by_1() {
 #[test]
 fn the_longest_output_is_printed_whole() {
     let line_ends = "\n".repeat(TEXT_LIMIT);
-    let output = run("judge", &[REFERENCE, RECORD, &line_ends]);
-    assert!(
-        output == b"NO,3,1\n".repeat(TEXT_LIMIT),
-        "{} bytes",
-        output.len()
-    );
+    let output = "NO,3,1\n".repeat(TEXT_LIMIT);
+    assert_both_print("judge", &[REFERENCE, RECORD, &line_ends], &output);
 }
 
 /// What is behind the bytes that are read stays for the next reader of the same input.
@@ -241,7 +226,7 @@ fn no_more_than_the_limit_and_one_byte_is_read() {
             let mut input = File::open(&path).expect("a file");
             let shared = input.try_clone().expect("a descriptor");
             let ended = way.run_on(name, &files[..texts(name) - 1], shared);
-            assert_ends(&ended, way, TOO_LONG);
+            way.assert_answer(&ended, name, TOO_LONG);
             let position = input.stream_position();
             assert_eq!(position.expect("a position"), TEXT_LIMIT as u64 + 1);
         }

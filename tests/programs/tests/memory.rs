@@ -1,7 +1,7 @@
-//! The peak of each program's resident memory on its largest input. It is the only test of its
+//! The peak of each program's resident memory on its largest input, and of its command's. It is the only test of its
 //! process, since what this process has resident counts as well.
 
-use programs::call::{Way, run};
+use programs::call::{WAYS, Way, run};
 use programs::folder::Folder;
 use programs::process::watch;
 use programs::system::wait_for_peak;
@@ -26,12 +26,13 @@ fn largest(name: &str) -> [Vec<Vec<u8>>; 2] {
     [accepted, vec![vec![b'7'; TEXT_LIMIT + 1]; texts(name)]]
 }
 
-fn peak_kibibytes(name: &str, texts: &[Vec<u8>]) -> i64 {
+fn peak_kibibytes(way: Way, name: &str, texts: &[Vec<u8>]) -> i64 {
     let folder = Folder::new();
     let (last, before) = texts.split_last().expect("a text");
-    let mut command = Way::Program.command(name, &folder.write_texts(before));
-    let (peak, output) = watch(&mut command, last, wait_for_peak);
+    let mut command = way.command(name, &folder.write_texts(before));
+    let ((status, peak), output) = watch(&mut command, last, wait_for_peak);
     assert!(!output.is_empty());
+    assert_eq!(status, way.status(name, &output));
     peak
 }
 
@@ -39,10 +40,12 @@ fn peak_kibibytes(name: &str, texts: &[Vec<u8>]) -> i64 {
 fn peak_resident_memory_is_within_8_mebibytes() {
     for name in PROGRAMS {
         for texts in largest(name) {
-            let peak = peak_kibibytes(name, &texts);
             let bytes = texts.concat().len();
-            println!("{name}: at most {peak} KiB resident on {bytes} bytes");
-            assert!(peak <= LIMIT_KIBIBYTES, "{name}: {peak} KiB");
+            for way in WAYS {
+                let peak = peak_kibibytes(way, name, &texts);
+                println!("{way:?} {name}: at most {peak} KiB resident on {bytes} bytes");
+                assert!(peak <= LIMIT_KIBIBYTES, "{way:?} {name}: {peak} KiB");
+            }
         }
     }
 }

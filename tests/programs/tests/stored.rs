@@ -1,14 +1,17 @@
-//! The stored texts: each program prints the stored output, byte for byte, whether the last text comes
-//! whole or in pieces.
+//! The stored texts: each program and its command print the stored output, byte for byte, whether the last
+//! text comes whole or in pieces.
 
 use outside::random::Random;
-use programs::call::{run, run_in_pieces};
+use programs::call::{WAYS, run_in_pieces};
+use programs::folder::Folder;
 use programs::{EXAMPLES, KINDS, PROGRAMS, example, texts};
 use std::collections::BTreeSet;
 use std::path::{Path, PathBuf};
 use std::time::Duration;
 
 const LEAST_CASES: usize = 45;
+/// Of all programs together.
+const LEAST: usize = 300;
 /// Texts up to this length come in pieces of 1 to 7 bytes, longer ones in larger pieces.
 const SMALL: usize = 1_000;
 const PIECES: usize = 150;
@@ -75,22 +78,22 @@ fn of_example(name: &str, point: &str) -> Case {
     }
 }
 
-fn compare(case: &Case, name: &str, output: Vec<u8>) {
-    assert!(
-        output == case.output,
-        "{name} printed something else for {}: {}",
-        case.name,
-        String::from_utf8_lossy(&output[..output.len().min(200)])
-    );
-}
-
+/// The command's status is the one that stands for the output.
 #[test]
 fn whole() {
+    let mut compared = 0;
     for name in PROGRAMS {
         for case in cases(name) {
-            compare(&case, name, run(name, &case.texts));
+            println!("{name} on {}", case.name);
+            let folder = Folder::new();
+            let files = folder.write_texts(&case.texts);
+            for way in WAYS {
+                way.assert_answer(&way.run(name, &files), name, &case.output);
+            }
+            compared += 1;
         }
     }
+    assert!(compared >= LEAST, "{compared} cases");
 }
 
 #[test]
@@ -98,12 +101,16 @@ fn in_pieces() {
     let mut random = Random::new(SEED);
     for name in PROGRAMS {
         for case in cases(name) {
+            println!("{name} on {}", case.name);
             let largest = match case.texts.last().expect("a text").len() {
                 0..=SMALL => 7,
                 length => 2 * length / PIECES,
             };
-            let size = || 1 + random.index(largest);
-            compare(&case, name, run_in_pieces(name, &case.texts, PAUSE, size));
+            for way in WAYS {
+                let size = || 1 + random.index(largest);
+                let ended = run_in_pieces(way, name, &case.texts, PAUSE, size);
+                way.assert_answer(&ended, name, &case.output);
+            }
         }
     }
 }

@@ -14,6 +14,10 @@ const NOTES: &str = "#!/bin/sh\nfolder=\"${0%/*}/..\"\necho \"${0##*/} $*\" >> \
     [ \"$*\" != \"$(cat \"$folder/broken\" 2>/dev/null)\" ] || exit 1\n\
     if [ -e \"$folder/meddling\" ]; then echo >> \"$folder/crates/top/src/lib.rt\"; fi\n";
 
+/// Does the same, in the folder of the project.
+const COMMAND: &str = "#!/bin/sh\necho \"./envelope $*\" >> asked\n\
+    [ \"$*\" != \"$(cat broken 2>/dev/null)\" ]\n";
+
 /// Four crates: `above` cites `below`, `top` cites `above`, and `alone` none. `above` has no edits.
 const CRATES: &str =
     "# One over the other\nbelow:\nabove: below\ntop: above\n\n# Another\nalone:\n";
@@ -36,15 +40,13 @@ impl Project {
         for name in ["below", "top", "alone"] {
             folder.write(format!("crates/{name}/must-fail/wrong.edit"), "");
         }
-        for name in ["path/rt", "path/cargo", "bindings/c/test"] {
-            let file = folder.write(
-                name,
-                if name == "bindings/c/test" {
-                    "#!/bin/sh\n"
-                } else {
-                    NOTES
-                },
-            );
+        for (name, content) in [
+            ("path/rt", NOTES),
+            ("path/cargo", NOTES),
+            ("envelope", COMMAND),
+            ("bindings/c/test", "#!/bin/sh\n"),
+        ] {
+            let file = folder.write(name, content);
             fs::set_permissions(file, fs::Permissions::from_mode(0o755)).expect("a file of ours");
         }
         for package in [
@@ -53,6 +55,7 @@ impl Project {
             "tests/differential",
             "tests/programs",
             "bindings/rust",
+            "cli",
             "bench",
         ] {
             folder.write(format!("{package}/Cargo.toml"), "");
@@ -85,13 +88,11 @@ impl Project {
             asked.starts_with("rt fmt --check\ncargo test --offline --release --quiet\nrt check\n"),
             "{asked}"
         );
-        assert!(asked.contains("\nrt staticlib cundarivo\n"), "{asked}");
-        assert_eq!(
-            asked
-                .matches("cargo test --offline --release --quiet\n")
-                .count(),
-            5
-        );
+        let tested = "cargo test --offline --release --quiet\n";
+        let end = "cargo build --offline --release --quiet\n";
+        let built = "rt staticlib cundarivo\n./envelope --version\n";
+        let last = format!("{built}{}{end}", tested.repeat(5));
+        assert!(asked.ends_with(&last), "{asked}");
         let after = |start| {
             asked
                 .lines()
@@ -143,6 +144,7 @@ fn what_failed_is_tried_again() {
         "check",
         "must-fail alone",
         "staticlib cundarivo",
+        "--version",
         "test --offline --release --quiet",
         "build --offline --release --quiet",
     ] {

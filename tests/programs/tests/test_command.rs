@@ -2,7 +2,7 @@
 //! variables and fails.
 
 use programs::process::{command, end};
-use programs::repository::Repository;
+use programs::repository::{BUILDS, Repository};
 use programs::root;
 use std::collections::BTreeSet;
 
@@ -42,7 +42,7 @@ const OTHERS: [&str; 17] = [
 
 #[test]
 fn no_variable_of_the_caller_reaches_a_test() {
-    let repository = Repository::new(WRITES_VARIABLES);
+    let repository = Repository::new(WRITES_VARIABLES, BUILDS);
     let mut command = command(root().join("test"));
     let path = std::env::var("PATH").expect("a path");
     let path = format!("{}:{path}", repository.path().join("path").display());
@@ -71,7 +71,7 @@ fn no_variable_of_the_caller_reaches_a_test() {
 /// The word by which it starts anew, from a caller with a variable more, and any other word.
 #[test]
 fn a_word_does_not_spare_it_the_start_anew() {
-    let repository = Repository::new(WRITES_VARIABLES);
+    let repository = Repository::new(WRITES_VARIABLES, BUILDS);
     for (word, line) in [
         ("clean", "FAILED: the variable CUNDARIVO_SEED is set\n"),
         ("quick", "FAILED: it takes --changed or no argument\n"),
