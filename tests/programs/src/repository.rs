@@ -10,10 +10,12 @@ use std::process::Command;
 
 /// Writes down that it was asked; its input would be there.
 pub const PROVES: &str = "#!/bin/sh\necho \"rt $*\" >> runs\necho proving; cat\n";
-/// Builds a program that prints its arguments and its input.
+/// Builds a program that prints its arguments and its input; nothing where it finds what it left of an
+/// earlier build, as cargo does where no time of modification is a later one.
 pub const BUILDS: &str = "#!/bin/sh
 echo \"cargo $*\" >> ../runs
 echo building; cat
+[ ! -e target/release/.fingerprint ] || exit 0
 mkdir -p target/release/.fingerprint
 printf '#!/bin/sh\\nprintf \"%%s.\" \"$@\"; /bin/cat\\n' > target/release/new
 chmod +x target/release/new; mv -f target/release/new target/release/envelope
