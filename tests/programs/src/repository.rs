@@ -8,13 +8,13 @@ use std::os::unix::fs::PermissionsExt;
 use std::path::Path;
 use std::process::Command;
 
-/// Writes down that it was asked; its input would be there.
-pub const PROVES: &str = "#!/bin/sh\necho \"rt $*\" >> runs\necho proving; cat\n";
+/// Writes down that it was asked; its input would be in its messages, which it must be able to write.
+pub const PROVES: &str = "#!/bin/sh\necho \"rt $*\" >> runs\necho proving || exit 1; cat\n";
 /// Builds a program that prints its arguments and its input; nothing where it finds what it left of an
 /// earlier build, as cargo does where no time of modification is a later one.
 pub const BUILDS: &str = "#!/bin/sh
 echo \"cargo $*\" >> ../runs
-echo building; cat
+echo building || exit 1; cat
 [ ! -e target/release/.fingerprint ] || exit 0
 mkdir -p target/release/.fingerprint
 printf '#!/bin/sh\\nprintf \"%%s.\" \"$@\"; /bin/cat\\n' > target/release/new

@@ -171,6 +171,8 @@ fn a_program_that_is_not_the_one_built_is_built_again() {
     }
     repository.write_executable(PROGRAM, content);
     assert_builds(&repository, false, "the same");
+    set_mode(&program, 0o644);
+    assert_builds(&repository, true, "no leave to run it");
 }
 
 #[test]
@@ -249,7 +251,7 @@ fn wait_for(holds: impl Fn() -> bool) {
 
 #[test]
 fn starts_at_the_same_time_build_once() {
-    let slow = PROVES.replace("cat\n", "cat; sleep 0.2\n");
+    let slow = PROVES.replace("cat\n", "cat; sleep 0.8\n");
     let repository = Repository::new(&slow, BUILDS);
     let children = [0; 4].map(|_| start(&repository));
     let mut waited = 0;

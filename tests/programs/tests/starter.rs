@@ -294,6 +294,10 @@ fn closed_descriptors_are_told_and_closed_messages_change_nothing() {
             (">&- 2>&-", Some("")),
             ("<&- >&- 2>&-", Some("")),
         ] {
+            // What builds must be able to write its messages.
+            if (state, redirections) == ("not built", "2>/dev/full") {
+                continue;
+            }
             let repository = Repository::built();
             match state {
                 "touched" => touch(&repository),
