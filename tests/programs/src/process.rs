@@ -145,9 +145,18 @@ pub fn write_single_bytes<Pipe: Write + AsRawFd>(pipe: &mut Pipe, bytes: &[u8]) 
 
 /// A command that the shell starts with redirections, as `<&-`.
 pub fn redirected(redirections: &str, command: &Command) -> Command {
+    through_shell(&format!("exec \"$@\" {redirections}"), command)
+}
+
+/// A command that may have 256 MiB of memory: one that reads what has no end fails, and takes no more.
+pub fn within_memory(command: &Command) -> Command {
+    through_shell("ulimit -v 262144; exec \"$@\"", command)
+}
+
+/// A script of the shell that gets a command as its arguments.
+fn through_shell(script: &str, command: &Command) -> Command {
     let mut shell = self::command("bash");
-    let script = format!("exec \"$@\" {redirections}");
-    shell.args(["-c", &script, "bash"]);
+    shell.args(["-c", script, "bash"]);
     shell.arg(command.get_program()).args(command.get_args());
     if let Some(folder) = command.get_current_dir() {
         shell.current_dir(folder);

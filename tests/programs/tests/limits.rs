@@ -3,7 +3,7 @@
 
 use programs::call::{WAYS, Way};
 use programs::folder::Folder;
-use programs::process::{Ended, end_fed, end_on, write_endless, write_single_bytes};
+use programs::process::{Ended, end_fed, end_on, within_memory, write_endless, write_single_bytes};
 use programs::{PROGRAMS, READING, RECORD, REFERENCE, TEXT_LIMIT, accepted, texts};
 use std::fs::File;
 use std::io::Seek;
@@ -135,7 +135,17 @@ fn with_path(name: &str, place: usize, path: PathBuf, way: Way) -> Ended {
     let folder = Folder::new();
     let mut files = folder.write_texts(&accepted(name));
     files[place] = path;
-    way.run(name, &files)
+    let (last, before) = files.split_last().expect("a text");
+    match way {
+        Way::Program => {
+            let input = File::open(last).expect("a file that can be opened");
+            end_on(&mut within_memory(&way.command(name, before)), input)
+        }
+        Way::Command => end_on(
+            &mut within_memory(&way.command(name, &files)),
+            Stdio::null(),
+        ),
+    }
 }
 
 /// Asserts what becomes of the same bytes again and again from a fifo, and that most stay unread.
@@ -194,9 +204,10 @@ fn an_endless_standard_input_is_refused_by_1() {
         let folder = Folder::new();
         let files = folder.write_texts(&accepted(name));
         for (place, way) in (0..texts(name)).flat_map(|place| WAYS.map(|way| (place, way))) {
-            let Some(mut command) = with_standard_input(way, name, place, &files) else {
+            let Some(command) = with_standard_input(way, name, place, &files) else {
                 continue;
             };
+            let mut command = within_memory(&command);
             let yes = Command::new("yes").stdout(Stdio::piped()).spawn();
             let mut yes = yes.expect("a command that runs");
             let input = yes.stdout.take().expect("a pipe");
