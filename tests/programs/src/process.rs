@@ -5,6 +5,7 @@ use std::ffi::OsStr;
 use std::io::{ErrorKind, Read, Write};
 use std::os::fd::AsRawFd;
 use std::process::{Child, ChildStdin, Command, Stdio};
+use std::sync::{Mutex, PoisonError};
 use std::thread::{self, JoinHandle};
 
 /// What a command left.
@@ -71,8 +72,22 @@ pub fn end_on(command: &mut Command, stdin: impl Into<Stdio>) -> Ended {
 }
 
 fn start(command: &mut Command) -> Child {
-    let command = command.stdout(Stdio::piped()).stderr(Stdio::piped());
+    spawn(command.stdout(Stdio::piped()).stderr(Stdio::piped()))
+}
+
+/// A file that some process has open for writing cannot be run. One that a thread has open here is open in
+/// every process that another thread starts, until that one runs its program.
+static STARTS: Mutex<()> = Mutex::new(());
+
+pub fn spawn(command: &mut Command) -> Child {
+    let _alone = STARTS.lock().unwrap_or_else(PoisonError::into_inner);
     command.spawn().expect("a command that runs")
+}
+
+/// Writes files that are to be run, while no process is started.
+pub fn write_to_run<Written>(write: impl FnOnce() -> Written) -> Written {
+    let _alone = STARTS.lock().unwrap_or_else(PoisonError::into_inner);
+    write()
 }
 
 /// Output and messages, read by threads of their own.

@@ -1,7 +1,7 @@
 //! `./envelope` in a folder of its own, with another `rt` and another `cargo` on the path.
 
 use crate::folder::Folder;
-use crate::process::{Ended, command, end};
+use crate::process::{Ended, command, end, write_to_run};
 use crate::script::starter;
 use std::fs;
 use std::os::unix::fs::PermissionsExt;
@@ -39,7 +39,7 @@ impl Repository {
         for name in SOURCES {
             repository.folder.write(name, "first\n");
         }
-        fs::copy(starter(), repository.path().join("envelope")).expect("a copy");
+        copy_to_run(&starter(), &repository.path().join("envelope"));
         repository.write_executable("path/rt", rt);
         repository.write_executable("path/cargo", cargo);
         repository
@@ -54,7 +54,8 @@ impl Repository {
     }
 
     pub fn write_executable(&self, name: &str, content: impl AsRef<[u8]>) {
-        set_mode(&self.folder.write(name, content), 0o755);
+        let file = write_to_run(|| self.folder.write(name, content));
+        set_mode(&file, 0o755);
     }
 
     pub fn path(&self) -> &Path {
@@ -102,6 +103,12 @@ pub const SOURCES: [&str; 4] = [
     "bindings/rust/src/lib.rs",
     "cli/src/main.rs",
 ];
+
+/// Copies a program, which every user can run then.
+pub fn copy_to_run(program: &Path, copy: &Path) {
+    write_to_run(|| fs::copy(program, copy).expect("a copy"));
+    set_mode(copy, 0o755);
+}
 
 pub fn set_mode(file: &Path, mode: u32) {
     fs::set_permissions(file, fs::Permissions::from_mode(mode)).expect("a file of ours");

@@ -2,13 +2,14 @@
 //! path that write down what they are asked.
 
 use programs::folder::Folder;
-use programs::process::{Ended, command, end};
+use programs::process::{Ended, command, end, spawn};
 use programs::repository::{BUILDS, PROVES, Repository, SOURCES, set_mode};
 use programs::system::{kill_group, run_without_privileges};
 use std::fs::{self, File};
+use std::os::unix::fs::symlink;
 use std::os::unix::process::CommandExt;
 use std::path::Path;
-use std::process::{Child, Command, Stdio};
+use std::process::{Child, Stdio};
 use std::thread;
 use std::time::{Duration, Instant, SystemTime};
 
@@ -140,12 +141,9 @@ fn a_copy_of_a_built_repository_builds_nothing() {
     let repository = Repository::built();
     let folder = Folder::new();
     let copy = folder.path().join("copy");
-    let copied = Command::new("cp")
-        .arg("-a")
-        .arg(repository.path())
-        .arg(&copy)
-        .status();
-    assert!(copied.expect("cp").success());
+    let mut copying = command("cp");
+    copying.arg("-a").arg(repository.path()).arg(&copy);
+    end(&mut copying, b"").assert_printed("", 0);
     let mut copied = command(copy.join("envelope"));
     end(copied.arg("draw").env("PATH", "/none"), b"input\n").assert_printed("draw.input\n", 0);
 }
@@ -238,7 +236,7 @@ fn start(repository: &Repository) -> Child {
     let mut command = repository.command("draw");
     let command = command.stdin(Stdio::null()).process_group(0);
     let command = command.stdout(Stdio::piped()).stderr(Stdio::piped());
-    command.spawn().expect("a script that runs")
+    spawn(command)
 }
 
 fn wait_for(holds: impl Fn() -> bool) {
@@ -509,11 +507,8 @@ fn a_built_repository_that_cannot_be_written_runs() {
     );
     run().assert_told(&line, 2);
     set_mode(repository.path(), 0o755);
-    let entries = Command::new("chmod")
-        .args(["-R", "u+w"])
-        .arg(repository.path())
-        .status();
-    assert!(entries.expect("chmod").success());
+    let mut opening = command("chmod");
+    end(opening.args(["-R", "u+w"]).arg(repository.path()), b"").assert_printed("", 0);
 }
 
 /// A limit on the size of files keeps the stamps from being written, and a built program still runs.
@@ -526,6 +521,29 @@ fn a_limit_on_the_size_of_files_ends_nothing() {
     shell.arg(repository.path().join("envelope")).arg("draw");
     end(&mut shell, b"input\n").assert_printed("draw.input\n", 0);
     assert_builds(&repository, false, "after the limit");
+}
+
+/// What a link leads to counts, wherever it is; one that leads nowhere, as an editor leaves it, does not.
+#[test]
+fn links_are_followed() {
+    let repository = Repository::built();
+    let outside = Folder::new();
+    let [one, other] = ["one", "other"].map(|name| outside.write(name, name));
+    let link = repository.path().join("cli/src/link.rs");
+    symlink(&one, &link).expect("a link");
+    assert_builds(&repository, true, "a new link");
+    outside.write("one", "two");
+    assert_builds(&repository, true, "behind the link");
+    fs::remove_file(&link).expect("a link of ours");
+    symlink(other, &link).expect("a link");
+    assert_builds(&repository, true, "to another file");
+    symlink("nowhere", repository.path().join("cli/src/.#main.rs")).expect("a link");
+    assert_builds(&repository, false, "to nowhere");
+    symlink("..", repository.path().join("crates/draw/loop")).expect("a link");
+    let ended = repository.run();
+    assert_eq!((ended.text(), ended.status), ("", 2));
+    let words = "envelope: cannot list the sources\n";
+    assert!(ended.messages.ends_with(words), "{}", ended.messages);
 }
 
 #[test]

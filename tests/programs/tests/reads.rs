@@ -4,7 +4,7 @@
 use programs::call::{WAYS, Way};
 use programs::folder::Folder;
 use programs::process::{command, end, end_on};
-use programs::repository::set_mode;
+use programs::repository::{copy_to_run, set_mode};
 use programs::script;
 use programs::system::{run_without_privileges, set_non_blocking};
 use programs::{PROGRAMS, RECORD, accepted, program, quoted, texts};
@@ -159,8 +159,7 @@ fn a_link_to_itself_is_named() {
 /// A copy that every user can run, wherever the repository is.
 fn copied(folder: &Folder, program: &Path) -> PathBuf {
     let copy = folder.path().join(program.file_name().expect("a name"));
-    fs::copy(program, &copy).expect("a copy");
-    set_mode(&copy, 0o755);
+    copy_to_run(program, &copy);
     copy
 }
 

@@ -2,10 +2,9 @@
 //! cite them. The `rt` and `cargo` here write down what they are asked and do nothing else.
 
 use programs::folder::Folder;
-use programs::process::{Ended, command, end};
+use programs::process::{Ended, command, end, write_to_run};
+use programs::repository::{copy_to_run, set_mode};
 use programs::root;
-use std::fs;
-use std::os::unix::fs::PermissionsExt;
 
 /// Writes down its arguments and, where it tries edits, which crates have some in the folder that it
 /// runs in; fails where a file `broken` says so, and changes a source where one called `meddling` does.
@@ -32,7 +31,7 @@ impl Project {
             folder: Folder::new(),
         };
         let folder = &project.folder;
-        fs::copy(root().join("test"), folder.path().join("test")).expect("a copy");
+        copy_to_run(&root().join("test"), &folder.path().join("test"));
         folder.write("crates.txt", CRATES);
         for name in ["below", "above", "top", "alone"] {
             folder.write(format!("crates/{name}/src/lib.rt"), "// A crate.\n");
@@ -46,8 +45,8 @@ impl Project {
             ("envelope", COMMAND),
             ("bindings/c/test", "#!/bin/sh\n"),
         ] {
-            let file = folder.write(name, content);
-            fs::set_permissions(file, fs::Permissions::from_mode(0o755)).expect("a file of ours");
+            let file = write_to_run(|| folder.write(name, content));
+            set_mode(&file, 0o755);
         }
         for package in [
             "tests/documents",
