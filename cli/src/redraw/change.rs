@@ -1,0 +1,118 @@
+//! The figures of a new record beside those of the one that it replaces.
+
+use crate::examined::Reference;
+use crate::failure::Failure;
+use crate::system::FileStatus;
+use crate::types::{self, Type};
+use crate::units;
+use cundarivo::TOTAL;
+
+/// A line that makes the first three of a record in form a record in form.
+const WEIGHT_LINE: &[u8] = b"W,1,65536\n";
+const NOT_IN_FORM: u32 = 11;
+const NO_TEXT: u32 = 1;
+
+/// What was there under a record's name.
+pub struct Old {
+    /// Its first bytes.
+    pub bytes: Vec<u8>,
+    /// Whether these are all.
+    pub whole: bool,
+    pub status: FileStatus,
+}
+
+/// Centre and squared radius, in steps, the first times D and the second times D².
+struct Figures {
+    centre: Vec<(&'static Type, i128)>,
+    scaled_squared_radius: i128,
+}
+
+pub fn tell(reference: &Reference<'_>, record: &[u8], old: Option<&Old>) -> Result<String, String> {
+    let new = drawn(reference, record)?.told();
+    let before = match old {
+        None => "no record".to_string(),
+        Some(old) => tell_old(old),
+    };
+    Ok(format!("{new}; before: {before}"))
+}
+
+fn tell_old(old: &Old) -> String {
+    match (first_lines(&old.bytes), old.whole) {
+        (None, false) => "a file too long to be told".to_string(),
+        (None, true) => "no record in form".to_string(),
+        (Some(lines), _) => match stated(lines) {
+            Some(figures) => figures.told(),
+            None => "no record in form".to_string(),
+        },
+    }
+}
+
+/// The figures of a drawn record, which must agree with the rows.
+fn drawn(reference: &Reference<'_>, record: &[u8]) -> Result<Figures, String> {
+    let (m, n) = (reference.m, reference.n);
+    let read = cundarivo::read_record(&reference.table, m, n, &reference.codes, record);
+    let envelope = read.map_err(|refusal| {
+        let line = format!("the record that was drawn is refused by {}", refusal.number);
+        Failure::contradiction(&line).line().to_string()
+    })?;
+    let figures = envelope.figures;
+    let channels = figures.codes.iter().map(|&code| types::of_code(code));
+    let centre = figures.scaled_centre.iter().map(|&place| i128::from(place));
+    Ok(Figures {
+        centre: channels.zip(centre).collect(),
+        scaled_squared_radius: figures.scaled_squared_radius.into(),
+    })
+}
+
+/// The first three lines with their line ends, where there are as many.
+fn first_lines(bytes: &[u8]) -> Option<&[u8]> {
+    let mut ends = (0..bytes.len()).filter(|&place| bytes[place] == b'\n');
+    let third = ends.nth(2)?;
+    Some(&bytes[..=third])
+}
+
+/// The figures as the first three lines of a record state them, where the library finds these in form. The
+/// rows that they were drawn from are gone, so that nothing more is known of them.
+fn stated(lines: &[u8]) -> Option<Figures> {
+    let text = [lines, WEIGHT_LINE].concat();
+    let read = cundarivo::read_record(&[0], 1, 1, &[1], &text);
+    if read.is_err_and(|refusal| [NO_TEXT, NOT_IN_FORM].contains(&refusal.number)) {
+        return None;
+    }
+    let text = std::str::from_utf8(lines).ok()?;
+    let mut lines = text.lines().map(|line| line.split(','));
+    let tags = lines.next()?.skip(2);
+    let centre = lines.next()?.skip(1);
+    let centre = tags.zip(centre).map(|(tag, place)| {
+        let channel = types::of_tag(tag.as_bytes())?;
+        Some((channel, place.parse().ok()?))
+    });
+    Some(Figures {
+        centre: centre.collect::<Option<_>>()?,
+        scaled_squared_radius: lines.next()?.nth(1)?.parse().ok()?,
+    })
+}
+
+impl Figures {
+    fn told(&self) -> String {
+        let total = i128::from(TOTAL);
+        let place = |(channel, place): &(&Type, i128)| {
+            format!("{} {}", channel.tag, units::part(channel, *place, total))
+        };
+        let centre: Vec<String> = self.centre.iter().map(place).collect();
+        let radius = match u128::try_from(self.scaled_squared_radius) {
+            Ok(square) => {
+                let root = i128::try_from(root_above(square)).expect("a root of 19 digits");
+                format!("radius {} steps", units::fraction(root, total, 0, 1))
+            }
+            Err(_) => "a squared radius below 0".to_string(),
+        };
+        format!("centre {}, {radius}", centre.join(", "))
+    }
+}
+
+/// The smallest whole number with a square of at least this.
+fn root_above(square: u128) -> u128 {
+    let root = square.isqrt();
+    root + u128::from(root * root < square)
+}
