@@ -1,5 +1,6 @@
-//! `./envelope redraw` of a folder of 900 reference texts of 60 rows and 4 channels, end to end, against
-//! plain Rust in one process: with no records there, and with all records there and unchanged.
+//! `envelope redraw` of a folder of 900 reference texts of 60 rows and 4 channels, end to end, against plain
+//! Rust that does the same: with no records there, with all of them there and unchanged, and with every text
+//! changed. With CUNDARIVO_FILES in the environment, a folder of as many small texts besides.
 
 use crate::measure::{print_header, print_line};
 use crate::plain_redraw;
@@ -11,49 +12,79 @@ use std::time::Instant;
 
 const FILES: usize = 900;
 const ROWS: usize = 60;
-const ROUNDS: usize = 7;
+const ROUNDS: usize = 11;
+/// Rows and rounds of a folder of many texts.
+const SMALL_ROWS: usize = 5;
+const FEW_ROUNDS: usize = 3;
 
 pub fn measure_redraw(random: &mut Random) {
     print_header("files");
-    let folders = ["proved", "plain"].map(|name| write_texts(name, &mut random.clone()));
-    // The first use of the script builds its program.
-    proved(&folders[0]);
-    let [mut all_new, mut unchanged] = [0; 2].map(|_| [Vec::new(), Vec::new()]);
-    for round in 0..ROUNDS {
+    measure_folder("redraw", random, (FILES, ROWS), ROUNDS);
+    if let Some(files) = files_asked_for() {
+        let sizes = [files / 10, files].map(|files| (files, SMALL_ROWS));
+        for size in sizes {
+            measure_folder("small texts", random, size, FEW_ROUNDS);
+        }
+    }
+}
+
+fn files_asked_for() -> Option<usize> {
+    let files = std::env::var("CUNDARIVO_FILES").ok()?;
+    Some(files.parse().expect("CUNDARIVO_FILES is a whole number"))
+}
+
+fn measure_folder(name: &str, random: &mut Random, size: (usize, usize), rounds: usize) {
+    let folders = ["proved", "plain"].map(new_folder);
+    let mut times = [0; 3].map(|_| [Vec::new(), Vec::new()]);
+    for round in 0..rounds {
+        let texts = [random.clone(), Random(round as u64 + 1)];
         // Who goes first changes from round to round.
         for turn in [round % 2, 1 - round % 2] {
             let redraw = [proved as fn(&Path), plain_redraw::redraw][turn];
-            remove_records(&folders[turn]);
-            all_new[turn].push(seconds(redraw, &folders[turn]));
-            unchanged[turn].push(seconds(redraw, &folders[turn]));
+            let folder = &folders[turn];
+            let mut time = |kind: usize| times[kind][turn].push(seconds(redraw, folder));
+            remove_records(folder, size.0);
+            write_texts(folder, &mut texts[0].clone(), size);
+            time(0);
+            time(1);
+            write_texts(folder, &mut texts[1].clone(), size);
+            time(2);
         }
+        assert_same_records(&folders, size.0);
     }
-    assert_same_records(&folders);
-    print_line("redraw, all new", all_new, FILES as u64);
-    print_line("redraw, unchanged", unchanged, FILES as u64);
+    for (kind, times) in ["new", "unchanged", "changed"].iter().zip(times) {
+        print_line(&format!("{name}, {kind}"), times, size.0 as u64);
+    }
     for folder in folders {
         fs::remove_dir_all(folder).expect("a folder of ours");
     }
 }
 
-fn write_texts(name: &str, random: &mut Random) -> PathBuf {
+fn new_folder(name: &str) -> PathBuf {
     let name = format!("cundarivo-bench-{}-{name}", std::process::id());
     let folder = std::env::temp_dir().join(name);
     fs::create_dir(&folder).expect("a new folder");
-    for file in 0..FILES {
+    folder
+}
+
+/// The writes are over, on disk too, when the time is taken.
+fn write_texts(folder: &Path, random: &mut Random, (files, rows): (usize, usize)) {
+    for file in 0..files {
         let mut text = String::from("REF,4,TOC,CND,FLW,TC\n");
-        for row in 1..=ROWS {
+        for row in 1..=rows {
             let values = random.row_of_readings(4);
             let values: Vec<String> = values.iter().map(i32::to_string).collect();
             text += &format!("ROW-{row},{}\n", values.join(","));
         }
-        fs::write(folder.join(format!("{file}.ref")), text).expect("a new file");
+        fs::write(folder.join(format!("{file}.ref")), text).expect("a file of ours");
     }
-    folder
+    let flushed = Command::new("sync").arg("-f").arg(folder).status();
+    assert!(flushed.expect("sync runs").success());
+    std::thread::sleep(std::time::Duration::from_millis(50));
 }
 
-fn remove_records(folder: &Path) {
-    for file in 0..FILES {
+fn remove_records(folder: &Path, files: usize) {
+    for file in 0..files {
         // There may be none yet.
         let _ = fs::remove_file(record(folder, file));
     }
@@ -63,8 +94,8 @@ fn record(folder: &Path, file: usize) -> PathBuf {
     folder.join(format!("{file}.env"))
 }
 
-fn assert_same_records(folders: &[PathBuf; 2]) {
-    for file in 0..FILES {
+fn assert_same_records(folders: &[PathBuf; 2], files: usize) {
+    for file in 0..files {
         let [proved, plain] = folders
             .each_ref()
             .map(|folder| fs::read(record(folder, file)));
@@ -80,9 +111,9 @@ fn seconds(redraw: impl Fn(&Path), folder: &Path) -> f64 {
 }
 
 fn proved(folder: &Path) {
-    let script = Path::new(env!("CARGO_MANIFEST_DIR")).join("../envelope");
-    let ended = Command::new(script).arg("redraw").arg(folder).output();
-    let ended = ended.expect("a script that runs");
+    let program = Path::new(env!("CARGO_MANIFEST_DIR")).join("../cli/target/release/envelope");
+    let ended = Command::new(program).arg("redraw").arg(folder).output();
+    let ended = ended.expect("a program that runs; build it first: ./envelope --version");
     let messages = String::from_utf8_lossy(&ended.stderr);
     assert!(ended.status.success(), "{messages}");
 }

@@ -20,6 +20,7 @@ const AT_SYMLINK_NOFOLLOW: c_int = 0x100;
 const AT_EMPTY_PATH: c_int = 0x1000;
 /// Type, bits, size, times and inode.
 const STATX_BASIC_STATS: c_uint = 0x7ff;
+const SYNC_FILE_RANGE_WRITE: c_uint = 2;
 const RLIMIT_NOFILE: c_int = 7;
 const F_GETFD: c_int = 1;
 const SIGXFSZ: c_int = 25;
@@ -87,6 +88,7 @@ unsafe extern "C" {
     ) -> c_int;
     fn unlinkat(folder: c_int, name: *const c_char, flags: c_int) -> c_int;
     fn getdents64(folder: c_int, entries: *mut c_void, length: usize) -> isize;
+    fn sync_file_range(file: c_int, start: i64, length: i64, flags: c_uint) -> c_int;
     fn getrandom(bytes: *mut c_void, length: usize, flags: c_uint) -> isize;
     fn getrlimit(resource: c_int, limits: *mut Limits) -> c_int;
 }
@@ -218,6 +220,18 @@ pub fn list(folder: impl AsFd, entries: &mut [u8]) -> io::Result<usize> {
     // SAFETY: the pointer and the length are those of a slice that is lent to nobody else.
     let filled = unsafe { getdents64(folder, entries.as_mut_ptr().cast(), length) };
     usize::try_from(filled).map_err(|_| io::Error::last_os_error())
+}
+
+/// Starts to write a file's content to disk, and does not wait for the end of it, as a flush does. A system
+/// that cannot is no failure.
+pub fn start_to_flush(file: impl AsFd) -> io::Result<()> {
+    let descriptor = file.as_fd().as_raw_fd();
+    // SAFETY: the call has numbers alone.
+    let started = unsafe { sync_file_range(descriptor, 0, 0, SYNC_FILE_RANGE_WRITE) };
+    match require(started) {
+        Err(error) if error.kind() == io::ErrorKind::Unsupported => Ok(()),
+        started => started,
+    }
 }
 
 /// A number that nobody can foresee.

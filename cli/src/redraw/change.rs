@@ -38,7 +38,7 @@ pub fn tell(reference: &Reference<'_>, record: &[u8], old: Option<&Old>) -> Resu
 
 fn tell_old(old: &Old) -> String {
     match (first_lines(&old.bytes), old.whole) {
-        (None, false) => "a file too long to be told".to_string(),
+        (None, false) => "a longer file, not told".to_string(),
         (None, true) => "no record in form".to_string(),
         (Some(lines), _) => match stated(lines) {
             Some(figures) => figures.told(),

@@ -64,7 +64,7 @@ impl<'f> Waiting<'f> {
             false => Ok(()),
         };
         let written = written.and_then(|()| (&waiting.file).write_all(record));
-        match written {
+        match written.and_then(|()| system::start_to_flush(&waiting.file)) {
             Ok(()) => Ok(waiting),
             Err(error) => Err(waiting.given_up(error)),
         }

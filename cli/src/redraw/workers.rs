@@ -127,7 +127,8 @@ impl<'f> Run<'f> {
         }
     }
 
-    /// Flushes the waiting records, and renames those that are flushed.
+    /// Flushes the waiting records, and renames those that are flushed. The last one is flushed first: by then
+    /// most of the others are on disk, and the system's journal is written for all of them at once.
     fn put_in_place(&self, records: Vec<(usize, NewRecord<'f>)>, outcomes: &mut Vec<Placed>) {
         let flush = |(index, record): (usize, NewRecord<'f>)| {
             let NewRecord {
@@ -137,8 +138,8 @@ impl<'f> Run<'f> {
             } = record;
             (index, waiting.flush(), name, change)
         };
-        let flushed: Vec<_> = records.into_iter().map(flush).collect();
-        for (index, waiting, name, change) in flushed {
+        let flushed: Vec<_> = records.into_iter().rev().map(flush).collect();
+        for (index, waiting, name, change) in flushed.into_iter().rev() {
             let outcome = match waiting.and_then(|waiting| waiting.put_in_place(&name)) {
                 Ok(()) => Outcome::Drawn(change),
                 Err(error) => Outcome::Failed(of_record(&name, &error)),

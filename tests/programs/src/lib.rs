@@ -7,6 +7,7 @@
 //!   peak memory, kills, another user.
 //! - `folder`: temporary folders.
 //! - `presented`: what the command prints for people, read back.
+//! - `redrawn`: what `redraw` told of the files of a folder.
 //! - `script`: running the program that `./envelope` starts.
 //! - `repository`: `./envelope` in a folder of its own, with other tools and another program.
 
@@ -14,6 +15,7 @@ pub mod call;
 pub mod folder;
 pub mod presented;
 pub mod process;
+pub mod redrawn;
 pub mod repository;
 pub mod script;
 pub mod system;

@@ -1,12 +1,13 @@
-//! `./envelope redraw` killed with all its processes at random moments: every record that was there is
-//! the old or the new one, whole, and the next undisturbed run completes.
+//! `envelope redraw` killed at random moments: every record that was there is the old or the new one, whole,
+//! and the next undisturbed run completes.
 
 use outside::random::{Random, seed_from_environment};
 use programs::call::run;
 use programs::folder::Folder;
-use programs::script::{path, redraw};
+use programs::redrawn::{other_names, redraw};
+use programs::script::path;
 use programs::system::kill_group;
-use std::fs::File;
+use std::fs::{self, File};
 use std::os::unix::process::CommandExt;
 use std::process::{Child, Command, Stdio};
 use std::thread;
@@ -62,7 +63,7 @@ fn start(folder: &Folder) -> Child {
         .stdout(Stdio::null())
         .stderr(Stdio::null())
         .spawn()
-        .expect("a script that runs")
+        .expect("a program that runs")
 }
 
 /// Waits for a random moment of a run: one of its whole time, or the one at which one of the files
@@ -80,8 +81,7 @@ fn wait_for_moment(random: &mut Random, folder: &Folder, drawn: &[usize], whole:
     }
 }
 
-/// Waits for the last of the killed processes, which completes the system call that it was in. Each
-/// of them holds the folder's lock.
+/// Waits for the end of the killed process, which holds the folder's lock.
 fn wait_for_end(folder: &Folder) {
     let folder = File::open(folder.path()).expect("a folder");
     folder.lock().expect("a lock");
@@ -96,7 +96,7 @@ fn killed_runs_leave_whole_records() {
     let folder = Folder::new();
     versions.write_texts(&folder, 0);
     let began = Instant::now();
-    assert_eq!(redraw(folder.path()).status, 0);
+    assert_eq!(redraw(&folder).status, 0);
     let whole = began.elapsed();
     let (mut killed, mut partly) = (0, 0);
     for round in 1..=ROUNDS {
@@ -125,9 +125,16 @@ fn killed_runs_leave_whole_records() {
         killed >= ROUNDS / 4,
         "only {killed} of {ROUNDS} rounds were killed"
     );
-    let ended = redraw(folder.path());
+    let ended = redraw(&folder);
     assert_eq!(ended.status, 0, "{}", ended.messages);
     assert_eq!(records(&folder), versions.records[ROUNDS as usize % 2]);
-    let kept = |name: &String| name.ends_with(".env") || name.ends_with(".ref");
-    assert!(folder.names().iter().all(kept), "{:?}", folder.names());
+    let left = other_names(&folder);
+    println!("{} waiting records were left", left.len());
+    assert!(left.iter().all(|name| name.starts_with(".envelope-")));
+    let told = format!("that other runs left: {};", left.len());
+    assert!(left.is_empty() || ended.messages.contains(&told));
+    for name in left {
+        fs::remove_file(folder.path().join(name)).expect("a file that was left");
+    }
+    assert_eq!(redraw(&folder).messages, "");
 }
