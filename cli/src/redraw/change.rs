@@ -116,3 +116,44 @@ fn root_above(square: u128) -> u128 {
     let root = square.isqrt();
     root + u128::from(root * root < square)
 }
+
+#[cfg(test)]
+mod tests {
+    use super::{first_lines, root_above, stated};
+
+    #[test]
+    fn roots_are_the_smallest_whole_numbers_above() {
+        let squares = [0, 1, 2, 4, 5, 9, 4_294_967_296, 4_294_967_297];
+        let roots = [0, 1, 2, 2, 3, 3, 65_536, 65_537];
+        assert_eq!(squares.map(root_above), roots);
+    }
+
+    #[test]
+    fn three_lines_are_taken() {
+        assert_eq!(first_lines(b"a\nb\nc"), None);
+        assert_eq!(first_lines(b"a\nb\nc\n"), Some(&b"a\nb\nc\n"[..]));
+        assert_eq!(first_lines(b"\n\n\n\n"), Some(&b"\n\n\n"[..]));
+    }
+
+    #[test]
+    fn lines_in_form_are_told_whatever_their_channels_are() {
+        let told = |lines: &str| stated(lines.as_bytes()).map(|figures| figures.told());
+        let tags = ["TOC", "TC", "IC", "CND", "TMP", "PH", "FLW", "ORP"];
+        for n in 1..=8 {
+            let heading = format!("ENV,{n},{}", tags[..n].join(","));
+            let lines = format!("{heading}\nC{}\nR,0,0,0,S\n", ",65536".repeat(n));
+            let told = told(&lines).expect("lines in form");
+            assert!(told.starts_with("centre TOC 1.0 ppb"), "{told}");
+            assert_eq!(told.matches(", ").count(), n, "{told}");
+        }
+        for lines in [
+            "ENV,1,TOC\nC,1\nR,0,0,0\n",
+            "ENV,2,TOC\nC,1\nR,0,0,0,S\n",
+            "ENV,1,TOC\nC,1\nR,0,0,1000001,S\n",
+            "ENV,1,TOC\nC,12345678901234567890\nR,0,0,0,S\n",
+            "ENV,1,TOC\nC,1\nR,0,0,0,S\r\n",
+        ] {
+            assert_eq!(told(lines), None, "{lines}");
+        }
+    }
+}

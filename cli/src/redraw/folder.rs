@@ -163,3 +163,57 @@ fn lease_told(error: io::Error) -> io::Error {
         _ => error,
     }
 }
+
+#[cfg(test)]
+mod tests {
+    use super::{ENTRY_HEADER, Names, add_names};
+
+    /// An entry as the system states it.
+    fn entry(name: &[u8]) -> Vec<u8> {
+        let length = (ENTRY_HEADER + name.len() + 1).next_multiple_of(8);
+        let mut entry = vec![7; 16];
+        entry.extend_from_slice(&u16::try_from(length).expect("a short name").to_ne_bytes());
+        entry.push(8);
+        entry.extend_from_slice(name);
+        entry.resize(length, 0);
+        entry
+    }
+
+    #[test]
+    fn names_of_texts_and_of_waiting_records_are_found() {
+        let long = [&[b'l'; 251][..], b".ref"].concat();
+        let all: [&[u8]; 12] = [
+            b".",
+            b"..",
+            b"a.ref",
+            b".ref",
+            b".b.ref",
+            b"c.env",
+            b"\xff\n.ref",
+            b"ref",
+            b"d.REF",
+            &long,
+            b".envelope-0",
+            b".envelope-x.ref",
+        ];
+        let entries: Vec<u8> = all.iter().flat_map(|name| entry(name)).collect();
+        let mut names = Names::default();
+        add_names(&entries, &mut names);
+        let found: Vec<&[u8]> = names
+            .references
+            .iter()
+            .map(|name| name.to_bytes())
+            .collect();
+        assert_eq!(found, [b"a.ref", &b"\xff\n.ref"[..], &long]);
+        assert_eq!(names.waiting, 2);
+    }
+
+    #[test]
+    fn entries_that_are_no_entries_end_the_list() {
+        for length in 0..60 {
+            for byte in [0, 1, 19, 255] {
+                add_names(&vec![byte; length], &mut Names::default());
+            }
+        }
+    }
+}

@@ -75,3 +75,16 @@ fn bar(done: usize, all: usize) -> String {
 fn write(text: &str) {
     let _ = io::stderr().write_all(text.as_bytes());
 }
+
+#[cfg(test)]
+mod tests {
+    use super::bar;
+
+    #[test]
+    fn a_bar_is_full_at_the_end_and_fits_into_a_line() {
+        assert_eq!(bar(0, 9), format!("[{}] 0 of 9", " ".repeat(40)));
+        assert_eq!(bar(9, 9), format!("[{}] 9 of 9", "#".repeat(40)));
+        assert!(bar(1, 3).starts_with(&format!("[{} ", "#".repeat(13))));
+        assert!(bar(1_000_000, 1_000_000).len() < 80);
+    }
+}

@@ -39,7 +39,9 @@ struct Run<'f> {
 /// Draws every reference text of a list, as many at a time as there are processors.
 pub fn draw_all(folder: &Folder, references: &[CString], told: Option<&[u8]>) -> io::Result<Drawn> {
     let waiting_names = WaitingNames::new()?;
-    let (workers, batch) = shares(references.len());
+    let processors = thread::available_parallelism().map_or(1, usize::from);
+    let limit = system::descriptor_limit().unwrap_or(USUAL_DESCRIPTORS);
+    let (workers, batch) = shares(references.len(), processors, limit);
     let run = Run {
         place: Place {
             folder,
@@ -67,9 +69,7 @@ pub fn draw_all(folder: &Folder, references: &[CString], told: Option<&[u8]>) ->
 
 /// How many workers there are, and how many records of each may wait together: a waiting record keeps a
 /// descriptor, and so does the file that a worker reads.
-fn shares(files: usize) -> (usize, usize) {
-    let processors = thread::available_parallelism().map_or(1, usize::from);
-    let limit = system::descriptor_limit().unwrap_or(USUAL_DESCRIPTORS);
+fn shares(files: usize, processors: usize, limit: u64) -> (usize, usize) {
     let descriptors =
         usize::try_from(limit.saturating_sub(OTHER_DESCRIPTORS)).unwrap_or(usize::MAX);
     let workers = processors.min(files).min(descriptors / 2).max(1);
@@ -158,6 +158,27 @@ impl<'f> Run<'f> {
         refused.insert(index, text);
         if refused.len() > TEXTS_IN_WORDS {
             refused.pop_last();
+        }
+    }
+}
+
+#[cfg(test)]
+mod tests {
+    use super::shares;
+
+    #[test]
+    fn the_descriptors_are_enough_and_the_texts_are_shared_out() {
+        assert_eq!(shares(900, 2, 1_024), (2, 128));
+        assert_eq!(shares(3, 2, 1_024), (2, 2));
+        assert_eq!(shares(1, 2, 1_024), (1, 1));
+        assert_eq!(shares(100_000, 64, 1_024), (64, 14));
+        assert_eq!(shares(900, 2, u64::MAX), (2, 128));
+        for limit in 0..19 {
+            assert_eq!(shares(900, 64, limit), (1, 1), "{limit}");
+        }
+        for (processors, limit) in [(1, 1_024), (8, 256), (512, 1_024), (1_000, 20)] {
+            let (workers, batch) = shares(100_000, processors, limit);
+            assert!((workers * (batch + 1)) as u64 + 16 <= limit);
         }
     }
 }
