@@ -69,3 +69,36 @@ fn joined(values: &[&[u8]], channels: &[&Type], place: usize) -> Option<String> 
         )
     })
 }
+
+#[cfg(test)]
+mod tests {
+    use super::of_row;
+    use crate::types::{Type, of_tag};
+    use crate::words::line::Line;
+
+    /// What is told behind the count of the fields.
+    fn told(row: &str) -> String {
+        let channels = ["TMP", "FLW", "ORP"].map(|tag| of_tag(tag.as_bytes()).expect("a tag"));
+        let channels: Vec<&Type> = channels.to_vec();
+        let hint = of_row(Line::of(row.as_bytes()), &channels).expect("another count");
+        let (_, told) = hint.split_once("a label and 3 values").expect("the count");
+        told.to_string()
+    }
+
+    #[test]
+    fn a_decimal_comma_is_told_where_it_can_be_the_only_one() {
+        let only = |pair: &str, value: &str| {
+            format!("; if '{pair}' is one value with a decimal comma, {value}")
+        };
+        // 3999 is a value of FLW and not of ORP, -44 of ORP and not of FLW.
+        let temperature = only("22,8", "22.8 °C under TMP is 228");
+        assert_eq!(told("A,22,8,3999,-44\n"), temperature);
+        let flow = only("34,6", "34.6 l/min under FLW is 346");
+        assert_eq!(told("A,-7,34,6,-44\n"), flow);
+        // Both could be.
+        assert_eq!(told("A,22,8,6,-44\n"), "; a number has no comma in it");
+        // Two are too many.
+        assert_eq!(told("A,22,8,34,6,-44\n"), "; a number has no comma in it");
+        assert_eq!(told("A,22,ND,8,-44\n"), "");
+    }
+}

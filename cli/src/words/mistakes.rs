@@ -190,6 +190,16 @@ fn values_outside_their_range() {
 }
 
 #[test]
+fn values_of_many_digits() {
+    for (written, digits) in [("99999999999", 11), ("-123456789012345678901234567890", 30)] {
+        require_value(4, |channel, _| {
+            let start = format!(" has {digits} digits; {} goes from ", channel.tag);
+            (written.to_string(), start, String::new())
+        });
+    }
+}
+
+#[test]
 fn values_below_detection_outside_their_range() {
     require_value(4, |channel, random| {
         let high = channel.high;
@@ -227,6 +237,33 @@ fn rows_of_other_numbers_of_fields() {
             wanted + 1
         )
     });
+}
+
+/// Where only one pair of fields can be a value with a decimal comma, it is the one that is.
+#[test]
+fn decimal_commas() {
+    println!("seed {SEED}");
+    let mut random = Random { state: SEED };
+    let mut found = 0;
+    for _ in 0..TEXTS {
+        let mut case = Case::new(&mut random);
+        let channel = case.channel();
+        let steps = 1 + random.index(channel.high as usize);
+        let whole = units::whole(channel, steps as i64);
+        let number = whole.split(' ').next().expect("a number");
+        let zero = if channel.decimals == 0 { ",0" } else { "" };
+        let written = number.replace('.', ",") + zero;
+        *case.value() = written.clone();
+        let (refusal, hint) = told(&case.text());
+        assert_eq!((refusal.number, refusal.line as usize), (3, case.row + 2));
+        if let Some((_, pair)) = hint.split_once("; if ") {
+            let tag = channel.tag;
+            let end = format!("is one value with a decimal comma, {whole} under {tag} is {steps}");
+            assert_eq!(pair, format!("'{written}' {end}"));
+            found += 1;
+        }
+    }
+    assert!(found > TEXTS / 2, "{found}");
 }
 
 #[test]
@@ -313,6 +350,23 @@ fn counts_of_headings() {
         case.heading[1] = other.to_string();
         format!("n is {other}, with {n} tag")
     });
+    for n in ["0", "9", "-1", "12345678901234567890"] {
+        require_heading(|case, _| {
+            case.heading[1] = n.to_string();
+            format!("n, the number of tags, is '{n}': it is 1 to 8")
+        });
+    }
+    for (n, fault) in [
+        ("", "is empty"),
+        ("02", "has leading zeros"),
+        ("2.0", "has a decimal point"),
+        ("five", "is no number"),
+    ] {
+        require_heading(|case, _| {
+            case.heading[1] = n.to_string();
+            format!("n, the number of tags, is '{n}', which {fault}")
+        });
+    }
     require_heading(|case, _| {
         case.heading.remove(1);
         let tag = case.channels[0].tag;
