@@ -56,13 +56,6 @@ impl Text {
         }
     }
 
-    /// A line of the text, counted from 1, without its byte 10; none where the text has fewer. What follows
-    /// the last byte 10 is a line too where it has a byte.
-    pub fn line(&self, number: u32) -> Option<&[u8]> {
-        let index = usize::try_from(number).ok()?.checked_sub(1)?;
-        self.lines().nth(index)
-    }
-
     /// Every line without its byte 10.
     pub fn lines(&self) -> impl Iterator<Item = &[u8]> {
         self.bytes

@@ -25,7 +25,7 @@ const INPUTS: u64 = 300;
 fn run<Text: AsRef<[u8]>>(option: &[&str], texts: &[Text]) -> Ended {
     let folder = Folder::new();
     let files = folder.write_texts(texts);
-    let mut command = Way::Script.command("judge", option);
+    let mut command = Way::Command.command("judge", option);
     end(command.args(files), b"")
 }
 
@@ -321,7 +321,7 @@ fn the_option_stands_anywhere() {
         folder.write(Path::new(name), text);
     }
     let run = |words: &[&str]| {
-        let mut command = Way::Script.command("judge", words);
+        let mut command = Way::Command.command("judge", words);
         end(command.current_dir(folder.path()), READING.as_bytes())
     };
     for words in [

@@ -261,7 +261,7 @@ fn assert_weight(text: &str, weight: i128) {
 fn show<Text: AsRef<[u8]>>(texts: &[Text]) -> Ended {
     let folder = Folder::new();
     let files = folder.write_texts(texts);
-    end(&mut Way::Script.command("show", &files), b"")
+    end(&mut Way::Command.command("show", &files), b"")
 }
 
 fn stored(name: &str) -> PathBuf {
@@ -293,7 +293,7 @@ fn the_stored_outputs_of_the_examples() {
             (&[reference.clone()][..], "drawn"),
             (&[reference, record], "record"),
         ] {
-            let mut command = Way::Script.command("show", files);
+            let mut command = Way::Command.command("show", files);
             let ended = end(command.current_dir(root().join("examples")), b"");
             let output = std::fs::read_to_string(stored(&format!("{point}.{kind}")));
             ended.assert_printed(&output.expect("a stored output"), 0);
@@ -399,7 +399,7 @@ fn texts_from_standard_input() {
         .map(|file| file.to_str().expect("UTF-8"))
         .collect();
     let run = |words: &[&str], input: &str| {
-        let ended = end(&mut Way::Script.command("show", words), input.as_bytes());
+        let ended = end(&mut Way::Command.command("show", words), input.as_bytes());
         assert_eq!((ended.status, &*ended.messages), (0, ""), "{words:?}");
         ended.text().to_string()
     };

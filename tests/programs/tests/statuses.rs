@@ -35,7 +35,7 @@ const COMMANDS: [&str; 9] = [
 fn run<Text: AsRef<[u8]>>(words: &[&str], texts: &[Text]) -> Ended {
     let folder = Folder::new();
     let files = folder.write_texts(texts);
-    end(Way::Script.command(words[0], &words[1..]).args(files), b"")
+    end(Way::Command.command(words[0], &words[1..]).args(files), b"")
 }
 
 /// The status of `judge`, with and without the option.
@@ -154,7 +154,7 @@ fn readings_that_are_turned_back_are_said_in_words() {
         }
         let readings = ALARM.to_string() + QUIET + &TURNED_BACK[2].repeat(count);
         folder.write("day 1", &readings);
-        let mut command = Way::Script.command("judge", &["r", "e", "day 1"]);
+        let mut command = Way::Command.command("judge", &["r", "e", "day 1"]);
         let ended = end(command.current_dir(folder.path()), b"");
         let lines: Vec<&str> = ended.messages.lines().collect();
         for (index, line) in lines.iter().take(TOLD).enumerate() {
@@ -276,7 +276,7 @@ fn an_output_that_cannot_be_written_is_2() {
     }
     let folder = Folder::new();
     let files = folder.write_texts(&[REFERENCE, RECORD, READING]);
-    let mut explain = Way::Script.command("judge", &["--explain"]);
+    let mut explain = Way::Command.command("judge", &["--explain"]);
     let full = end(&mut redirected(">/dev/full", explain.args(files)), b"");
     full.assert_failed("standard output: No space left on device");
 }
