@@ -308,8 +308,10 @@ fn a_refused_text_is_answered_as_without_it() {
         let (explained, plain) = (explain(&texts), run(&[], &texts));
         assert_eq!((explained.text(), explained.status), (answer, 1));
         assert_eq!((plain.text(), plain.status), (answer, 1));
-        assert!(plain.messages.starts_with("envelope: "));
-        assert_eq!(plain.messages.lines().count(), 1);
+        for ended in [explained, plain] {
+            ended.assert_words();
+            assert_eq!(ended.messages.lines().count(), 2, "a reason and a hint");
+        }
     }
 }
 

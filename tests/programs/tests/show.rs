@@ -428,6 +428,7 @@ fn refused_texts() {
     ] {
         let ended = show(texts);
         assert_eq!((ended.text(), ended.status), (answer, 1));
-        assert_eq!(ended.messages.lines().count(), 1, "{}", ended.messages);
+        ended.assert_words();
+        assert_eq!(ended.messages.lines().count(), 2, "a reason and a hint");
     }
 }

@@ -156,15 +156,21 @@ fn readings_that_are_turned_back_are_said_in_words() {
         folder.write("day 1", &readings);
         let mut command = Way::Command.command("judge", &["r", "e", "day 1"]);
         let ended = end(command.current_dir(folder.path()), b"");
+        ended.assert_words();
         let lines: Vec<&str> = ended.messages.lines().collect();
-        for (index, line) in lines.iter().take(TOLD).enumerate() {
-            let start = format!("envelope: 'day\\x201', line {}: ", index + 3);
-            assert!(line.starts_with(&start) && line.contains('4'), "{line}");
+        for (index, lines) in lines.chunks(2).take(TOLD).enumerate() {
+            let start = format!("envelope: 'day\\x201', line {}: refused by 4: ", index + 3);
+            assert!(lines[0].starts_with(&start), "{}", lines[0]);
+            assert!(
+                lines[1].starts_with("  ") && lines[1].contains("2001 ppb"),
+                "{}",
+                lines[1]
+            );
         }
-        assert_eq!(lines.len(), count.min(TOLD + 1));
+        assert_eq!(lines.len(), 2 * count.min(TOLD) + usize::from(count > TOLD));
         if count > TOLD {
             let more = format!("{} more", count - TOLD);
-            assert!(lines[TOLD].contains(&more), "{}", lines[TOLD]);
+            assert!(lines[2 * TOLD].contains(&more), "{}", lines[2 * TOLD]);
         }
         assert_eq!(ended.text().lines().count(), count + 2);
     }
@@ -185,7 +191,8 @@ fn a_refused_text_is_1() {
         let ended = run(words, texts);
         assert_eq!(ended.status, 1, "{words:?}");
         assert!(ended.text().starts_with("NO,"), "{words:?}");
-        assert_eq!(ended.messages.lines().count(), 1, "{words:?}");
+        ended.assert_words();
+        assert_eq!(ended.messages.lines().count(), 2, "{words:?}");
     }
 }
 
