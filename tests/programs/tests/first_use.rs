@@ -482,30 +482,18 @@ fn a_built_repository_that_cannot_be_written_runs() {
     run().assert_printed("draw.input\n", 0);
     assert_eq!(fs::read(&list).expect("a stamp"), before);
     repository.folder.write("crates.txt", "other\n");
-    run().assert_told(
-        &format!(
-            "envelope: cannot write in {}/target/envelope",
-            repository.path().display()
-        ),
-        2,
-    );
-    for folder in [
-        "",
-        "target",
-        "target/envelope",
-        "cli",
-        "cli/target",
-        "cli/target/release",
-    ] {
-        set_mode(&repository.path().join(folder), 0o755);
+    let line = "envelope: cannot write in target/envelope of the repository";
+    run().assert_told(line, 2);
+    let line = "envelope: cannot write in target of the repository";
+    let [target, stamps] = ["target", "target/envelope"].map(|name| repository.path().join(name));
+    set_mode(&stamps, 0o000);
+    run().assert_told(line, 2);
+    for folder in [repository.path(), &target, &stamps] {
+        set_mode(folder, 0o755);
     }
-    fs::remove_dir_all(repository.path().join("target")).expect("a folder of ours");
+    fs::remove_dir_all(target).expect("a folder of ours");
     set_mode(repository.path(), 0o555);
-    let line = format!(
-        "envelope: cannot write in {}/target",
-        repository.path().display()
-    );
-    run().assert_told(&line, 2);
+    run().assert_told(line, 2);
     set_mode(repository.path(), 0o755);
     let mut opening = command("chmod");
     end(opening.args(["-R", "u+w"]).arg(repository.path()), b"").assert_printed("", 0);
