@@ -32,9 +32,16 @@ const O_NONBLOCK: i32 = 0o4000;
 const O_DIRECT: i32 = 0o40000;
 const NOBODY: u32 = 65_534;
 
+/// Waits for a child, which must end with status 0, and gives the most kibibytes that it had resident.
+pub fn wait_for_peak(child: Child) -> i64 {
+    let (status, peak) = wait_for_status_and_peak(child);
+    assert_eq!(status, 0, "the program ends with status 0");
+    peak
+}
+
 /// Waits for a child, and gives its status and the most kibibytes that it had resident. What the calling
 /// process has resident counts as well, so that this is at least the child's own peak.
-pub fn wait_for_peak(child: Child) -> (i32, i64) {
+pub fn wait_for_status_and_peak(child: Child) -> (i32, i64) {
     let (mut status, mut usage) = (0, ResourceUsage::default());
     let id = child.id() as i32;
     // SAFETY: both pointers are to places of this function, as large as C's.

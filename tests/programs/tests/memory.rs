@@ -4,7 +4,7 @@
 use programs::call::{WAYS, Way, run};
 use programs::folder::Folder;
 use programs::process::watch;
-use programs::system::wait_for_peak;
+use programs::system::wait_for_status_and_peak;
 use programs::{PROGRAMS, RECORD, REFERENCE, TEXT_LIMIT, texts};
 
 const LIMIT_KIBIBYTES: i64 = 8 * 1_024;
@@ -30,7 +30,7 @@ fn peak_kibibytes(way: Way, name: &str, texts: &[Vec<u8>]) -> i64 {
     let folder = Folder::new();
     let (last, before) = texts.split_last().expect("a text");
     let mut command = way.command(name, &folder.write_texts(before));
-    let ((status, peak), output) = watch(&mut command, last, wait_for_peak);
+    let ((status, peak), output) = watch(&mut command, last, wait_for_status_and_peak);
     assert!(!output.is_empty());
     assert_eq!(status, way.status(name, &output));
     peak
