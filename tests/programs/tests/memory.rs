@@ -1,5 +1,5 @@
-//! The peak of each program's resident memory on its largest input, and of its command's. It is the only test of its
-//! process, since what this process has resident counts as well.
+//! The peak of each program's resident memory on its largest input, and of its command's. It is the only
+//! test of its process, since what this process has resident counts as well.
 
 use programs::call::{WAYS, Way, run};
 use programs::folder::Folder;
