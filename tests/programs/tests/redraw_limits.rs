@@ -180,8 +180,7 @@ fn a_large_file_in_the_place_of_a_record_costs_nothing() {
 
 /// Redraws a folder, which must end in 0, and gives the most kibibytes that the program had resident.
 fn redraw_peak(folder: &Folder) -> i64 {
-    let ((status, peak), output) = watch(&mut command_of(&[folder.path()]), b"", wait_for_peak);
-    assert_eq!(status, 0);
+    let (peak, output) = watch(&mut command_of(&[folder.path()]), b"", wait_for_peak);
     assert!(output.starts_with(b"drawn a.ref: "));
     peak
 }
