@@ -13,6 +13,9 @@ use std::os::unix::ffi::OsStrExt;
 /// Lines are written together once they have as many bytes.
 const WRITTEN_TOGETHER: usize = 65_536;
 
+/// Of how many refused texts the reason is told in words.
+pub const TEXTS_IN_WORDS: usize = 20;
+
 pub enum Outcome {
     /// The record is in its place; the new figures and the old ones.
     Drawn(String),
@@ -55,6 +58,8 @@ pub struct Report {
     unchanged: usize,
     refused: usize,
     failed: usize,
+    /// Of how many refused texts the reason was told in words.
+    in_words: usize,
 }
 
 impl Report {
@@ -78,7 +83,6 @@ impl Report {
     /// Tells what became of a folder's reference texts.
     pub fn add(&mut self, path: &OsStr, names: &[CString], drawn: &Drawn) -> Result<(), Failure> {
         self.folders += 1;
-        let refused_before = self.refused;
         let place = self.place(path).map(|place| escaped(place) + "/");
         let place = place.unwrap_or_default();
         let mut lines = String::new();
@@ -91,8 +95,18 @@ impl Report {
             }
         }
         output::print(lines.as_bytes())?;
-        tell_refused(&drawn.refused, self.refused - refused_before);
+        for text in &drawn.refused {
+            self.tell_refused(text);
+        }
         Ok(())
+    }
+
+    /// Tells in words why a text was refused, where not enough of them have been told.
+    fn tell_refused(&mut self, text: &Text) {
+        if let (true, Err(refused)) = (self.in_words < TEXTS_IN_WORDS, Reference::read(text)) {
+            words::tell_refused(&refused);
+            self.in_words += 1;
+        }
     }
 
     fn line(&mut self, name: &str, outcome: &Outcome) -> String {
@@ -126,6 +140,10 @@ impl Report {
         if self.folders > self.failed_folders {
             output::print(self.counts().as_bytes())?;
         }
+        if self.refused > self.in_words {
+            let more = self.refused - self.in_words;
+            failure::tell(&format!("refused texts besides: {more}"));
+        }
         if self.failed > 0 {
             failure::tell(&format!(
                 "files that failed: {}; standard output says why",
@@ -155,19 +173,6 @@ impl Report {
 fn escaped(name: &[u8]) -> String {
     let more = if name.len() > shown::LIMIT { "..." } else { "" };
     shown::escaped(name) + more
-}
-
-/// Tells in words why the first texts were refused.
-fn tell_refused(texts: &[Text], count: usize) {
-    for text in texts {
-        if let Err(refused) = Reference::read(text) {
-            words::tell_refused(&refused);
-        }
-    }
-    if count > texts.len() {
-        let more = count - texts.len();
-        failure::tell(&format!("refused texts besides: {more}"));
-    }
 }
 
 /// Tells of records that runs that were ended left waiting.

@@ -3,7 +3,7 @@
 use super::drawing::{Drawing, NewRecord, Place, of_record};
 use super::folder::Folder;
 use super::progress::Progress;
-use super::report::{Drawn, Outcome};
+use super::report::{Drawn, Outcome, TEXTS_IN_WORDS};
 use super::waiting::WaitingNames;
 use crate::system;
 use crate::texts::Text;
@@ -20,8 +20,8 @@ const LARGEST_BATCH: usize = 128;
 const OTHER_DESCRIPTORS: u64 = 16;
 /// What is taken for the most descriptors where the system does not tell.
 const USUAL_DESCRIPTORS: u64 = 1_024;
-/// Of how many refused texts of a folder the reason is told in words.
-const TEXTS_IN_WORDS: usize = 20;
+/// The bytes of a worker's stack, of which a drawing needs 64 KiB; without them the environment has a say.
+const STACK: usize = 2 << 20;
 
 /// What became of a text, with its place in the list of names.
 type Placed = (usize, Outcome);
@@ -83,7 +83,7 @@ impl<'f> Run<'f> {
     fn work_together(&self, workers: usize) -> Vec<Placed> {
         thread::scope(|scope| {
             let start = |_| {
-                let other = thread::Builder::new();
+                let other = thread::Builder::new().stack_size(STACK);
                 other.spawn_scoped(scope, || self.work()).ok()
             };
             let others: Vec<_> = (1..workers).filter_map(start).collect();

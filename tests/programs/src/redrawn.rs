@@ -1,8 +1,8 @@
 //! What `redraw` told of the files of a folder.
 
 use crate::folder::Folder;
-use crate::process::{Ended, command, end};
-use crate::script::path;
+use crate::process::{Ended, command};
+use crate::script;
 use std::ffi::OsStr;
 use std::process::Command;
 
@@ -15,14 +15,14 @@ pub const REFERENCE_TOLD: &str = "centre TOC 3.0 ppb, CND 0.0040 µS/cm, radius 
 
 /// `redraw` of folders.
 pub fn command_of<Name: AsRef<OsStr>>(folders: &[Name]) -> Command {
-    let mut command = command(path());
+    let mut command = command(script::path());
     command.arg("redraw").args(folders);
     command
 }
 
 /// Redraws a folder to the end.
 pub fn redraw(folder: &Folder) -> Ended {
-    end(&mut command_of(&[folder.path()]), b"")
+    script::redraw(folder.path())
 }
 
 /// Asserts the lines on standard output, the last of which has the counts, and the status.

@@ -14,7 +14,7 @@ use std::thread;
 use std::time::{Duration, Instant};
 
 const SEED: u64 = 60;
-const ROUNDS: u64 = 80;
+const ROUNDS: u64 = 60;
 const FILES: usize = 60;
 
 /// A reference text of each file and its record, twice: the rounds go from one to the other.

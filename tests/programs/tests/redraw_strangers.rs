@@ -22,7 +22,7 @@ use std::time::{Duration, Instant};
 const SEED: u64 = 181;
 /// More than one batch for each of two workers.
 const FILES: usize = 300;
-const TIME: Duration = Duration::from_secs(3);
+const TIME: Duration = Duration::from_secs(2);
 
 unsafe extern "C" {
     fn fcntl(descriptor: i32, command: i32, ...) -> i32;
@@ -364,6 +364,7 @@ fn a_leased_file_is_a_failure_and_holds_nothing_up() {
 fn the_environment_brings_nothing_into_the_program() {
     let folder = Folder::new();
     folder.write("a.ref", ONE_ROW);
+    folder.write("b.ref", ONE_ROW);
     let loaded = folder.path().join("loaded");
     let source = format!(
         "#include <stdio.h>\n__attribute__((constructor)) static void start(void) {{\n\
@@ -397,7 +398,10 @@ fn the_environment_brings_nothing_into_the_program() {
         command.env(name, &library);
     }
     command.env("LD_LIBRARY_PATH", folder.path());
-    assert_counts(&end(&mut command, b""), [1, 0, 0, 0]);
+    command
+        .env("RUST_MIN_STACK", "1")
+        .env("RUST_BACKTRACE", "full");
+    assert_counts(&end(&mut command, b""), [2, 0, 0, 0]);
     assert_eq!(folder.read("a.env"), ONE_ROW_RECORD.as_bytes());
     assert!(!loaded.exists(), "nothing of the folder ran");
 }
