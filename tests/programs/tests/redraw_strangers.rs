@@ -40,8 +40,17 @@ fn random() -> Random {
     Random::new(seed)
 }
 
+/// Ends a loop of another thread, also where a test fails.
+struct Over<'a>(&'a AtomicBool);
+
+impl Drop for Over<'_> {
+    fn drop(&mut self) {
+        self.0.store(true, Ordering::Relaxed);
+    }
+}
+
 /// Runs `stranger` again and again while `runs` is going on.
-fn meanwhile<Given>(mut stranger: impl FnMut() + Send, runs: impl FnOnce() -> Given) -> Given {
+fn meanwhile(mut stranger: impl FnMut() + Send, runs: impl FnOnce()) {
     let over = AtomicBool::new(false);
     thread::scope(|scope| {
         scope.spawn(|| {
@@ -49,10 +58,9 @@ fn meanwhile<Given>(mut stranger: impl FnMut() + Send, runs: impl FnOnce() -> Gi
                 stranger();
             }
         });
-        let given = runs();
-        over.store(true, Ordering::Relaxed);
-        given
-    })
+        let _over = Over(&over);
+        runs();
+    });
 }
 
 /// The names in a folder that changes meanwhile, of which some are picked.
@@ -255,7 +263,7 @@ fn a_text_that_is_rewritten_meanwhile_gives_no_mixture() {
         thread::sleep(Duration::from_millis(random.below(12)));
     };
     meanwhile(writer, || {
-        while began.elapsed() < TIME || told[2] == 0 {
+        while began.elapsed() < TIME || (told[2] == 0 && began.elapsed() < 5 * TIME) {
             let ended = redraw(&folder);
             for file in 0..files {
                 let (outcome, besides) = outcome(&ended, &format!("{file}.ref"));
@@ -272,7 +280,7 @@ fn a_text_that_is_rewritten_meanwhile_gives_no_mixture() {
     });
     let [drawn, unchanged, failed] = told;
     println!("{drawn} drawn, {unchanged} unchanged, {failed} failed");
-    assert!(drawn > 0);
+    assert!(drawn > 0 && failed > 0);
 }
 
 /// Whatever is no regular file is a failure, as a text and as a record, and the others are drawn.
