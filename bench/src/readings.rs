@@ -1,4 +1,4 @@
-//! The verdict on readings, measured.
+//! The verdict on readings, and readings that are measured, timed.
 //!
 //! - of 8: readings of one channel of each type, values anywhere in their ranges, one in ten below
 //!   detection, labels of 2 to 11 bytes; judged against the envelope drawn from them, so that all
@@ -9,7 +9,7 @@ use crate::measure::{measure, print_header};
 use crate::random::Random;
 use crate::texts::{TAGS, value};
 use crate::verdict::{self, Verdict};
-use cundarivo::{Ending, Figures};
+use cundarivo::{CHANNELS, Ending, Figures};
 
 const READINGS: usize = 256;
 const BUDGET: u32 = 10_000;
@@ -23,6 +23,11 @@ struct Work<'a> {
 type Outcome = Result<Verdict, verdict::Refusal>;
 
 type Judge = fn(&Work<'_>) -> Outcome;
+
+/// The verdict, s and the values, or the refusal's number and line.
+type Handed = Result<(verdict::Measured, [i32; CHANNELS]), verdict::Refusal>;
+
+type Measure = fn(&Work<'_>) -> Handed;
 
 pub fn measure_readings(random: &mut Random) {
     print_header("bytes");
@@ -40,12 +45,25 @@ pub fn measure_readings(random: &mut Random) {
             let medians = measure(&name, &work, proved, plain, quiet_bytes);
             medians.print_rate(&name, READINGS, "readings");
         }
+        for (way, plain) in [
+            ("fields", measured_by_fields as Measure),
+            ("one pass", measured_in_one_pass),
+        ] {
+            let name = format!("measure {n}, {way}");
+            let medians = measure(&name, &work, proved_measure, plain, measured_bytes);
+            medians.print_rate(&name, READINGS, "readings");
+        }
     }
 }
 
 fn quiet_bytes(work: &Work<'_>, outcome: &Outcome) -> u64 {
     assert_eq!(outcome, &Ok(Verdict::Quiet), "a row of the envelope");
     work.text.len() as u64
+}
+
+fn measured_bytes(work: &Work<'_>, handed: &Handed) -> u64 {
+    let ((verdict, _), _) = handed.as_ref().expect("a row of the envelope");
+    quiet_bytes(work, &Ok(*verdict))
 }
 
 /// Readings of n channels, and the figures of the envelope drawn from them.
@@ -81,6 +99,34 @@ fn by_fields(work: &Work<'_>) -> Outcome {
 
 fn in_one_pass(work: &Work<'_>) -> Outcome {
     verdict::judge_in_one_pass(&given(work.figures), work.text)
+}
+
+/// The library's own call, which is lent the places as the plain ones are.
+fn proved_measure(work: &Work<'_>) -> Handed {
+    let Work { figures, text } = work;
+    let (codes, centre) = (&figures.codes, &figures.scaled_centre);
+    let mut values = [0; CHANNELS];
+    let answer = cundarivo::measure_into(figures.given(), codes, centre, text, &mut values);
+    match (answer.number, answer.verdict) {
+        (0, 1) => Ok(((Verdict::Quiet, answer.scaled_squared_distance), values)),
+        (0, _) => {
+            let verdict = Verdict::Alarm(answer.excess);
+            Ok(((verdict, answer.scaled_squared_distance), values))
+        }
+        (number, _) => Err((number, answer.line)),
+    }
+}
+
+fn measured_by_fields(work: &Work<'_>) -> Handed {
+    let mut values = [0; CHANNELS];
+    let measured = verdict::measure(&given(work.figures), work.text, &mut values)?;
+    Ok((measured, values))
+}
+
+fn measured_in_one_pass(work: &Work<'_>) -> Handed {
+    let mut values = [0; CHANNELS];
+    let measured = verdict::measure_in_one_pass(&given(work.figures), work.text, &mut values)?;
+    Ok((measured, values))
 }
 
 /// The figures as plain Rust takes them.

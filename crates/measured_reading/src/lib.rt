@@ -55,7 +55,17 @@ pub fn measure_lent(
 {
     let n = scalars.n;
     let mut places = [0i32; CHANNELS];
-    let placed = place_text(scalars, codes, scaled_centre, text, &mut places);
+    let placed = place_text(
+        n,
+        scalars.scaled_squared_radius,
+        scalars.scaled_lower_bound,
+        scalars.settled,
+        scalars.moves,
+        codes,
+        scaled_centre,
+        text,
+        &mut places,
+    );
     match placed {
         Placed::At(distance) => {
             if values.len() < n {
@@ -83,5 +93,6 @@ pub fn measure(figures: Figures, text: &[u8], values: &mut [i32]) -> Measured
     let codes = figures.codes;
     let ball = figures.ball;
     let scaled_centre = ball.scaled_centre;
-    measure_lent(scalars_of(figures), &codes, &scaled_centre, text, values)
+    let scalars = scalars_of(figures);
+    measure_lent(scalars, &codes, &scaled_centre, text, values)
 }

@@ -15,7 +15,10 @@ pub mod ListedNumbers
 pub mod ListedExports
 pub mod Lent
 pub mod LentExports
+pub mod MeasureCalls
+pub mod MeasureAnswers
 pub mod Results
+pub mod RefusalValues
 pub mod RefusedTexts
 pub mod RefusedPrograms
 pub mod RefusedExports

@@ -1,11 +1,12 @@
 -- Demand 2, readings, for the total and the types of the calls.
 --     RowAsReading    a reading with the values of a row, against an envelope of n channels of these codes
 --     AcceptedReading what an accepted reading is, and its verdict
+--     MeasuredAs      what is measured of it
 --     promise-2-9     what a reading is and what its verdict says (`ReadingsJudged`)
 use Prim.Native.Nat.{_+_, _<_, _≤_, ℕ}
 use mathlib.Core.Path.{_∙_, _≡_, ap}
 use mathlib.Core.Bool.{true}
-use mathlib.Core.List.{List, _++_}
+use mathlib.Core.List.{List, _++_, map}
 use mathlib.Core.Option.{some}
 use lib.IntN.{ℤ}
 use lib.ListN.{length, take}
@@ -20,7 +21,7 @@ use Rattle.drawing.specs.Draw.{drawing}
 use Rattle.label.specs.Label.{isLabel}
 use Rattle.channel.specs.Channel.{channelTypes, codesKnown}
 use Rattle.channel.specs.ChannelLaws.{house-sound}
-use Rattle.value.specs.Value.{Written}
+use Rattle.value.specs.Value.{Written, reads}
 use Rattle.value.specs.Values.{valuesInRange}
 use Rattle.reading_line.specs.Reading.{Reading, ownReading, printReading, readingOf}
 use Rattle.reading_line.specs.ReadingLaws.{InForm, form-printed, printed-form}
@@ -30,9 +31,12 @@ use Rattle.envelope.specs.Figures.{channelCodes, figuresKnown, figuresOf, drawn
 use Rattle.envelope.specs.declared.Figures.{Figures}
 use Rattle.reading.specs.QuietLaws.{checked-row-quiet, drawn-row-quiet}
 use Rattle.reading.specs.Content.{pointOf}
+use Rattle.reading.specs.ContentLaws.{Accepted as Accepting}
 use Rattle.reading.specs.Verdict.{judged, verdictNumber}
 use Rattle.reading.specs.VerdictLaws.{accepted-number, accepted-printed, alarm-off-ball, printed-accepted, quiet-in-ball}
 use Rattle.reading.specs.declared.Verdict.the-variants.{Alarm, Quiet}
+use Rattle.measured_reading.specs.Measured.{measured}
+use Rattle.measured_reading.specs.MeasuredLaws.{alarm-measured, measured-accepted, measured-judged, quiet-measured}
 use Rattle.program_laws.specs.QuietLaws.{reference-checked-quiet, reference-drawn-quiet}
 use Rattle.promises.specs.House.{textContent}
 
@@ -70,6 +74,39 @@ pub record AcceptedReading (f : Figures) (text : List ℕ) : Type 0 where
   pub alarm : (e : ℕ) → judged total channelTypes f text ≡ Alarm e → (distance f values ≡ f .ball .«scaled_squared_radius» + e) × (0 < e)
   pub alarming : (e : ℕ) → (distance f values ≡ f .ball .«scaled_squared_radius» + e) × (0 < e) → judged total channelTypes f text ≡ Alarm e
 
+abbrev accepted-reading : (f : Figures) (text : List ℕ) → Accepting total channelTypes f text → AcceptedReading f text
+accepted-reading f text a =
+    record {
+      figures-within = a .within;
+      label = a .label;
+      values = a .values;
+      labelled = a .labelled;
+      complete = a .complete;
+      in-ranges = a .in-ranges;
+      printed = a .printed;
+      quiet = quiet-in-ball a .0;
+      quietly = quiet-in-ball a .1;
+      alarm = λ e. alarm-off-ball a e .0;
+      alarming = λ e. alarm-off-ball a e .1;
+    }
+
+-- what is measured of an accepted reading: the n values of its printing as they read, and s, by which it is Quiet or Alarm
+pub record MeasuredAs (f : Figures) (text : List ℕ) : Type 0 where
+  pub reading : AcceptedReading f text
+  pub values : measured total channelTypes f text .values ≡ map reads (reading .values)
+  pub count : length (measured total channelTypes f text .values) ≡ f .n
+  pub scaled-squared-distance : measured total channelTypes f text .answer .«scaled_squared_distance» ≡ distance f (reading .values)
+  -- Quiet exactly when it is at most M, and Alarm with e exactly when it is M + e and e is above 0
+  pub quiet : (measured total channelTypes f text .answer .verdict ≡ Quiet
+      → measured total channelTypes f text .answer .«scaled_squared_distance» ≤ f .ball .«scaled_squared_radius»)
+      × (measured total channelTypes f text .answer .«scaled_squared_distance» ≤ f .ball .«scaled_squared_radius»
+      → measured total channelTypes f text .answer .verdict ≡ Quiet)
+  pub alarm : (e : ℕ)
+      → (measured total channelTypes f text .answer .verdict ≡ Alarm e
+      → (measured total channelTypes f text .answer .«scaled_squared_distance» ≡ f .ball .«scaled_squared_radius» + e) × (0 < e))
+      × ((measured total channelTypes f text .answer .«scaled_squared_distance» ≡ f .ball .«scaled_squared_radius» + e) × (0 < e)
+      → measured total channelTypes f text .answer .verdict ≡ Alarm e)
+
 pub record ReadingsJudged : Type 0 where
   -- in form exactly when it is the printing of a label, n fields free of commas and line ends in the places of tags, and n values
   pub form-printed : (n : ℕ) (text : List ℕ) (reading : Reading) → readingOf n text ≡ some reading → InForm n reading × (printReading reading ≡ text)
@@ -79,6 +116,9 @@ pub record ReadingsJudged : Type 0 where
   pub accepts : (f : Figures) → figuresKnown total channelTypes f ≡ true → (label : List ℕ) (values : List Written)
       → isLabel label ≡ true → length values ≡ f .n → valuesInRange channelTypes (channelCodes f) values ≡ true
       → verdictNumber (judged total channelTypes f (textOf (channelCodes f) label values)) ≡ 0
+  -- measured, every text and all figures have the verdict of the reading judged; so what is accepted and refused is the same
+  pub same-verdict : (f : Figures) (text : List ℕ) → measured total channelTypes f text .answer .verdict ≡ judged total channelTypes f text
+  pub measures : (f : Figures) (text : List ℕ) → verdictNumber (judged total channelTypes f text) ≡ 0 → MeasuredAs f text
   -- a reading with the values of a row is Quiet for every envelope drawn from the rows or checked against them
   pub drawn-row : (n : ℕ) (codes label : List ℕ) (values : List Written) (rows : List ℤ) (m i : ℕ) → RowAsReading n codes label values rows m i
       → (budget : ℕ) → drawing total rowLimit rows m n budget .outcome ≡ Accepted
@@ -106,24 +146,21 @@ promise-2-9 =
     record {
       form-printed = form-printed;
       printed-form = λ n reading form. printed-form form;
-      accepted = λ f text zero-number.
-          let a = accepted-printed total channelTypes f text zero-number in
-          record {
-            figures-within = a .within;
-            label = a .label;
-            values = a .values;
-            labelled = a .labelled;
-            complete = a .complete;
-            in-ranges = a .in-ranges;
-            printed = a .printed;
-            quiet = quiet-in-ball a .0;
-            quietly = quiet-in-ball a .1;
-            alarm = λ e. alarm-off-ball a e .0;
-            alarming = λ e. alarm-off-ball a e .1;
-          };
+      accepted = λ f text zero-number. accepted-reading f text (accepted-printed total channelTypes f text zero-number);
       accepts = λ f within label values labelled complete in-ranges.
           ap verdictNumber (printed-accepted total channelTypes f house-sound within label values labelled complete in-ranges)
           ∙ accepted-number (distance f values) (f .ball .«scaled_squared_radius»);
+      same-verdict = measured-judged total channelTypes;
+      measures = λ f text zero-number.
+          let m = measured-accepted total channelTypes f text (ap verdictNumber (measured-judged total channelTypes f text) ∙ zero-number) in
+          record {
+            reading = accepted-reading f text (m .accepted);
+            values = m .values;
+            count = m .count;
+            scaled-squared-distance = m .distance;
+            quiet = quiet-measured total channelTypes f text m;
+            alarm = alarm-measured total channelTypes f text m;
+          };
       drawn-row = λ n codes label values rows m i r.
           drawn-row-quiet total channelTypes house-sound n codes label (r .labelled) values (r .complete) (r .in-ranges) (r .typed) (r .codes-known)
           (omega arith) rowLimit rows m i (r .row) (r .same-values);

@@ -45,8 +45,10 @@ use Rattle.chart.specs.Mark.{channelWithin, chartMark, markNumber, refusedMark}
 use Rattle.chart.specs.MarkLaws.{accepted, accepts, refuses-figures, refuses-horizontal, refuses-vertical}
 use Rattle.panel_steps.specs.Panel.{panelOf, panelShown, refusedPanel}
 use Rattle.panel_steps.specs.PanelLaws.{panel-refuses, panel-shows}
+use Rattle.export_figures.specs.declared.FiguresGiven.{FiguresGiven}
 use Rattle.promises.specs.House.{textForm}
 use Rattle.promises.specs.RefusedExports.{ExportsRefused, exports-refused}
+use Rattle.promises.specs.MeasureAnswers.{GivenMeasured, MeasureRefused, given-measured, measures-refused}
 use Rattle.promises.specs.RefusedPrograms.{ProgramsRefused, programs-refused}
 use Rattle.promises.specs.RefusedTexts.{ReadingRefused, ReferenceRefused, reading-refused, reference-refused}
 
@@ -118,6 +120,9 @@ pub record RefusalOrder : Type 0 where
   pub of-check : (rows : List ℤ) (m n : ℕ) (ws : List ℕ) → CheckRefused rows m n ws
   pub of-reference : (text : List ℕ) → ReferenceRefused text
   pub of-reading : (f : Figures) (text : List ℕ) → ReadingRefused f text
+  -- reading measured: 8, 1, 3, 10, 4, then 13; for C and Rust 8 for the ending before them
+  pub of-measure : (f : Figures) (text : List ℕ) (places : ℕ) → MeasureRefused f text places
+  pub of-given-measure : (given : FiguresGiven) (codes : List ℕ) (X : List ℤ) (text : List ℕ) (places : ℕ) → GivenMeasured given codes X text places
   pub of-record : (rows : List ℤ) (m n : ℕ) (codes text : List ℕ) → RecordRefused rows m n codes text
   pub of-writing : (rows : List ℤ) (m : ℕ) (e : Envelope) (places : ℕ) → WritingRefused rows m e places
   pub of-chart : (f : Figures) (h v : ℕ) → ChartRefused f h v
@@ -143,6 +148,8 @@ promise-1-4 =
           };
       of-reference = reference-refused;
       of-reading = reading-refused;
+      of-measure = measures-refused;
+      of-given-measure = given-measured;
       of-record = λ rows m n codes text.
           let in-form = read-sound total rowLimit channelTypes rows m n codes text in
           record {
@@ -182,6 +189,13 @@ pub record TagsFirst (f : Figures) : Type 0 where
   -- a reading in form with another tag answers 10, whatever its values
   pub tags-before-range : (reading : Reading) → figuresKnown total channelTypes f ≡ true → InForm (f .n) reading → textWithin (printReading reading) ≡ true
       → (reading .tags ≡ map (tagOf channelTypes) (channelCodes f) → ⊥) → judged total channelTypes f (printReading reading) ≡ refusedVerdict tag-differs 1
+  -- and a reading that is measured has the same verdict and refusals, however many places are lent
+  pub measured-alike : (text : List ℕ) (places : ℕ) → MeasureRefused f text places
 
 pub promise-1-5 : (f : Figures) → TagsFirst f
-promise-1-5 f = record { range-after-tags = range-after-tags total channelTypes f; tags-before-range = tags-before-range total channelTypes f }
+promise-1-5 f =
+    record {
+      range-after-tags = range-after-tags total channelTypes f;
+      tags-before-range = tags-before-range total channelTypes f;
+      measured-alike = measures-refused f;
+    }

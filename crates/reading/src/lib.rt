@@ -72,9 +72,14 @@ fn place_line(
 }
 
 // What a text is told to be against the figures of an envelope whose codes and X are lent, the values of a reading put into the lent
-// places. Refused: 8, 1, 3, the leftmost 10, the leftmost 4.
+// places. The single numbers come one by one, since a struct goes through memory, for which a reading of one channel waits. Refused: 8,
+// 1, 3, the leftmost 10, the leftmost 4.
 pub fn place_text(
-    scalars: Scalars,
+    n: usize,
+    scaled_squared_radius: u64,
+    scaled_lower_bound: u64,
+    settled: bool,
+    moves: u32,
     codes: &[Code],
     scaled_centre: &[i64],
     text: &[u8],
@@ -82,9 +87,17 @@ pub fn place_text(
 ) -> Placed
     requires { ⌜ channelLimit ≤ length (now places) ⌝ }
     ensures { λ r.
-        ⌜ Placing total channelTypes (lentFigures scalars (now (codes .entry)) (now («scaled_centre» .entry)))
+        ⌜ Placing total channelTypes (figuresOf n (now (codes .entry))
+        (filledBall (now («scaled_centre» .entry)) «scaled_squared_radius» «scaled_lower_bound» settled) moves)
         (now (text .entry)) (now (places .entry)) (now (places .exit)) r ⌝ }
 {
+    let scalars = Scalars {
+        n,
+        moves,
+        scaled_squared_radius,
+        settled,
+        scaled_lower_bound,
+    };
     let known = figures_known_lent(scalars, codes, scaled_centre);
     let within = text_within(text);
     if !known {
@@ -113,8 +126,7 @@ pub fn verdict_of(scaled_squared_distance: u64, scaled_squared_radius: u64) -> V
     }
 }
 
-// The verdict on a text against the figures of an envelope whose codes and X are lent. The single numbers come one by one, since a
-// struct goes through memory, for which a reading of one channel waits. Refused as above.
+// The verdict on a text against the figures of an envelope whose codes and X are lent. Refused as above.
 pub fn judge_lent(
     n: usize,
     scaled_squared_radius: u64,
@@ -129,15 +141,18 @@ pub fn judge_lent(
         ⌜ r ≡ judged total channelTypes (figuresOf n (now (codes .entry))
         (filledBall (now («scaled_centre» .entry)) «scaled_squared_radius» «scaled_lower_bound» settled) moves) (now (text .entry)) ⌝ }
 {
-    let scalars = Scalars {
-        n,
-        moves,
-        scaled_squared_radius,
-        settled,
-        scaled_lower_bound,
-    };
     let mut places = [0i32; CHANNELS];
-    let placed = place_text(scalars, codes, scaled_centre, text, &mut places);
+    let placed = place_text(
+        n,
+        scaled_squared_radius,
+        scaled_lower_bound,
+        settled,
+        moves,
+        codes,
+        scaled_centre,
+        text,
+        &mut places,
+    );
     match placed {
         Placed::At(distance) => verdict_of(distance, scaled_squared_radius),
         Placed::Refused(refusal) => Verdict::Refused(Refusal {

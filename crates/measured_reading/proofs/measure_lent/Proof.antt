@@ -81,7 +81,7 @@ returns-2 c =
       answered total channelTypes (figures at) (text at) (length lent) (is .1) (omega arith) (c .verdict-of .ensures) (is .2),
       rewritten (ap verdictNumber (c .verdict-of .ensures) ∙ accepted-number (at-arm .before .placed .given .0 .0) M)
           (start-of at .args .scalars .n) _ lent refl
-          (values-filled total channelTypes (figures at) (text at) 0 (is .1) lent (at .place-text .last .1 .1 .1 .1 .0) (at-fill .fill-table .ensures)
+          (values-filled total channelTypes (figures at) (text at) 0 (is .1) lent (at .place-text .last .1 .1 .1 .1 .1 .1 .1 .1 .0) (at-fill .fill-table .ensures)
           (at .place-text .ensures .written (is .0) (is .1))),
     )
 

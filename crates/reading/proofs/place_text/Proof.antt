@@ -14,8 +14,8 @@ use Rattle.limits.specs.Limits.{total}
 use Rattle.text.specs.Parts.{lineEnd, textWithin}
 use Rattle.text.specs.PartsLaws.{text-within}
 use Rattle.channel.specs.Channel.{channelTypes}
-use Rattle.envelope.specs.Contracts.{lentFigures}
-use Rattle.envelope.specs.Figures.{figuresKnown}
+use Rattle.ball.specs.Ball.{filledBall}
+use Rattle.envelope.specs.Figures.{figuresKnown, figuresOf}
 use Rattle.envelope.specs.declared.Figures.{Figures}
 use Rattle.reading.specs.ContentLaws.{faulty-figures, faulty-length, faulty-form}
 use Rattle.reading.specs.Contracts.{Placing, placing-faulty}
@@ -25,7 +25,9 @@ use Rattle.reading.proofs.place_text.Tie as tie
 
 -- the figures that the text is held against
 abbrev figures : tie.Start → Figures
-figures c = lentFigures (c .args .scalars) (now (c .args .codes)) (now (c .args .scaled-centre))
+figures c =
+    let a = c .args in
+    figuresOf (a .n) (now (a .codes)) (filledBall (now (a .scaled-centre)) (a .scaled-squared-radius) (a .scaled-lower-bound) (a .settled)) (a .moves)
 
 -- from where both tests are known
 abbrev start-of : tie.After-text-within → tie.Start
@@ -75,7 +77,7 @@ returns-3 c =
     let text = now (start .args .text) in
     placing-faulty refl
     (faulty-form total channelTypes (figures start) text (within past-figures) (fitting past-text)
-    (line-none text (length text - 1) (omega (arith, some-byte past-text)) (start .args .scalars .n) (c .before .if3 .taken)))
+    (line-none text (length text - 1) (omega (arith, some-byte past-text)) (start .args .n) (c .before .if3 .taken)))
     (c .refused3 .ensures)
 
 slice-aggregate-place-line : tie.Need-slice-aggregate-place-line
