@@ -247,7 +247,7 @@ fn a_text_that_is_rewritten_meanwhile_gives_no_mixture() {
     let texts = [1_000, 3_000].map(large_text);
     let records = texts.each_ref().map(|text| run("draw", &[text]));
     assert_ne!(records[0], records[1]);
-    let files = 8;
+    let files = 4;
     let open = |file: usize| {
         let path = folder.write(format!("{file}.ref"), &texts[0]);
         OpenOptions::new().write(true).open(path).expect("a text")
@@ -260,7 +260,14 @@ fn a_text_that_is_rewritten_meanwhile_gives_no_mixture() {
         let file = random.index(files);
         let written = texts_open[file].write_all_at(&texts[version], 0);
         written.expect("a text that can be written");
-        thread::sleep(Duration::from_millis(random.below(12)));
+        // By turns hardly ever at rest, and now and then.
+        let calm = began.elapsed().as_millis() / 250 % 2 == 1;
+        let pause = if calm {
+            random.below(40_000)
+        } else {
+            random.below(100)
+        };
+        thread::sleep(Duration::from_micros(pause));
     };
     meanwhile(writer, || {
         while began.elapsed() < TIME || (told[2] == 0 && began.elapsed() < 5 * TIME) {
