@@ -39,6 +39,10 @@ struct Work {
 type Outcome = (plain::Figures, [i64; CHANNELS], [u32; ROWS]);
 
 fn main() {
+    if let Some(folder) = redraw::folder_to_redraw() {
+        plain_redraw::redraw(&folder);
+        return;
+    }
     if let Some(model) = processor_model() {
         println!("{model}");
     }

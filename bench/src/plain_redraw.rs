@@ -5,7 +5,7 @@
 
 use crate::{plain, reader, record, record_fields, verdict};
 use std::fs::{self, File, Metadata, OpenOptions};
-use std::io::{Read, Write};
+use std::io::{Read, Write, stdout};
 use std::os::unix::fs::{MetadataExt, OpenOptionsExt};
 use std::path::{Path, PathBuf};
 use std::sync::atomic::{AtomicUsize, Ordering};
@@ -64,8 +64,7 @@ pub fn redraw(path: &Path) {
     folder.sync_all().expect("a folder that can be flushed");
     lines.sort();
     let text: String = lines.into_iter().map(|(_, line)| line).collect();
-    let nowhere = File::options().write(true).open("/dev/null");
-    let written = nowhere.and_then(|mut nowhere| nowhere.write_all(text.as_bytes()));
+    let written = stdout().write_all(text.as_bytes());
     written.expect("lines that can be written");
 }
 

@@ -1,15 +1,16 @@
 //! `envelope redraw` of a folder of 900 reference texts of 60 rows and 4 channels, end to end, against plain
-//! Rust that does the same: with no records there, with all of them there and unchanged, and with every text
+//! Rust that does the same, a process each: with no records there, with all of them there and unchanged, and with every text
 //! changed. With CUNDARIVO_FILES in the environment, a folder of as many small texts besides.
 
 use crate::measure::{print_header, print_line};
-use crate::plain_redraw;
 use crate::random::Random;
 use std::fs;
 use std::path::{Path, PathBuf};
 use std::process::Command;
 use std::time::Instant;
 
+/// The first argument with which this program redraws a folder in plain Rust, and does nothing else.
+const PLAIN: &str = "plain-redraw";
 const FILES: usize = 900;
 const ROWS: usize = 60;
 const ROUNDS: usize = 11;
@@ -40,7 +41,7 @@ fn measure_folder(name: &str, random: &mut Random, size: (usize, usize), rounds:
         let texts = [random.clone(), Random(round as u64 + 1)];
         // Who goes first changes from round to round.
         for turn in [round % 2, 1 - round % 2] {
-            let redraw = [proved as fn(&Path), plain_redraw::redraw][turn];
+            let redraw = [proved as fn(&Path), plain][turn];
             let folder = &folders[turn];
             let mut time = |kind: usize| times[kind][turn].push(seconds(redraw, folder));
             remove_records(folder, size.0);
@@ -112,8 +113,25 @@ fn seconds(redraw: impl Fn(&Path), folder: &Path) -> f64 {
 
 fn proved(folder: &Path) {
     let program = Path::new(env!("CARGO_MANIFEST_DIR")).join("../cli/target/release/envelope");
-    let ended = Command::new(program).arg("redraw").arg(folder).output();
-    let ended = ended.expect("a program that runs; build it first: ./envelope --version");
+    assert!(program.exists(), "build it first: ./envelope --version");
+    end(Command::new(program).arg("redraw").arg(folder));
+}
+
+fn plain(folder: &Path) {
+    let program = std::env::current_exe().expect("this program");
+    end(Command::new(program).arg(PLAIN).arg(folder));
+}
+
+/// Runs a command to its end, and takes what it tells.
+fn end(command: &mut Command) {
+    let ended = command.output().expect("a program that runs");
     let messages = String::from_utf8_lossy(&ended.stderr);
     assert!(ended.status.success(), "{messages}");
+}
+
+/// The folder that this process is to redraw in plain Rust, where it is one of those that are timed.
+pub fn folder_to_redraw() -> Option<PathBuf> {
+    let mut arguments = std::env::args_os().skip(1);
+    let first = arguments.next()?;
+    (first == PLAIN).then(|| arguments.next().expect("a folder").into())
 }

@@ -16,6 +16,8 @@ use std::thread;
 
 /// The most records of a worker that are flushed and put in place together.
 const LARGEST_BATCH: usize = 128;
+/// How many texts a worker takes at a time.
+const TAKEN_TOGETHER: usize = 4;
 /// Descriptors that are left to others: the standard ones, the folder's, inherited ones.
 const OTHER_DESCRIPTORS: u64 = 16;
 /// What is taken for the most descriptors where the system does not tell.
@@ -74,7 +76,6 @@ fn shares(files: usize, processors: usize, limit: u64) -> (usize, usize) {
         usize::try_from(limit.saturating_sub(OTHER_DESCRIPTORS)).unwrap_or(usize::MAX);
     let workers = processors.min(files).min(descriptors / 2).max(1);
     let batch = (descriptors / workers).saturating_sub(1);
-    let batch = batch.min(files.div_ceil(workers));
     (workers, batch.clamp(1, LARGEST_BATCH))
 }
 
@@ -95,22 +96,25 @@ impl<'f> Run<'f> {
         })
     }
 
+    /// Takes the next few texts again and again, until all are taken.
     fn work(&self) -> Vec<Placed> {
-        let mut outcomes = Vec::new();
+        let (mut outcomes, mut records) = (Vec::new(), Vec::new());
+        let count = self.references.len();
         loop {
-            let first = self.next.fetch_add(self.batch, Ordering::Relaxed);
-            let end = self.references.len().min(first.saturating_add(self.batch));
-            if first >= end {
-                return outcomes;
-            }
-            let mut records = Vec::new();
-            for index in first..end {
+            let first = self.next.fetch_add(TAKEN_TOGETHER, Ordering::Relaxed);
+            for index in first..count.min(first.saturating_add(TAKEN_TOGETHER)) {
                 match self.draw(index) {
                     Ok(outcome) => outcomes.push(self.done(index, outcome)),
                     Err(record) => records.push((index, record)),
                 }
+                if records.len() >= self.batch {
+                    self.put_in_place(std::mem::take(&mut records), &mut outcomes);
+                }
             }
-            self.put_in_place(records, &mut outcomes);
+            if first >= count {
+                self.put_in_place(records, &mut outcomes);
+                return outcomes;
+            }
         }
     }
 
@@ -167,10 +171,9 @@ mod tests {
     use super::shares;
 
     #[test]
-    fn the_descriptors_are_enough_and_the_texts_are_shared_out() {
+    fn the_descriptors_are_enough() {
         assert_eq!(shares(900, 2, 1_024), (2, 128));
-        assert_eq!(shares(3, 2, 1_024), (2, 2));
-        assert_eq!(shares(1, 2, 1_024), (1, 1));
+        assert_eq!(shares(1, 2, 1_024), (1, 128));
         assert_eq!(shares(100_000, 64, 1_024), (64, 14));
         assert_eq!(shares(900, 2, u64::MAX), (2, 128));
         for limit in 0..19 {
