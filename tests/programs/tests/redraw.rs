@@ -426,9 +426,14 @@ fn output_that_cannot_be_written_ends_in_2() {
     ended.assert_failed("envelope: standard output: No space left on device\n");
     assert_eq!(folder.read("a.env"), RECORD.as_bytes());
     fs::remove_file(folder.path().join("a.env")).expect("a file of ours");
-    let readers_gone = "> >(exec 0<&-; :); wait $!";
-    let ended = end(&mut redirected(readers_gone, &redraw), b"");
-    assert!(ended.status == 2 || ended.status == 1, "{}", ended.messages);
+    let (reader, writer) = std::io::pipe().expect("a pipe");
+    drop(reader);
+    let mut redraw = command_of(&[folder.path()]);
+    let ended = redraw.stdout(writer).output().expect("a run");
+    let messages = String::from_utf8_lossy(&ended.stderr);
+    assert_eq!(messages, "envelope: standard output: Broken pipe\n");
+    assert_eq!(ended.status.code(), Some(2));
+    assert_eq!(folder.read("a.env"), RECORD.as_bytes());
 }
 
 /// No file takes the place of a closed descriptor: nothing is drawn, or what was drawn is told.
