@@ -17,7 +17,6 @@ use Rattle.integers.specs.Tests.{clash, impossible}
 use Rattle.refusal.specs.Number.{line-form, value-range, tag-differs}
 use Rattle.geometry.specs.Table.{coordinate}
 use Rattle.limits.specs.Limits.{channelLimit}
-use Rattle.geometry.specs.Places.{centreOf}
 use Rattle.geometry.specs.Figures.{scaledSquaredDistance}
 use Rattle.geometry.specs.FigureLaws.{distance-cong}
 use Rattle.geometry.specs.Contracts.{RowAt}

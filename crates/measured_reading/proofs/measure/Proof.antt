@@ -1,5 +1,4 @@
 -- The figures' own codes and X are lent; their number of places is the figures' own.
-use mathlib.Core.Path.{_≡_}
 use borrow.Author.Needs.{needs}
 use lib.ListN.{length}
 use denote.Ref.{now}
