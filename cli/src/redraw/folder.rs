@@ -9,7 +9,7 @@ use std::fs::{File, OpenOptions, TryLockError};
 use std::io;
 use std::os::unix::fs::OpenOptionsExt;
 use std::thread;
-use std::time::{Duration, Instant};
+use std::time::{Duration, Instant, SystemTime};
 
 /// How long a run waits for another one's lock, and how often it looks.
 const LOCK_PATIENCE: Duration = Duration::from_secs(1);
@@ -22,6 +22,7 @@ const ENTRY_LENGTH: usize = 16;
 
 pub struct Folder {
     file: File,
+    opened: SystemTime,
 }
 
 /// What of a folder's names concerns a run.
@@ -49,7 +50,10 @@ impl Folder {
         loop {
             let name = shown::name(path);
             match file.try_lock() {
-                Ok(()) => return Ok(Folder { file }),
+                Ok(()) => {
+                    let opened = SystemTime::now();
+                    return Ok(Folder { file, opened });
+                }
                 Err(TryLockError::WouldBlock) if began.elapsed() < LOCK_PATIENCE => {
                     thread::sleep(LOCK_PAUSE);
                 }
@@ -64,6 +68,10 @@ impl Folder {
                 }
             }
         }
+    }
+
+    pub fn opened(&self) -> SystemTime {
+        self.opened
     }
 
     pub fn names(&self) -> io::Result<Names> {
