@@ -35,14 +35,15 @@ pub struct Drawn {
 }
 
 impl Drawn {
-    /// A record that was put in place is drawn only where the folder was flushed.
+    /// A record that was put in place is drawn only where the folder was flushed. An unchanged one may be that of
+    /// a run that could not flush it, or was killed before: it has its name only where the folder is flushed.
     pub fn conclude(&mut self, flushed: io::Result<()>) {
         let Err(error) = flushed else {
             return;
         };
         let reason = format!("the folder cannot be flushed: {}", failure::reason(&error));
         for outcome in &mut self.outcomes {
-            if let Outcome::Drawn(_) = outcome {
+            if let Outcome::Drawn(_) | Outcome::Unchanged = outcome {
                 *outcome = Outcome::Failed(reason.clone());
             }
         }
