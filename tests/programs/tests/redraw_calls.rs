@@ -1,5 +1,6 @@
-//! `envelope redraw` on a disk that fails: what is not flushed is not put in place, and what is in place is told
-//! only where the folder is flushed. A filter of the system's calls stands for the disk.
+//! `envelope redraw` under a filter of the system's calls. It stands for a disk that fails: what is not flushed is
+//! not put in place, and what is in place is told only where the folder is flushed. And it turns back every call by
+//! which a link could be followed, or a file waited for, at a moment that no other test meets.
 
 #![cfg(all(target_arch = "x86_64", target_os = "linux"))]
 
@@ -9,7 +10,9 @@ use programs::redrawn::{
     ONE_ROW, ONE_ROW_RECORD, assert_counts, command_of, other_names, outcome, redraw,
 };
 use programs::{RECORD, REFERENCE};
+use std::fs::{self, Permissions};
 use std::io;
+use std::os::unix::fs::{MetadataExt, PermissionsExt};
 use std::os::unix::process::CommandExt;
 
 /// An instruction of a filter: C's struct sock_filter.
@@ -39,12 +42,27 @@ const SECCOMP_MODE_FILTER: usize = 2;
 const ALLOW: u32 = 0x7fff_0000;
 const FAIL_WITH_EIO: u32 = 0x0005_0005;
 const LOAD_WORD: u16 = 0x20;
+const AND: u16 = 0x54;
 const JUMP_EQUAL: u16 = 0x15;
+const JUMP_ANY_BIT: u16 = 0x45;
 const RETURN: u16 = 0x06;
-/// Where the call's number and its first argument are.
+/// Where the call's number, its first argument and its third one are.
 const NUMBER: u32 = 0;
 const ARGUMENT: u32 = 16;
+const THIRD_ARGUMENT: u32 = 32;
 const FSYNC: u32 = 74;
+const OPENAT: u32 = 257;
+/// Calls that reach a file by its path or through a link: open, truncate, rename, mkdir, creat, link, unlink,
+/// symlink, chmod, chown, lchown, fchownat, fchmodat, openat2, fchmodat2.
+const BY_NAME: [u32; 15] = [
+    2, 76, 82, 83, 85, 86, 87, 88, 90, 92, 94, 260, 268, 437, 452,
+];
+const O_CREAT: u32 = 0o100;
+const O_EXCL: u32 = 0o200;
+const O_NONBLOCK: u32 = 0o4000;
+const O_NOFOLLOW: u32 = 0o400_000;
+/// A file is opened for writing, or created.
+const WRITES: u32 = 0o3 | O_CREAT;
 /// The first descriptor that the program opens is the folder's.
 const FOLDER: u32 = 3;
 
@@ -75,7 +93,37 @@ const OF_FOLDER: [Instruction; 6] = [
     instruction(RETURN, ALLOW, 0, 0),
 ];
 
-fn redraw_filtered(folder: &Folder, instructions: &'static [Instruction]) -> Ended {
+/// A file in the folder is opened for reading without following a link and without waiting, and created where
+/// nothing is; none is written elsewhere, and none is reached by its name otherwise.
+fn careful() -> Vec<Instruction> {
+    let (reads, creates) = (O_NOFOLLOW | O_NONBLOCK, O_NOFOLLOW | O_EXCL);
+    let opened = [
+        instruction(LOAD_WORD, ARGUMENT, 0, 0),
+        instruction(JUMP_EQUAL, FOLDER, 0, 6),
+        instruction(LOAD_WORD, THIRD_ARGUMENT, 0, 0),
+        instruction(JUMP_ANY_BIT, O_CREAT, 2, 0),
+        instruction(AND, reads, 0, 0),
+        instruction(JUMP_EQUAL, reads, 4, 5),
+        instruction(AND, creates, 0, 0),
+        instruction(JUMP_EQUAL, creates, 2, 3),
+        instruction(LOAD_WORD, THIRD_ARGUMENT, 0, 0),
+        instruction(JUMP_ANY_BIT, WRITES, 1, 0),
+        instruction(RETURN, ALLOW, 0, 0),
+        instruction(RETURN, FAIL_WITH_EIO, 0, 0),
+    ];
+    let mut all = vec![instruction(LOAD_WORD, NUMBER, 0, 0)];
+    for call in BY_NAME {
+        all.push(instruction(JUMP_EQUAL, call, 0, 1));
+        all.push(instruction(RETURN, FAIL_WITH_EIO, 0, 0));
+    }
+    all.push(instruction(JUMP_EQUAL, OPENAT, 1, 0));
+    all.push(instruction(RETURN, ALLOW, 0, 0));
+    all.extend(opened);
+    all
+}
+
+fn redraw_filtered(folder: &Folder, instructions: &[Instruction]) -> Ended {
+    let instructions = instructions.to_vec();
     let mut command = command_of(&[folder.path()]);
     let set = move || {
         let filter = Filter {
@@ -138,4 +186,24 @@ fn a_folder_that_cannot_be_flushed_is_a_failure() {
         assert_eq!(other_names(&folder), [""; 0]);
     }
     assert_counts(&redraw(&folder), [0, 2, 1, 0]);
+}
+
+#[test]
+fn no_link_is_followed_and_no_file_is_waited_for() {
+    let folder = folder();
+    let modes = [0o600, 0o640, 0o777, 0];
+    for mode in modes {
+        folder.write(format!("{mode}.ref"), REFERENCE);
+        let record = folder.write(format!("{mode}.env"), "old");
+        fs::set_permissions(record, Permissions::from_mode(mode)).expect("a file of ours");
+    }
+    folder.write("c.ref", "REF,0\n");
+    assert_counts(&redraw_filtered(&folder, &careful()), [6, 0, 1, 0]);
+    for mode in modes {
+        let record = folder.path().join(format!("{mode}.env"));
+        let bits = fs::metadata(record).expect("a record").mode() & 0o7777;
+        assert_eq!(bits, mode);
+    }
+    assert_eq!(folder.read("a.env"), RECORD.as_bytes());
+    assert_eq!(other_names(&folder), [""; 0]);
 }
