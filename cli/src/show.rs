@@ -2,7 +2,7 @@
 
 use crate::arguments::{Words, require_one_input};
 use crate::columns::{Side, aligned};
-use crate::distances::{gap_millionths, radius_tenths, reach_tenths, scaled_squared_distance};
+use crate::distances::{gap_millionths, reach_tenths, scaled_squared_distance};
 use crate::examined::Reference;
 use crate::failure::Failure;
 use crate::output;
@@ -177,7 +177,7 @@ fn ball(shown: &Shown<'_>) -> String {
     let squared = units::fraction(radius.into(), square, 0, 1);
     let squared = format!("{squared} square steps (M = {radius})");
     named_lines([
-        ("radius", steps(radius)),
+        ("radius", units::radius(radius)),
         ("squared radius", squared),
         ("gap", gap(figures)),
         ("ending", ending(shown)),
@@ -191,12 +191,6 @@ fn gap(figures: &Figures) -> String {
         0 => "0 (M - L): no ball round the rows is smaller".to_string(),
         gap => format!("{gap} (M - L): the least radius is smaller by at most {share}%"),
     }
-}
-
-/// The radius of a ball, not rounded down.
-pub fn steps(scaled_squared_radius: u64) -> String {
-    let tenths = radius_tenths(scaled_squared_radius);
-    format!("{} steps", units::decimal(tenths as i128, 1))
 }
 
 fn ending(shown: &Shown<'_>) -> String {

@@ -1,5 +1,6 @@
 //! Numbers as people read them: steps of a channel in its unit.
 
+use crate::distances::radius_tenths;
 use crate::types::Type;
 
 /// A whole number of steps, as `22.8 °C` for 228 under TMP.
@@ -33,6 +34,12 @@ pub fn between(channel: &Type, low: i128, high: i128, more: usize) -> String {
 /// What a step is, as `0.1 °C`.
 pub fn step(channel: &Type) -> String {
     whole(channel, 1)
+}
+
+/// The radius of a ball in steps, not rounded down.
+pub fn radius(scaled_squared_radius: u64) -> String {
+    let tenths = radius_tenths(scaled_squared_radius);
+    format!("{} steps", decimal(tenths as i128, 1))
 }
 
 fn with_unit(channel: &Type, number: String) -> String {

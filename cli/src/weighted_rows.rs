@@ -5,7 +5,7 @@ use crate::columns::{Side, aligned};
 use crate::distances::farthest_channel;
 use crate::examined::Reference;
 use crate::failure::Failure;
-use crate::show::{BUDGET, Shown, not_drawn, steps};
+use crate::show::{BUDGET, Shown, not_drawn};
 use crate::{shown, types, units};
 use cundarivo::TOTAL;
 use std::cmp::Reverse;
@@ -66,7 +66,10 @@ fn introduction(shown: &Shown<'_>, rows: usize, drawn: u64) -> String {
         text += &format!(" The ball is drawn without each of the first {HEAVIEST}.");
     }
     if drawn != shown.envelope.figures.scaled_squared_radius {
-        text += &format!(" Drawn now with every row the radius is {}.", steps(drawn));
+        text += &format!(
+            " Drawn now with every row the radius is {}.",
+            units::radius(drawn)
+        );
     }
     text + "\n"
 }
@@ -102,7 +105,7 @@ fn line(shown: &Shown<'_>, row: usize, without: Option<u64>, is_marked: bool) ->
         (row + 1).to_string(),
         shown::escaped(reference.label(row)),
         share(envelope.weights[row]),
-        without.map_or("-".to_string(), steps),
+        without.map_or("-".to_string(), units::radius),
         format!("{name} {deviation}"),
         below_detection(reference, row),
         if is_marked { "LOOK AT THIS ROW" } else { "" }.to_string(),

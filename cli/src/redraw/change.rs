@@ -24,7 +24,8 @@ pub struct Old {
 /// Centre and squared radius, in steps, the first times D and the second times D².
 struct Figures {
     centre: Vec<(&'static Type, i128)>,
-    scaled_squared_radius: i128,
+    /// None where a record states one below 0.
+    scaled_squared_radius: Option<u64>,
 }
 
 pub fn tell(reference: &Reference<'_>, record: &[u8], old: Option<&Old>) -> Result<String, String> {
@@ -60,7 +61,7 @@ fn drawn(reference: &Reference<'_>, record: &[u8]) -> Result<Figures, String> {
     let centre = figures.scaled_centre.iter().map(|&place| i128::from(place));
     Ok(Figures {
         centre: channels.zip(centre).collect(),
-        scaled_squared_radius: figures.scaled_squared_radius.into(),
+        scaled_squared_radius: Some(figures.scaled_squared_radius),
     })
 }
 
@@ -87,9 +88,10 @@ fn stated(lines: &[u8]) -> Option<Figures> {
         let channel = types::of_tag(tag.as_bytes())?;
         Some((channel, place.parse().ok()?))
     });
+    let square = lines.next()?.nth(1)?;
     Some(Figures {
         centre: centre.collect::<Option<_>>()?,
-        scaled_squared_radius: lines.next()?.nth(1)?.parse().ok()?,
+        scaled_squared_radius: square.parse().ok(),
     })
 }
 
@@ -100,33 +102,17 @@ impl Figures {
             format!("{} {}", channel.tag, units::part(channel, *place, total))
         };
         let centre: Vec<String> = self.centre.iter().map(place).collect();
-        let radius = match u128::try_from(self.scaled_squared_radius) {
-            Ok(square) => {
-                let root = i128::try_from(root_above(square)).expect("a root of 19 digits");
-                format!("radius {} steps", units::fraction(root, total, 0, 1))
-            }
-            Err(_) => "a squared radius below 0".to_string(),
+        let radius = match self.scaled_squared_radius {
+            Some(square) => format!("radius {}", units::radius(square)),
+            None => "a squared radius below 0".to_string(),
         };
         format!("centre {}, {radius}", centre.join(", "))
     }
 }
 
-/// The smallest whole number with a square of at least this.
-fn root_above(square: u128) -> u128 {
-    let root = square.isqrt();
-    root + u128::from(root * root < square)
-}
-
 #[cfg(test)]
 mod tests {
-    use super::{first_lines, root_above, stated};
-
-    #[test]
-    fn roots_are_the_smallest_whole_numbers_above() {
-        let squares = [0, 1, 2, 4, 5, 9, 4_294_967_296, 4_294_967_297];
-        let roots = [0, 1, 2, 2, 3, 3, 65_536, 65_537];
-        assert_eq!(squares.map(root_above), roots);
-    }
+    use super::{first_lines, stated};
 
     #[test]
     fn three_lines_are_taken() {
@@ -154,6 +140,24 @@ mod tests {
             "ENV,1,TOC\nC,1\nR,0,0,0,S\r\n",
         ] {
             assert_eq!(told(lines), None, "{lines}");
+        }
+    }
+
+    /// As `show` tells it: not rounded down.
+    #[test]
+    fn the_radius_is_that_of_show() {
+        let told = |square: &str| {
+            let lines = format!("ENV,1,TOC\nC,0\nR,{square},0,0,S\n");
+            stated(lines.as_bytes()).expect("lines in form").told()
+        };
+        for (square, radius) in [
+            ("30668213977088", "radius 84.6 steps"),
+            ("107374182400", "radius 5.0 steps"),
+            ("9999999999999999999", "radius 48252.6 steps"),
+            ("0", "radius 0.0 steps"),
+            ("-1", "a squared radius below 0"),
+        ] {
+            assert_eq!(told(square), format!("centre TOC 0.0 ppb, {radius}"));
         }
     }
 }

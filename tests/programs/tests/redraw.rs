@@ -138,7 +138,7 @@ fn what_was_there_before_is_told() {
         ("ENV,1,TOC\nC,327680\nR,0,0,0,S\n", ONE_ROW_TOLD),
         (
             "ENV,2,PH,TMP\nC,-65536,6553600\nR,4294967297,0,0,B\nW,1,1\n",
-            "centre PH -0.010, TMP 10.00 °C, radius 1.0 steps",
+            "centre PH -0.010, TMP 10.00 °C, radius 1.1 steps",
         ),
         (
             "ENV,1,TOC\nC,-1\nR,-1,0,0,B\nW,1,1\n",
@@ -146,7 +146,7 @@ fn what_was_there_before_is_told() {
         ),
         (
             &format!("ENV,1,TOC\nC,-{largest}\nR,{largest},0,0,B\n"),
-            "centre TOC -152587890625000.0 ppb, radius 48252.5 steps",
+            "centre TOC -152587890625000.0 ppb, radius 48252.6 steps",
         ),
         (&long, "no record in form"),
         (&"E".repeat(100), "no record in form"),
