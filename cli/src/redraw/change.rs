@@ -98,10 +98,12 @@ fn stated(lines: &[u8]) -> Option<Figures> {
 impl Figures {
     fn told(&self) -> String {
         let total = i128::from(TOTAL);
-        let place = |(channel, place): &(&Type, i128)| {
-            format!("{} {}", channel.tag, units::part(channel, *place, total))
+        let codes: Vec<u8> = self.centre.iter().map(|(kind, _)| kind.code).collect();
+        let place = |(index, (kind, place)): (usize, &(&Type, i128))| {
+            let name = types::channel_name(&codes, index);
+            format!("{name} {}", units::part(kind, *place, total))
         };
-        let centre: Vec<String> = self.centre.iter().map(place).collect();
+        let centre: Vec<String> = self.centre.iter().enumerate().map(place).collect();
         let radius = match self.scaled_squared_radius {
             Some(square) => format!("radius {}", units::radius(square)),
             None => "a squared radius below 0".to_string(),
@@ -141,6 +143,14 @@ mod tests {
         ] {
             assert_eq!(told(lines), None, "{lines}");
         }
+    }
+
+    #[test]
+    fn a_repeated_tag_has_its_channels_number() {
+        let lines = b"ENV,2,TMP,TMP\nC,0,65536\nR,0,0,0,S\n";
+        let told = stated(lines).expect("lines in form").told();
+        let expected = "centre TMP (1) 0.00 °C, TMP (2) 0.10 °C, radius 0.0 steps";
+        assert_eq!(told, expected);
     }
 
     /// As `show` tells it: not rounded down.
