@@ -104,9 +104,7 @@ pub fn reason(number: u32) -> &'static str {
 }
 
 pub fn print_refusals(words: &[OsString]) -> Result<Status, Failure> {
-    if !Words::of(words, &[])?.names.is_empty() {
-        return Err(Failure::usage("refusals takes no more words".to_string()));
-    }
+    Words::of(words, &[])?.require_none("refusals")?;
     output::print(table().as_bytes())?;
     Ok(Status::Done)
 }

@@ -10,7 +10,7 @@ use std::mem::ManuallyDrop;
 use std::os::fd::FromRawFd;
 
 /// The most bytes that are read: the library refuses a longer text by 1, whatever it is.
-const READ_LIMIT: u64 = 65_537;
+pub const READ_LIMIT: usize = 65_537;
 
 #[derive(Clone, Debug, PartialEq, Eq)]
 pub enum Source {
@@ -47,8 +47,11 @@ impl Text {
     pub fn read(source: Source) -> Result<Text, Failure> {
         let bytes = match &source {
             // SAFETY: descriptor 0 is open (`descriptors::require_open`), and is not closed here.
-            Source::Input => read_start(&ManuallyDrop::new(unsafe { File::from_raw_fd(0) })),
-            Source::File(name) => File::open(name).and_then(|file| read_start(&file)),
+            Source::Input => read_start(
+                &ManuallyDrop::new(unsafe { File::from_raw_fd(0) }),
+                READ_LIMIT,
+            ),
+            Source::File(name) => File::open(name).and_then(|file| read_start(&file, READ_LIMIT)),
         };
         match bytes {
             Ok(bytes) => Ok(Text { source, bytes }),
@@ -64,8 +67,9 @@ impl Text {
     }
 }
 
-fn read_start(file: &File) -> io::Result<Vec<u8>> {
-    let mut bytes = Vec::new();
-    file.take(READ_LIMIT).read_to_end(&mut bytes)?;
+/// The first bytes of a file, at most so many.
+pub fn read_start(file: &File, limit: usize) -> io::Result<Vec<u8>> {
+    let mut bytes = Vec::with_capacity(limit.min(4_096));
+    file.take(limit as u64).read_to_end(&mut bytes)?;
     Ok(bytes)
 }

@@ -7,7 +7,7 @@ use super::waiting::{Waiting, WaitingNames};
 use crate::examined::{Reference, require_answer};
 use crate::failure::{self, Failure};
 use crate::shown;
-use crate::texts::{Source, Text};
+use crate::texts::{Source, Text, read_start};
 use cundarivo::{Refusal, programs};
 use std::ffi::{CStr, CString, OsStr};
 use std::io;
@@ -86,7 +86,7 @@ impl<'f> Place<'f> {
             Err(error) if error.kind() == io::ErrorKind::NotFound => return Ok(None),
             opened => opened?,
         };
-        let bytes = text::read_start(&opened.file, length + 1)?;
+        let bytes = read_start(&opened.file, length + 1)?;
         Ok(Some(Old {
             whole: bytes.len() <= length,
             bytes,

@@ -2,14 +2,12 @@
 
 use super::folder::{Folder, Opened};
 use crate::system::{self, Version};
+use crate::texts::{READ_LIMIT, read_start};
 use std::ffi::CStr;
-use std::fs::File;
-use std::io::{self, Read};
+use std::io;
 use std::thread;
 use std::time::{Duration, SystemTime, UNIX_EPOCH};
 
-/// The most bytes that are read of a text: the library refuses a longer one by 1, whatever it is.
-const READ_LIMIT: usize = 65_537;
 /// The system counts a file's times in pieces of up to 10 ms, and sets them at the start of a write. After
 /// this long a write that was under way is over, and another one sets another time.
 const TIME_TO_SETTLE: Duration = Duration::from_millis(20);
@@ -29,13 +27,6 @@ pub fn read(folder: &Folder, name: &CStr) -> io::Result<Vec<u8>> {
         true => Ok(bytes),
         false => Err(io::Error::other("it was changed while it was read")),
     }
-}
-
-/// The first bytes of a file, at most so many.
-pub fn read_start(file: &File, limit: usize) -> io::Result<Vec<u8>> {
-    let mut bytes = Vec::with_capacity(limit.min(4_096));
-    file.take(limit as u64).read_to_end(&mut bytes)?;
-    Ok(bytes)
 }
 
 /// How long a text's times take to settle. There is no answer where they count in seconds and it was changed
