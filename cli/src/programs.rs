@@ -8,8 +8,9 @@ use crate::judged::{self, Reading};
 use crate::output;
 use crate::status::Status;
 use crate::texts::Text;
+use crate::types;
 use crate::words;
-use cundarivo::programs;
+use cundarivo::{Figures, programs};
 use std::ffi::OsString;
 
 pub fn draw(words: &[OsString]) -> Result<Status, Failure> {
@@ -22,19 +23,28 @@ pub fn draw(words: &[OsString]) -> Result<Status, Failure> {
 pub fn verify(words: &[OsString]) -> Result<Status, Failure> {
     let [reference, record] = &read_texts("verify", words)?;
     let answer = programs::verify(&reference.bytes, &record.bytes);
-    let refused = Reference::read(reference)
-        .and_then(|read| read.record(record))
-        .err();
-    conclude(refused, &answer, b"OK\n")
+    let read = read_record(reference, record);
+    conclude(read.err(), &answer, b"OK\n")
 }
 
 pub fn panel(words: &[OsString]) -> Result<Status, Failure> {
     let [reference, record] = &read_texts("panel", words)?;
     let answer = programs::panel(&reference.bytes, &record.bytes);
-    let refused = Reference::read(reference)
-        .and_then(|read| read.record(record))
-        .err();
-    conclude(refused, &answer, b"")
+    match read_record(reference, record) {
+        Ok(figures) => conclude(None, &answer, panel_start(&figures).as_bytes()),
+        Err(refused) => conclude(Some(refused), &answer, b""),
+    }
+}
+
+/// The figures of a record that agrees with a reference text.
+fn read_record<'t>(reference: &'t Text, record: &'t Text) -> Result<Figures, Refused<'t>> {
+    let read = Reference::read(reference)?;
+    Ok(read.record(record)?.figures)
+}
+
+/// How the panel of an envelope starts: with the tag of the first channel.
+fn panel_start(figures: &Figures) -> String {
+    format!("{},", types::of_code(figures.codes[0]).tag)
 }
 
 pub fn judge(words: &[OsString]) -> Result<Status, Failure> {
@@ -96,4 +106,33 @@ pub fn refuse(refused: &Refused<'_>) -> Result<Status, Failure> {
     output::print(refused.answer().as_bytes())?;
     words::tell_refused(refused);
     Ok(Status::Refused)
+}
+
+#[cfg(test)]
+mod tests {
+    use super::{conclude, panel_start};
+    use cundarivo::{Ending, Figures};
+
+    /// Nothing is printed, and the status is not that of an answer.
+    #[test]
+    fn a_refusal_of_accepted_texts_is_contradicted() {
+        let figures = Figures {
+            n: 2,
+            codes: vec![5, 1],
+            scaled_centre: vec![0; 2],
+            scaled_squared_radius: 0,
+            scaled_lower_bound: 0,
+            ending: Ending::Settled,
+            moves: 0,
+        };
+        let panel = panel_start(&figures);
+        assert_eq!(panel, "TMP,");
+        for start in ["ENV,", "OK\n", &panel] {
+            for answer in ["NO,12,0\n", "NO,2,1\n", ""] {
+                let concluded = conclude(None, answer.as_bytes(), start.as_bytes());
+                let failure = concluded.expect_err("a contradiction");
+                assert!(failure.line().contains("the program answers otherwise"));
+            }
+        }
+    }
 }
