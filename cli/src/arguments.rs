@@ -1,6 +1,7 @@
 //! The words behind a command: options, and names of texts.
 
 use crate::failure::Failure;
+use crate::help;
 use crate::shown;
 use crate::texts::Source;
 use std::ffi::{OsStr, OsString};
@@ -55,8 +56,7 @@ impl Words {
             texts.push(Source::Input);
         }
         if texts.len() != count {
-            let line = format!("too few or too many texts for {command}");
-            return Err(Failure::usage(line));
+            return Err(other_count(command, texts.len() < count));
         }
         require_one_input(command, &texts)?;
         Ok(texts)
@@ -71,6 +71,13 @@ pub fn require_one_input(command: &str, texts: &[Source]) -> Result<(), Failure>
             "standard input can be only one of the texts of {command}"
         ))),
     }
+}
+
+/// Another number of texts than a command takes.
+pub fn other_count(command: &str, are_few: bool) -> Failure {
+    let count = if are_few { "few" } else { "many" };
+    let usage = help::usage_of(command);
+    Failure::new(format!("too {count} texts for {command}; usage: {usage}"))
 }
 
 fn no_option(word: &OsStr) -> String {

@@ -175,7 +175,8 @@ number behind that one is the line at fault, 0 where none is.
         words: "[COMMAND]",
         summary: "this overview, or the details of a command",
         details: "\
-Prints an overview, or the details of a command, as --help behind it does.
+Prints an overview, or the details of a command, as --help or -h behind it
+does.
 'envelope --version' prints the version.
 ",
     },
@@ -216,12 +217,18 @@ pub fn no_command(name: &OsStr) -> Failure {
 /// Whether a command's words ask for its help.
 pub fn is_asked_for(words: &[OsString]) -> bool {
     let mut options = words.iter().take_while(|word| *word != "--");
-    options.any(|word| word == "--help")
+    options.any(|word| word == "--help" || word == "-h")
 }
 
 fn print(text: &str) -> Result<Status, Failure> {
     output::print(text.as_bytes())?;
     Ok(Status::Done)
+}
+
+/// The usage of a command, by its name.
+pub fn usage_of(name: &str) -> String {
+    let command = COMMANDS.iter().find(|command| command.name == name);
+    command.map_or("envelope help".to_string(), usage)
 }
 
 fn usage(command: &Command) -> String {
@@ -273,8 +280,10 @@ mod tests {
             is_asked_for(&words)
         };
         assert!(asked(&["--help"]));
+        assert!(asked(&["x.ref", "-h"]));
         assert!(asked(&["x.ref", "--help", "--"]));
         assert!(!asked(&["--", "--help"]));
-        assert!(!asked(&["help", "-h"]));
+        assert!(!asked(&["--", "-h"]));
+        assert!(!asked(&["help", "h", "-"]));
     }
 }

@@ -1,6 +1,6 @@
 //! `show`: an envelope in units, and the rows that hold it.
 
-use crate::arguments::{Words, require_one_input};
+use crate::arguments::{Words, other_count, require_one_input};
 use crate::columns::{Side, aligned};
 use crate::distances::{gap_millionths, reach_tenths, scaled_squared_distance};
 use crate::examined::Reference;
@@ -56,9 +56,7 @@ fn read_texts(words: &Words) -> Result<(Text, Option<Text>), Failure> {
             let record = record.map(Text::read);
             Ok((Text::read(reference)?, record.transpose()?))
         }
-        _ => Err(Failure::usage(
-            "too few or too many texts for show".to_string(),
-        )),
+        (first, ..) => Err(other_count("show", first.is_none())),
     }
 }
 

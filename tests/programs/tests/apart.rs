@@ -53,7 +53,9 @@ fn joined_texts_are_not_taken_apart() {
     let embedded = format!("{WIDE}\n{}", record(WIDE));
     let joined = format!("{embedded}\n{}\n{HIGH}", record(HONEST));
     let ended = envelope(&["judge"], joined.as_bytes());
-    ended.assert_failed("too few or too many texts");
+    ended.assert_failed(
+        "too few texts for judge; usage: envelope judge [--explain] REF ENV [READINGS]",
+    );
     let ended = envelope(&["draw"], joined.as_bytes());
     Way::Command.assert_answer(&ended, "draw", "NO,3,4\n");
 }

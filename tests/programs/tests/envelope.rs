@@ -253,24 +253,25 @@ fn a_word_of_any_bytes_is_told_on_one_line() {
 
 #[test]
 fn too_few_and_too_many_texts_are_bad_usage() {
-    for words in [
-        &["draw", "a", "b"][..],
-        &["draw", "-", "-"],
-        &["draw", "--", "a", "b"],
-        &["verify"],
-        &["verify", "--"],
-        &["verify", "a", "b", "c"],
-        &["panel"],
-        &["panel", "a", "b", ""],
-        &["judge"],
-        &["judge", "a"],
-        &["judge", "-"],
-        &["judge", "a", "b", "c", "d"],
+    let judge = "judge [--explain] REF ENV [READINGS]";
+    for (words, count, usage) in [
+        (&["draw", "a", "b"][..], "many", "draw [REF]"),
+        (&["draw", "-", "-"], "many", "draw [REF]"),
+        (&["draw", "--", "a", "b"], "many", "draw [REF]"),
+        (&["verify"], "few", "verify REF [ENV]"),
+        (&["verify", "--"], "few", "verify REF [ENV]"),
+        (&["verify", "a", "b", "c"], "many", "verify REF [ENV]"),
+        (&["panel"], "few", "panel REF [ENV]"),
+        (&["panel", "a", "b", ""], "many", "panel REF [ENV]"),
+        (&["judge"], "few", judge),
+        (&["judge", "a"], "few", judge),
+        (&["judge", "-"], "few", judge),
+        (&["judge", "a", "b", "c", "d"], "many", judge),
+        (&["show"], "few", "show REF [ENV]"),
+        (&["show", "a", "b", "c"], "many", "show REF [ENV]"),
     ] {
-        let line = format!(
-            "envelope: too few or too many texts for {}; see 'envelope help'",
-            words[0]
-        );
+        let name = words[0];
+        let line = format!("envelope: too {count} texts for {name}; usage: envelope {usage}");
         envelope(words, REFERENCE.as_bytes()).assert_told(&line, 2);
     }
 }
