@@ -43,6 +43,19 @@ pub fn count(text: &[u8]) -> usize {
     text.split_inclusive(|&byte| byte == b'\n').count()
 }
 
+/// How a line is that has nothing to read, as spreadsheets write empty rows.
+pub fn nothing(line: Line<'_>) -> Option<&'static str> {
+    let ways: [(&[u8], &str); 4] = [
+        (b"", "is empty"),
+        (b" \t", "has only blanks"),
+        (b",", "has only commas"),
+        (b" \t,", "has only blanks and commas"),
+    ];
+    let only = |bytes: &[u8]| line.bytes.iter().all(|byte| bytes.contains(byte));
+    let way = ways.iter().find(|(bytes, _)| only(bytes));
+    way.map(|(_, seen)| *seen)
+}
+
 /// The first sign of another program's way of saving a text, as a person would mend it.
 pub fn saved_otherwise(line: Line<'_>) -> Option<String> {
     byte_order_mark(line)

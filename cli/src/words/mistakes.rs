@@ -139,13 +139,21 @@ fn decimal_points() {
 }
 
 /// Values that are in form under no type, and how their hints go on behind the place.
-const NO_VALUES: [(&str, &str); 19] = [
+const NO_VALUES: [(&str, &str); 21] = [
     ("", " is empty: no value may be missing"),
     ("ND", ", 'ND', is no number: no value may be missing"),
     ("n/a", ", 'n/a', is no number"),
     ("-", ", '-', is no number"),
     ("<LOD", ", '<LOD', is no number"),
     ("-0", ", '-0', is a zero with a minus"),
+    (
+        "<-0",
+        ", '<-0', has a zero behind <, where a number from 1 to ",
+    ),
+    (
+        "<00",
+        ", '<00', has a zero behind <, where a number from 1 to ",
+    ),
     ("+7", ", '+7', has a plus sign"),
     ("<+7", ", '<+7', has a plus sign"),
     (
@@ -280,6 +288,12 @@ fn rows_saved_otherwise() {
     });
     for (line, start) in [
         ("", "the line is empty: remove it"),
+        ("  ", "the line has only blanks: remove it"),
+        (",,", "the line has only commas: remove it"),
+        (
+            " ,,,,,,,,,",
+            "the line has only blanks and commas: remove it",
+        ),
         ("# glycol loop", "the line starts with '#'"),
     ] {
         require_row(|case| {

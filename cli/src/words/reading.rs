@@ -28,8 +28,8 @@ fn asked(channels: &[&Type]) -> String {
 }
 
 fn form(line: Line<'_>, channels: &[&Type]) -> String {
-    if line.bytes.is_empty() {
-        return "the line is empty: remove it, each line is a reading".to_string();
+    if let Some(seen) = line::nothing(line) {
+        return format!("the line {seen}: remove it, each line is a reading");
     }
     let fields = line.fields();
     line::saved_otherwise(line)

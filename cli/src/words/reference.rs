@@ -15,8 +15,10 @@ pub fn hint(text: &[u8], refusal: Refusal) -> String {
             "the first line is empty: it is the heading, REF, n and n tags".to_string()
         }
         (2, Some(line)) => heading::form(line, "REF"),
-        (3, Some(line)) if line.bytes.is_empty() => empty(text, refusal.line),
-        (3, Some(line)) => row(line, &channels),
+        (3, Some(line)) => match line::nothing(line) {
+            Some(seen) => empty(text, refusal.line, seen),
+            None => row(line, &channels),
+        },
         (4, Some(line)) => range(line, &channels),
         (5, Some(line)) => repeated(text, line, refusal.line),
         (6, line) => rows(text, line),
@@ -28,20 +30,13 @@ fn form(channels: &[&Type]) -> String {
     format!("a row is a label and {}", counted(channels.len(), "value"))
 }
 
-fn empty(text: &[u8], number: u32) -> String {
+fn empty(text: &[u8], number: u32, seen: &str) -> String {
     let last = line::count(text) == number as usize;
     let place = if last { "last " } else { "" };
-    format!("the {place}line is empty: remove it, each line behind the heading is a row")
+    format!("the {place}line {seen}: remove it, each line behind the heading is a row")
 }
 
-/// Blanks alone, or a heading again.
-fn no_row(parts: &[&[u8]], line: Line<'_>) -> Option<String> {
-    if line.bytes.iter().all(|byte| b" \t".contains(byte)) {
-        return Some(
-            "the line has only blanks: remove it, each line behind the heading is a row"
-                .to_string(),
-        );
-    }
+fn heading_again(parts: &[&[u8]]) -> Option<String> {
     let tag = parts.get(2).is_some_and(|tag| types::of_tag(tag).is_some());
     let word = ["REF", "ENV"]
         .into_iter()
@@ -54,7 +49,7 @@ fn no_row(parts: &[&[u8]], line: Line<'_>) -> Option<String> {
 fn row(line: Line<'_>, channels: &[&Type]) -> String {
     let parts = line.fields();
     line::saved_otherwise(line)
-        .or_else(|| no_row(&parts, line))
+        .or_else(|| heading_again(&parts))
         .or_else(|| fields::of_row(line, channels))
         .or_else(|| (!label::accepted(parts[0])).then(|| label::form(parts[0])))
         .or_else(|| value::first(parts[1..].iter(), channels, 3))

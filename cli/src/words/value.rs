@@ -63,6 +63,10 @@ fn form(subject: &str, channel: &Type, text: &[u8]) -> String {
         return format!("{subject} is empty: {}", missing(channel));
     }
     let seen = match fault {
+        _ if below && number::small(number) == Some(0) => {
+            let high = channel.high;
+            format!("has a zero behind <, where a number from 1 to {high} stands")
+        }
         Fault::Empty => format!("has nothing behind <: {}", missing(channel)),
         Fault::NoDigit => format!("is no number: {}", missing(channel)),
         Fault::Point => format!("has a decimal point: {}", in_steps(channel, below, number)),

@@ -296,9 +296,17 @@ fn judge(readings: &[u8]) -> Ended {
 }
 
 /// Readings that are refused by 3, and the hints.
-const NOT_IN_FORM: [(&str, &str); 12] = [
+const NOT_IN_FORM: [(&str, &str); 14] = [
     ("A,TOC,3,CND,4\r\n", WINDOWS),
     ("\n", "the line is empty: remove it, each line is a reading"),
+    (
+        " \t\n",
+        "the line has only blanks: remove it, each line is a reading",
+    ),
+    (
+        ",,,,\n",
+        "the line has only commas: remove it, each line is a reading",
+    ),
     (
         "A,3,4\n",
         "the line has 3 fields, and 5 are asked for, a label, then tag and value of 2 channels; \
