@@ -124,8 +124,8 @@ ENV the one that is drawn now, with a budget of 10,000 moves:
 - the radius in steps (steps of different channels count alike), the gap
   between it and the least radius that can be, and how the drawing ended;
 - the rows that carry weight, the heaviest first, with the radius that is
-  drawn without each of the first 16. A row without which the radius is less
-  than half is marked: one of its values may be mistyped.
+  drawn without each of the first 16. Of more than two rows, one without which
+  the radius is less than half is marked: a value of it may be mistyped.
 ",
     },
     Command {

@@ -46,7 +46,7 @@ pub fn section(shown: &Shown<'_>) -> Result<String, Failure> {
             true => Some(radius_without(reference, row)?),
             false => None,
         };
-        let is_marked = without.is_some_and(|without| is_less_than_half(without, drawn));
+        let is_marked = without.is_some_and(|without| stands_out(reference.m, without, drawn));
         lines.push(line(shown, row, without, is_marked));
         if is_marked {
             marked += &question(reference, row);
@@ -112,9 +112,10 @@ fn line(shown: &Shown<'_>, row: usize, without: Option<u64>, is_marked: bool) ->
     ]
 }
 
-/// A radius is less than half of another where four times its square is less.
-fn is_less_than_half(without: u64, drawn: u64) -> bool {
-    4 * u128::from(without) < u128::from(drawn)
+/// Whether the radius without a row is less than half: four times its square is less. Of two rows neither
+/// stands out, since without either of them the radius is 0.
+fn stands_out(m: usize, without: u64, drawn: u64) -> bool {
+    m > 2 && 4 * u128::from(without) < u128::from(drawn)
 }
 
 fn question(reference: &Reference<'_>, row: usize) -> String {
@@ -149,7 +150,7 @@ fn below_detection(reference: &Reference<'_>, row: usize) -> String {
 
 #[cfg(test)]
 mod tests {
-    use super::{heaviest_first, is_less_than_half, share};
+    use super::{heaviest_first, share, stands_out};
 
     #[test]
     fn the_heaviest_rows_come_first() {
@@ -167,10 +168,11 @@ mod tests {
 
     #[test]
     fn a_row_is_marked_below_half_the_radius() {
-        assert!(is_less_than_half(24, 97));
-        assert!(!is_less_than_half(25, 100));
-        assert!(!is_less_than_half(0, 0));
-        assert!(is_less_than_half(0, 1));
-        assert!(!is_less_than_half(u64::MAX, u64::MAX));
+        assert!(stands_out(3, 24, 97));
+        assert!(!stands_out(3, 25, 100));
+        assert!(!stands_out(3, 0, 0));
+        assert!(stands_out(3, 0, 1));
+        assert!(!stands_out(2, 0, 1));
+        assert!(!stands_out(256, u64::MAX, u64::MAX));
     }
 }

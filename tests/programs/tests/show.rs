@@ -168,7 +168,8 @@ impl Expected {
         let mut questions = Vec::new();
         for (place, &row) in rows.iter().enumerate() {
             let without = (place < HEAVIEST && self.rows.len() > 1).then(|| self.without(row));
-            let is_marked = without.is_some_and(|without| 4 * without < self.drawn);
+            let is_less = without.is_some_and(|without| 4 * without < self.drawn);
+            let is_marked = is_less && self.rows.len() > 2;
             self.assert_row(lines[place + 2], row, without, is_marked);
             if is_marked {
                 let label = &self.labels[row];
@@ -387,6 +388,15 @@ fn one_row_and_equal_rows() {
         assert!(ended.text().contains("\nradius          0.0 steps\n"));
         assert!(ended.text().contains("-7.0 to -7.0 mV"));
     }
+}
+
+/// Without either of two rows the radius is 0, whatever they are.
+#[test]
+fn of_two_rows_none_is_marked() {
+    let ended = assert_drawn(b"REF,1,TMP\nA,-7\nB,-8\n");
+    assert!(!ended.text().contains("LOOK"), "{}", ended.text());
+    let ended = assert_drawn(b"REF,1,TMP\nA,-7\nB,-8\nC,900\n");
+    assert_eq!(ended.text().matches("LOOK").count(), 1);
 }
 
 /// Standard input can be either text; without a record the reference text is drawn.
