@@ -60,8 +60,9 @@ moves, and prints its record:
 
   ENV,n,tags           the channels
   C,..                 the centre of each channel, in steps times 65,536
-  R,M,L,moves,S or B   squared radius and lower bound of it, in square steps
-                       times 65,536 squared; settled, or the budget was used
+  R,M,L,moves,S or B   squared radius and its floor, which no ball round the
+                       rows is below, in square steps times 65,536 squared;
+                       moves made; settled, or the budget was used up
   W,row,weight         the rows that carry weight, of 65,536 together
 
 'show' prints the same in units.
@@ -121,8 +122,9 @@ ENV the one that is drawn now, with a budget of 10,000 moves:
 
 - for each channel the centre, the reach of the ball (centre less radius to
   centre plus radius) and the least and largest value of the rows, in units;
-- the radius in steps (steps of different channels count alike), the gap
-  between it and the least radius that can be, and how the drawing ended;
+- the radius in steps (steps of different channels count alike), the gap (M
+  less L, and how much smaller the least radius can be at most), and how the
+  drawing ended;
 - the rows that carry weight, the heaviest first, with the radius that is
   drawn without each of the first 16. Of more than two rows, one without which
   the radius is less than half is marked: a value of it may be mistyped.

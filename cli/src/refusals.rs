@@ -97,10 +97,17 @@ const TABLE: [Entry; 13] = [
 
 /// When input is refused by a number of the library.
 pub fn reason(number: u32) -> &'static str {
-    let entry = number
-        .checked_sub(1)
-        .and_then(|index| TABLE.get(index as usize));
-    entry.map_or("not in the table of refusals", |entry| entry.reason)
+    entry(number).map_or("not in the table of refusals", |entry| entry.reason)
+}
+
+/// What a person does about it.
+pub fn remedy(number: u32) -> &'static str {
+    entry(number).map_or("see 'envelope refusals'", |entry| entry.remedy)
+}
+
+fn entry(number: u32) -> Option<&'static Entry> {
+    let index = usize::try_from(number).ok()?.checked_sub(1)?;
+    TABLE.get(index)
 }
 
 pub fn print_refusals(words: &[OsString]) -> Result<Status, Failure> {

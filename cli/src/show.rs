@@ -81,7 +81,7 @@ fn require_figures(shown: &Shown<'_>) -> Result<(), Failure> {
     match own == stated && bound <= radius {
         true => Ok(()),
         false => Err(Failure::contradiction(
-            "centre, radius or lower bound are not those of the rows and weights",
+            "centre, radius or floor are not those of the rows and weights",
         )),
     }
 }

@@ -2,6 +2,7 @@
 
 use super::line::{self, Line};
 use super::{counted, field, heading, number};
+use crate::refusals;
 use crate::types;
 use cundarivo::{ROWS, Refusal};
 use std::ops::RangeInclusive;
@@ -15,7 +16,7 @@ pub fn hint(text: &[u8], refusal: Refusal, codes: &[u8]) -> String {
     match refusal.number {
         11 => form(text, refusal.line),
         12 => disagreement(heading, codes),
-        _ => "draw it again".to_string(),
+        number => refusals::remedy(number).to_string(),
     }
 }
 
@@ -24,7 +25,7 @@ fn asked(number: u32, n: usize) -> String {
     match number {
         1 => "line 1 is the heading: ENV, n and n tags".to_string(),
         2 => format!("line 2 is C and {}, the centre", counted(n, "number")),
-        3 => "line 3 is R, squared radius, lower bound, moves and the letter S or B".to_string(),
+        3 => "line 3 is R, squared radius, floor, moves and the letter S or B".to_string(),
         _ => format!(
             "each line from 4 on is W, a row of 1 to {ROWS} above the one before, and its weight"
         ),
@@ -146,5 +147,5 @@ fn disagreement(heading: Option<Line<'_>>, codes: &[u8]) -> String {
         }
         false => format!("the record has the tags {record}, and the reference text {reference}"),
     };
-    format!("{seen}; draw it again from this reference text")
+    format!("{seen}; {}", refusals::remedy(12))
 }

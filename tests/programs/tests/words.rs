@@ -148,7 +148,7 @@ fn assert_record(record: &str, (number, line): (u32, u32), hint: &str) {
 fn asked(line: u32) -> &'static str {
     match line {
         2 => "line 2 is C and 2 numbers, the centre",
-        3 => "line 3 is R, squared radius, lower bound, moves and the letter S or B",
+        3 => "line 3 is R, squared radius, floor, moves and the letter S or B",
         _ => "each line from 4 on is W, a row of 1 to 256 above the one before, and its weight",
     }
 }
@@ -265,7 +265,7 @@ fn records_with_a_faulty_heading() {
 
 #[test]
 fn records_that_disagree() {
-    let again = "draw it again from this reference text";
+    let again = "draw it again from this reference text, or find the one that it is of";
     let rows = format!(
         "the record does not agree with these rows: it is of others, or was changed; {again}"
     );
