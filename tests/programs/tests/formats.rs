@@ -114,6 +114,35 @@ fn its_texts_are_those_of_an_example() {
     );
 }
 
+/// Of rows 6 and 10, which carry weight, another value is another record.
+#[test]
+fn a_record_holds_where_its_figures_are_those_of_the_rows() {
+    let reference = String::from_utf8(programs::example("purified-water", "ref")).expect("a text");
+    let record = String::from_utf8(programs::example("purified-water", "env")).expect("a text");
+    let verify = |reference: &str, record: &str| {
+        let folder = Folder::new();
+        let reference = folder.write("x.ref", reference);
+        let words = ["verify".as_ref(), reference.as_os_str()];
+        envelope(&words, record.as_bytes()).text().to_string()
+    };
+    let changed = |text: &str, from: &str, to: &str| {
+        assert_eq!(text.matches(from).count(), 1, "{from}");
+        text.replace(from, to)
+    };
+    let inside = changed(&reference, "PW1-0302-06,48,", "PW1-0302-06,49,");
+    assert_eq!(verify(&inside, &record), "OK\n");
+    let moves = changed(&record, ",2,S\n", ",3,S\n");
+    assert_eq!(verify(&reference, &moves), "OK\n");
+    let outside = changed(&reference, "PW1-0302-06,48,", "PW1-0302-06,948,");
+    assert_eq!(verify(&outside, &record), "NO,12,0\n");
+    let label = reference.lines().nth(6).expect("row 6").split(',');
+    let label = label.take(1).collect::<String>() + ",";
+    let weighted = changed(&reference, &label, &format!("{label}1"));
+    assert_eq!(verify(&weighted, &record), "NO,12,0\n");
+    let centre = changed(&record, "C,3178496,", "C,3178497,");
+    assert_eq!(verify(&reference, &centre), "NO,12,0\n");
+}
+
 #[test]
 fn every_status_is_said_in_help_too() {
     let statuses = rows(&document(), "| status | when |");
