@@ -101,4 +101,13 @@ mod tests {
         assert_eq!(told("A,22,8,34,6,-44\n"), "; a number has no comma in it");
         assert_eq!(told("A,22,ND,8,-44\n"), "");
     }
+
+    /// Only where every field too many is empty are there commas at the end.
+    #[test]
+    fn a_field_behind_an_empty_one_is_no_comma_at_the_end() {
+        let channels = [of_tag(b"TOC").expect("a tag")];
+        let told = |row: &str| of_row(Line::of(row.as_bytes()), &channels).expect("another count");
+        assert!(told("A,1,,\n").starts_with("the line ends in 2 commas too many"));
+        assert!(told("A,1,,5\n").starts_with("the line has 4 fields, and 2 are asked for"));
+    }
 }

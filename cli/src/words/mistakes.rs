@@ -295,6 +295,7 @@ fn rows_saved_otherwise() {
             "the line has only blanks and commas: remove it",
         ),
         ("# glycol loop", "the line starts with '#'"),
+        ("// glycol loop", "the line starts with '//'"),
     ] {
         require_row(|case| {
             case.rows.insert(case.row, vec![line.to_string()]);
@@ -304,11 +305,12 @@ fn rows_saved_otherwise() {
 }
 
 /// Labels that are not in form, and what is seen of them.
-const NO_LABELS: [(&str, &str); 7] = [
+const NO_LABELS: [(&str, &str); 8] = [
     ("", "is empty"),
     ("gl-7", "'gl-7' has lower-case letters"),
     ("GL_7", "'GL_7' has '_'"),
     ("GL-2024-03-07", "'GL-2024-03-07' has 13 bytes"),
+    ("GL-2024-03_7", "'GL-2024-03_7' has '_'"),
     ("7.3.24 6:00", "'7.3.24\\x206:00' has a blank and '.'"),
     ("\u{c0}", "'\\xc3\\x80' has '\\xc3'"),
     ("#1", "'#1' has '#'"),

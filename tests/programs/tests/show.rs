@@ -390,6 +390,16 @@ fn one_row_and_equal_rows() {
     }
 }
 
+/// The budget is that of `draw`, whose record states the same moves.
+#[test]
+fn a_drawing_that_uses_its_budget_up() {
+    let text = root().join("tests/programs/stored/draw/budget-used-up.ref");
+    let ended = show(&[&std::fs::read(text).expect("a stored text")]);
+    let ending =
+        format!("\nending          not settled, the budget used up, after {BUDGET} moves\n");
+    assert!(ended.text().contains(&ending), "{}", ended.text());
+}
+
 /// Without either of two rows the radius is 0, whatever they are.
 #[test]
 fn of_two_rows_none_is_marked() {
