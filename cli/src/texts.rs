@@ -1,11 +1,11 @@
 //! The texts of a command, each read from its own file or from standard input, at most one byte more than
 //! a text may have.
 
-use crate::failure::Failure;
+use crate::failure::{self, Failure};
 use crate::shown;
 use std::ffi::{OsStr, OsString};
 use std::fs::File;
-use std::io::{self, Read};
+use std::io::{self, IsTerminal, Read};
 use std::mem::ManuallyDrop;
 use std::os::fd::FromRawFd;
 
@@ -46,11 +46,7 @@ pub struct Text {
 impl Text {
     pub fn read(source: Source) -> Result<Text, Failure> {
         let bytes = match &source {
-            // SAFETY: descriptor 0 is open (`descriptors::require_open`), and is not closed here.
-            Source::Input => read_start(
-                &ManuallyDrop::new(unsafe { File::from_raw_fd(0) }),
-                READ_LIMIT,
-            ),
+            Source::Input => read_input(),
             Source::File(name) => File::open(name).and_then(|file| read_start(&file, READ_LIMIT)),
         };
         match bytes {
@@ -65,6 +61,16 @@ impl Text {
             .split_inclusive(|&byte| byte == b'\n')
             .map(|line| line.strip_suffix(b"\n").unwrap_or(line))
     }
+}
+
+/// Whoever sits at a terminal and left a text out is told what the command waits for.
+fn read_input() -> io::Result<Vec<u8>> {
+    // SAFETY: descriptor 0 is open (`descriptors::require_open`), and is not closed here.
+    let input = ManuallyDrop::new(unsafe { File::from_raw_fd(0) });
+    if input.is_terminal() {
+        failure::tell("reading standard input; Ctrl-D ends it");
+    }
+    read_start(&input, READ_LIMIT)
 }
 
 /// The first bytes of a file, at most so many.
