@@ -1,9 +1,11 @@
 //! Calls of the system that the standard library has not.
 
-use std::ffi::{CString, c_char};
+use std::ffi::{CStr, CString, OsStr, c_char};
+use std::fs::File;
 use std::io::PipeReader;
-use std::os::fd::AsRawFd;
+use std::os::fd::{AsRawFd, FromRawFd};
 use std::os::unix::ffi::OsStrExt;
+use std::os::unix::fs::OpenOptionsExt;
 use std::os::unix::process::CommandExt;
 use std::path::Path;
 use std::process::{Child, Command};
@@ -24,10 +26,16 @@ unsafe extern "C" {
     fn fcntl(descriptor: i32, command: i32, ...) -> i32;
     fn mkfifo(path: *const c_char, mode: u32) -> i32;
     fn geteuid() -> u32;
+    fn posix_openpt(flags: i32) -> i32;
+    fn grantpt(terminal: i32) -> i32;
+    fn unlockpt(terminal: i32) -> i32;
+    fn ptsname_r(terminal: i32, name: *mut c_char, length: usize) -> i32;
 }
 
 const SIGKILL: i32 = 9;
 const F_SETFL: i32 = 4;
+const O_RDWR: i32 = 2;
+const O_NOCTTY: i32 = 0o400;
 const O_NONBLOCK: i32 = 0o4000;
 const O_DIRECT: i32 = 0o40000;
 const NOBODY: u32 = 65_534;
@@ -91,4 +99,24 @@ pub fn run_without_privileges(command: &mut Command) {
     if unsafe { geteuid() } == 0 {
         command.uid(NOBODY).gid(NOBODY);
     }
+}
+
+/// A terminal of nobody's session: the end that a person would sit at, and the one that a program gets.
+pub fn open_terminal() -> (File, File) {
+    let mut name = [0_u8; 64];
+    // SAFETY: the descriptor is ours alone, and the pointer and the length are those of a place of this
+    // function.
+    let person = unsafe {
+        let descriptor = posix_openpt(O_RDWR | O_NOCTTY);
+        assert!(descriptor >= 0, "a new terminal");
+        let opened = [grantpt(descriptor), unlockpt(descriptor)];
+        let named = ptsname_r(descriptor, name.as_mut_ptr().cast(), name.len());
+        assert_eq!((opened, named), ([0, 0], 0), "a terminal with a name");
+        File::from_raw_fd(descriptor)
+    };
+    let name = CStr::from_bytes_until_nul(&name).expect("a name that ends");
+    let mut options = File::options();
+    let options = options.read(true).write(true).custom_flags(O_NOCTTY);
+    let program = options.open(OsStr::from_bytes(name.to_bytes()));
+    (person, program.expect("the other end"))
 }
