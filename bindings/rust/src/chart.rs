@@ -1,6 +1,6 @@
 //! The mark of an envelope in a chart of two channels, and what the panel shows of its centre.
 
-use crate::{CHANNELS, Figures, FiguresGiven, Refusal, accepted};
+use crate::{Figures, FiguresGiven, Refusal, accepted, channel_places};
 
 /// The centre of an envelope in a chart of two channels, in steps: X over D of each, exactly. Zero is
 /// positive.
@@ -143,8 +143,7 @@ pub fn chart(figures: &Figures, horizontal: usize, vertical: usize) -> Result<Ma
 ///
 /// Refusal 8: see [`Refusal`].
 pub fn panel(figures: &Figures) -> Result<Vec<i32>, Refusal> {
-    // More than CHANNELS are refused, so that no count, however large, is allocated.
-    let mut steps = vec![0; figures.n.min(CHANNELS)];
+    let mut steps = channel_places(figures.n);
     let (codes, scaled_centre) = (&figures.codes, &figures.scaled_centre);
     let answer = panel_into(figures.given(), codes, scaled_centre, &mut steps);
     accepted(answer.number, answer.line)?;
@@ -177,7 +176,7 @@ pub fn chart_given(
 /// The library's own call of [`panel`], which takes and answers numbers. Accepted, it fills the first
 /// n places of `steps`, and no other; refused, it changes nothing. `codes` and `scaled_centre` lend at least
 /// n places, of which the first n count; fewer are refused by 8. After that comes 13 for `steps` of
-/// fewer than n places; [`CHANNELS`] are always enough.
+/// fewer than n places; [`CHANNELS`](crate::CHANNELS) are always enough.
 pub fn panel_into(
     figures: FiguresGiven,
     codes: &[u8],

@@ -16,7 +16,7 @@
 //! - *Settled*: no move of weight between two rows is called for. M - L is then at most D times
 //!   the largest squared distance between two rows.
 //!
-//! X counts in units of 1/D step, M and L in units of 1/D² squared step.
+//! X counts in units of 1/D step, M, L and the s of a reading in units of 1/D² squared step.
 //!
 //! ```
 //! let rows = [0, 10];
@@ -173,7 +173,7 @@ pub const ROWS: usize = 256;
 /// The most channels.
 pub const CHANNELS: usize = 8;
 
-/// D, the sum of the weights; X counts in units of 1/D, M and L in units of 1/D².
+/// D, the sum of the weights; X counts in units of 1/D, M, L and s in units of 1/D².
 pub const TOTAL: u32 = 65_536;
 
 /// Input that was turned back: its number in the table of refusals, and the line at fault, counted
@@ -510,7 +510,7 @@ unsafe extern "C" {
 ///
 /// Refusal 8, then 9: see [`Refusal`].
 pub fn draw(rows: &[i32], m: usize, n: usize, budget: u32) -> Result<Drawing, Refusal> {
-    let mut scaled_centre = centre_places(n);
+    let mut scaled_centre = channel_places(n);
     let mut weights = weight_places(m);
     let answer = draw_into(rows, m, n, budget, &mut scaled_centre, &mut weights);
     accepted(answer.number, answer.line)?;
@@ -531,7 +531,7 @@ pub fn draw(rows: &[i32], m: usize, n: usize, budget: u32) -> Result<Drawing, Re
 ///
 /// Refusal 8, then 12: see [`Refusal`].
 pub fn check(rows: &[i32], m: usize, n: usize, weights: &[u32]) -> Result<Checked, Refusal> {
-    let mut scaled_centre = centre_places(n);
+    let mut scaled_centre = channel_places(n);
     let answer = check_into(rows, m, n, weights, &mut scaled_centre);
     accepted(answer.number, answer.line)?;
     Ok(Checked {
@@ -729,10 +729,10 @@ pub fn label_part(text: &[u8], row: usize) -> LabelAnswer {
     unsafe { cundarivo_label(text.as_ptr(), text.len(), row) }
 }
 
-/// Places for X of n channels. More than [`CHANNELS`] are refused, so that no count, however large,
-/// is allocated.
-fn centre_places(n: usize) -> Vec<i64> {
-    vec![0; n.min(CHANNELS)]
+/// A place for each of n channels. More than [`CHANNELS`] are refused, so that no count, however
+/// large, is allocated.
+fn channel_places<T: Clone + Default>(n: usize) -> Vec<T> {
+    vec![T::default(); n.min(CHANNELS)]
 }
 
 /// Places for the weights of m rows. More than [`ROWS`] are refused, as above.
@@ -740,9 +740,9 @@ fn weight_places(m: usize) -> Vec<u32> {
     vec![0; m.min(ROWS)]
 }
 
-/// The verdict on an accepted reading.
-fn verdict(number: u32, excess: u64) -> Verdict {
-    match number {
+/// The verdict of this code on an accepted reading.
+fn verdict(code: u32, excess: u64) -> Verdict {
+    match code {
         1 => Verdict::Quiet,
         _ => Verdict::Alarm { excess },
     }

@@ -1,6 +1,6 @@
 //! A reading that is measured: its verdict with its s and its values.
 
-use crate::{CHANNELS, Figures, FiguresGiven, Refusal, Verdict, accepted, verdict};
+use crate::{Figures, FiguresGiven, Refusal, Verdict, accepted, channel_places, verdict};
 
 /// A reading that is judged, with what its verdict comes from.
 #[derive(Clone, Debug, PartialEq, Eq, Hash)]
@@ -17,7 +17,8 @@ pub struct Measured {
 #[repr(C)]
 #[derive(Clone, Copy, Debug, PartialEq, Eq, Hash)]
 pub struct MeasuredAnswer {
-    /// 0 where the reading is accepted, else the refusal's number; then every figure below is 0.
+    /// 0 where the reading is accepted, else the refusal's number; then `verdict`, `excess` and s
+    /// are 0.
     pub number: u32,
     /// The line at fault, 0 where none is.
     pub line: u32,
@@ -66,8 +67,7 @@ unsafe extern "C" {
 ///
 /// Refusals 8, 1, 3, 10, then 4: see [`Refusal`].
 pub fn measure(figures: &Figures, text: &[u8]) -> Result<Measured, Refusal> {
-    // More than CHANNELS are refused, so that no count, however large, is allocated.
-    let mut values = vec![0; figures.n.min(CHANNELS)];
+    let mut values = channel_places(figures.n);
     let (codes, scaled_centre) = (&figures.codes, &figures.scaled_centre);
     let answer = measure_into(figures.given(), codes, scaled_centre, text, &mut values);
     accepted(answer.number, answer.line)?;
@@ -81,7 +81,8 @@ pub fn measure(figures: &Figures, text: &[u8]) -> Result<Measured, Refusal> {
 /// The library's own call of [`measure`], which takes and answers numbers. An accepted one fills the
 /// first n places of `values`, and no other; a refused one changes nothing. `codes` and
 /// `scaled_centre` lend at least n places, of which the first n count; fewer are refused by 8.
-/// Refusals 8, 1, 3, 10, 4, then 13 for `values` of fewer than n places.
+/// Refusals 8, 1, 3, 10, 4, then 13 for `values` of fewer than n places;
+/// [`CHANNELS`](crate::CHANNELS) are always enough.
 pub fn measure_into(
     figures: FiguresGiven,
     codes: &[u8],

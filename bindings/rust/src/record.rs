@@ -1,7 +1,7 @@
 //! The records of envelopes, written and read.
 
 use crate::{
-    EnvelopeAnswer, Figures, FiguresGiven, ROWS, Refusal, accepted, centre_places, ending,
+    EnvelopeAnswer, Figures, FiguresGiven, ROWS, Refusal, accepted, channel_places, ending,
     weight_places,
 };
 
@@ -93,7 +93,7 @@ pub fn read_record(
     codes: &[u8],
     text: &[u8],
 ) -> Result<Envelope, Refusal> {
-    let mut scaled_centre = centre_places(n);
+    let mut scaled_centre = channel_places(n);
     let mut weights = weight_places(m);
     let answer = read_record_into(rows, m, n, codes, text, &mut scaled_centre, &mut weights);
     accepted(answer.number, answer.line)?;
