@@ -34,13 +34,8 @@ judgeAnswer D types given codes scaledCentre text =
 
 abbrev pub measuredInNumbers : Measured → MeasuredAnswer
 measuredInNumbers m =
-    record {
-      number = verdictNumber (m .verdict);
-      line = verdictLine (m .verdict);
-      verdict = verdictCode (m .verdict);
-      excess = verdictExcess (m .verdict);
-      «scaled_squared_distance» = m .«scaled_squared_distance»;
-    }
+    let v = verdictInNumbers (m .verdict) in
+    record { number = v .number; line = v .line; verdict = v .verdict; excess = v .excess; «scaled_squared_distance» = m .«scaled_squared_distance» }
 
 unfoldable pub measuredGiven : ℕ → Types → FiguresGiven → List ℕ → List ℤ → List ℕ → MeasuredReading
 measuredGiven D types given codes scaledCentre text =

@@ -17,25 +17,24 @@ use Rattle.channel.specs.Channel.{Types}
 use Rattle.value.specs.Value.{Written, reads}
 use Rattle.envelope.specs.declared.Figures.{Figures}
 use Rattle.reading.specs.Content.{Content, faulty, sound, readingContent, distanceOf}
-use Rattle.reading.specs.Verdict.{refusedVerdict, verdictOf}
+use Rattle.reading.specs.Verdict.{refusedVerdict, verdictOn}
 use Rattle.measured_reading.specs.declared.Measured.{Measured}
 
 abbrev pub refusedMeasure : ℕ → ℕ → Measured
-refusedMeasure k l = record { verdict = refusedVerdict k l; «scaled_squared_distance» = 0 }
+refusedMeasure number line = record { verdict = refusedVerdict number line; «scaled_squared_distance» = 0 }
 
 abbrev pub measureOf : ℕ → Figures → List Written → Measured
-measureOf D f values =
-    record { verdict = verdictOf (distanceOf D f values) (f .ball .«scaled_squared_radius»); «scaled_squared_distance» = distanceOf D f values }
+measureOf D f values = record { verdict = verdictOn D f (sound values); «scaled_squared_distance» = distanceOf D f values }
 
 pub record MeasuredReading : Type 0 where
   pub answer : Measured
   pub values : List ℤ
 
 abbrev pub notMeasured : ℕ → ℕ → MeasuredReading
-notMeasured k l = record { answer = refusedMeasure k l; values = [] }
+notMeasured number line = record { answer = refusedMeasure number line; values = [] }
 
 abbrev pub measuredAs : ℕ → Figures → Content → MeasuredReading
-measuredAs D f (faulty k l) = notMeasured k l
+measuredAs D f (faulty number line) = notMeasured number line
 measuredAs D f (sound values) = record { answer = measureOf D f values; values = map reads values }
 
 unfoldable pub measured : ℕ → Types → Figures → List ℕ → MeasuredReading
