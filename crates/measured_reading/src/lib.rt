@@ -14,9 +14,9 @@ use envelope::Scalars;
 use envelope::scalars_of;
 use lent::fill_table;
 use limits::CHANNELS;
-use reading::Placed;
+use reading::Distance;
 use reading::Verdict;
-use reading::place_text;
+use reading::distance_of_text;
 use reading::verdict_of;
 use refusal::Refusal;
 
@@ -55,7 +55,7 @@ pub fn measure_lent(
 {
     let n = scalars.n;
     let mut places = [0i32; CHANNELS];
-    let placed = place_text(
+    let read = distance_of_text(
         n,
         scalars.scaled_squared_radius,
         scalars.scaled_lower_bound,
@@ -66,8 +66,8 @@ pub fn measure_lent(
         text,
         &mut places,
     );
-    match placed {
-        Placed::At(distance) => {
+    match read {
+        Distance::Is(distance) => {
             if values.len() < n {
                 return refused_measure(refusal::BUFFER_SHORT, 0);
             }
@@ -78,7 +78,7 @@ pub fn measure_lent(
                 scaled_squared_distance: distance,
             }
         }
-        Placed::Refused(refusal) => refused_measure(refusal.number, refusal.line),
+        Distance::Refused(refusal) => refused_measure(refusal.number, refusal.line),
     }
 }
 

@@ -12,7 +12,7 @@ ghost use Rattle.envelope.specs.Figures.{figuresKnown, figuresOf};
 ghost use Rattle.envelope.specs.Contracts.{lentFigures};
 ghost use Rattle.text.specs.Parts.{lineEnd, textWithin};
 ghost use Rattle.reading.specs.Verdict.{verdictOf, judged};
-ghost use Rattle.reading.specs.Contracts.{refusedPlace, Placing};
+ghost use Rattle.reading.specs.Contracts.{refusedDistance, DistanceRead};
 use channel::Code;
 use envelope::Figures;
 use envelope::Scalars;
@@ -32,30 +32,30 @@ pub enum Verdict {
     Refused(Refusal),
 }
 
-// What a text is told to be: a reading with this s, or refused.
-pub enum Placed {
-    At(u64),
+// s of a text as a reading, or its refusal.
+pub enum Distance {
+    Is(u64),
     Refused(Refusal),
 }
 
-fn refused(number: u32, line: u32) -> Placed
-    ensures { λ r. ⌜ r ≡ refusedPlace number line ⌝ }
+fn refused(number: u32, line: u32) -> Distance
+    ensures { λ r. ⌜ r ≡ refusedDistance number line ⌝ }
 {
-    Placed::Refused(Refusal { number, line })
+    Distance::Refused(Refusal { number, line })
 }
 
-// What the text that is this line and its byte 10 is told to be, its values put into the lent places.
-fn place_line(
+// s of the text that is this line and its byte 10, or its refusal, the values of a reading put into the lent places.
+fn distance_of_line(
     scalars: Scalars,
     codes: &[Code],
     scaled_centre: &[i64],
     line: &[u8],
     places: &mut [i32],
-) -> Placed
+) -> Distance
     requires { ⌜ (figuresKnown total channelTypes (lentFigures scalars (now codes) (now «scaled_centre»)) ≡ true)
         × ((textWithin (now line ++ (lineEnd ∷ [])) ≡ true) × (channelLimit ≤ length (now places))) ⌝ }
     ensures { λ r.
-        ⌜ Placing total channelTypes (lentFigures scalars (now (codes .entry)) (now («scaled_centre» .entry)))
+        ⌜ DistanceRead total channelTypes (lentFigures scalars (now (codes .entry)) (now («scaled_centre» .entry)))
         (now (line .entry) ++ (lineEnd ∷ [])) (now (places .entry)) (now (places .exit)) r ⌝ }
 {
     let n = scalars.n;
@@ -66,15 +66,15 @@ fn place_line(
         Line::OutOfRange => refused(refusal::VALUE_RANGE, 1),
         Line::Within => {
             let distance = scaled_squared_distance(places, n, 0, scaled_centre);
-            Placed::At(distance)
+            Distance::Is(distance)
         }
     }
 }
 
-// What a text is told to be against the figures of an envelope whose codes and X are lent, the values of a reading put into the lent
-// places. The single numbers come one by one, since a struct goes through memory, for which a reading of one channel waits. Refused: 8,
-// 1, 3, the leftmost 10, the leftmost 4.
-pub fn place_text(
+// s of a text as a reading against the figures of an envelope whose codes and X are lent, or its refusal, the values of a reading put
+// into the lent places. The single numbers come one by one, since a struct goes through memory, for which a reading of one channel
+// waits. Refused: 8, 1, 3, the leftmost 10, the leftmost 4.
+pub fn distance_of_text(
     n: usize,
     scaled_squared_radius: u64,
     scaled_lower_bound: u64,
@@ -84,10 +84,10 @@ pub fn place_text(
     scaled_centre: &[i64],
     text: &[u8],
     places: &mut [i32],
-) -> Placed
+) -> Distance
     requires { ⌜ channelLimit ≤ length (now places) ⌝ }
     ensures { λ r.
-        ⌜ Placing total channelTypes (figuresOf n (now (codes .entry))
+        ⌜ DistanceRead total channelTypes (figuresOf n (now (codes .entry))
         (filledBall (now («scaled_centre» .entry)) «scaled_squared_radius» «scaled_lower_bound» settled) moves)
         (now (text .entry)) (now (places .entry)) (now (places .exit)) r ⌝ }
 {
@@ -110,7 +110,7 @@ pub fn place_text(
     if text[end] != LINE_END {
         return refused(refusal::LINE_FORM, 1);
     }
-    place_line(scalars, codes, scaled_centre, &text[..end], places)
+    distance_of_line(scalars, codes, scaled_centre, &text[..end], places)
 }
 
 // s against M.
@@ -142,7 +142,7 @@ pub fn judge_lent(
         (filledBall (now («scaled_centre» .entry)) «scaled_squared_radius» «scaled_lower_bound» settled) moves) (now (text .entry)) ⌝ }
 {
     let mut places = [0i32; CHANNELS];
-    let placed = place_text(
+    let read = distance_of_text(
         n,
         scaled_squared_radius,
         scaled_lower_bound,
@@ -153,9 +153,9 @@ pub fn judge_lent(
         text,
         &mut places,
     );
-    match placed {
-        Placed::At(distance) => verdict_of(distance, scaled_squared_radius),
-        Placed::Refused(refusal) => Verdict::Refused(Refusal {
+    match read {
+        Distance::Is(distance) => verdict_of(distance, scaled_squared_radius),
+        Distance::Refused(refusal) => Verdict::Refused(Refusal {
             number: refusal.number,
             line: refusal.line,
         }),

@@ -1,4 +1,4 @@
--- The verdict is by what the text is told to be, which is what it is.
+-- The verdict is by s of the text or by its refusal, which are those of what the text is.
 use mathlib.Core.Path.{_≡_, sym, ap, _∙_}
 use borrow.Author.Needs.{needs}
 use denote.Ref.{now}
@@ -8,10 +8,10 @@ use Rattle.ball.specs.Ball.{filledBall}
 use Rattle.envelope.specs.Figures.{figuresOf}
 use Rattle.envelope.specs.declared.Figures.{Figures}
 use Rattle.reading.specs.Content.{readingContent}
-use Rattle.reading.specs.Contracts.{placedAs, placed-at, placed-refused}
+use Rattle.reading.specs.Contracts.{distanceAs, distance-is, distance-refused}
 use Rattle.reading.specs.Verdict.{verdictOf}
 use Rattle.reading.specs.VerdictLaws.{verdict-on}
-use Rattle.reading.specs.declared.Placed.{Placed}
+use Rattle.reading.specs.declared.Distance.{Distance}
 use Rattle.reading.proofs.judge_lent.Statement.{statement}
 use Rattle.reading.proofs.judge_lent.Tie as tie
 
@@ -21,13 +21,13 @@ figures c =
     let a = c .args in
     figuresOf (a .n) (now (a .codes)) (filledBall (now (a .scaled-centre)) (a .scaled-squared-radius) (a .scaled-lower-bound) (a .settled)) (a .moves)
 
-abbrev start-of : tie.After-place-text → tie.Start
+abbrev start-of : tie.After-distance-of-text → tie.Start
 start-of c = c .before .before .before .before
 
--- what the text is told to be
-told : (c : tie.After-place-text) {placed : Placed} → c .place-text .result ≡ placed
-    → placedAs total (figures (start-of c)) (readingContent total channelTypes (figures (start-of c)) (now (start-of c .args .text))) ≡ placed
-told c is = sym (c .place-text .ensures .is) ∙ is
+-- s of the text, or its refusal
+told : (c : tie.After-distance-of-text) {answer : Distance} → c .distance-of-text .result ≡ answer
+    → distanceAs total (figures (start-of c)) (readingContent total channelTypes (figures (start-of c)) (now (start-of c .args .text))) ≡ answer
+told c is = sym (c .distance-of-text .ensures .is) ∙ is
 
 returns : tie.Need-returns
 returns c =
@@ -36,7 +36,7 @@ returns c =
     let start = start-of at-text in
     let f = figures start in
     let text = now (start .args .text) in
-    let at = placed-at total f (readingContent total channelTypes f text) (told at-text (at-arm .placed .given .1)) in
+    let at = distance-is total f (readingContent total channelTypes f text) (told at-text (at-arm .read .given .1)) in
     c .verdict-of .ensures ∙ ap (λ s. verdictOf s (start .args .scaled-squared-radius)) (at .2) ∙ sym (verdict-on total channelTypes f text (at .1))
 
 returns-2 : tie.Need-returns-2
@@ -46,7 +46,7 @@ returns-2 c =
     let start = start-of at-text in
     let f = figures start in
     let text = now (start .args .text) in
-    sym (verdict-on total channelTypes f text (placed-refused total f (readingContent total channelTypes f text) (told at-text (at-arm .placed2 .given .1))))
+    sym (verdict-on total channelTypes f text (distance-refused total f (readingContent total channelTypes f text) (told at-text (at-arm .read2 .given .1))))
 
 pub judge-lent-spec : {M : Type 1} → statement M
 judge-lent-spec =

@@ -18,10 +18,10 @@ use Rattle.ball.specs.Ball.{filledBall}
 use Rattle.envelope.specs.Figures.{figuresKnown, figuresOf}
 use Rattle.envelope.specs.declared.Figures.{Figures}
 use Rattle.reading.specs.ContentLaws.{faulty-figures, faulty-length, faulty-form}
-use Rattle.reading.specs.Contracts.{Placing, placing-faulty}
+use Rattle.reading.specs.Contracts.{DistanceRead, distance-faulty}
 use Rattle.reading.proofs.VerdictSteps.{line-last, line-none}
-use Rattle.reading.proofs.place_text.Statement.{statement}
-use Rattle.reading.proofs.place_text.Tie as tie
+use Rattle.reading.proofs.distance_of_text.Statement.{statement}
+use Rattle.reading.proofs.distance_of_text.Tie as tie
 
 -- the figures that the text is held against
 abbrev figures : tie.Start → Figures
@@ -37,7 +37,7 @@ returns : tie.Need-returns
 returns c =
     let tests = c .before .before in
     let start = start-of tests in
-    placing-faulty refl
+    distance-faulty refl
     (faulty-figures total channelTypes (figures start) (now (start .args .text))
     (sym (tests .before .figures-known-lent .ensures) ∙ not-true _ (c .before .if1 .taken)))
     (c .refused .ensures)
@@ -50,7 +50,7 @@ returns-2 : tie.Need-returns-2
 returns-2 c =
     let past-figures = c .before .before in
     let start = start-of (past-figures .before) in
-    placing-faulty refl
+    distance-faulty refl
     (faulty-length total channelTypes (figures start) (now (start .args .text)) (within past-figures)
     (sym (past-figures .before .text-within .ensures) ∙ not-true _ (c .before .if2 .taken)))
     (c .refused2 .ensures)
@@ -75,13 +75,13 @@ returns-3 c =
     let past-figures = past-text .before in
     let start = start-of (past-figures .before) in
     let text = now (start .args .text) in
-    placing-faulty refl
+    distance-faulty refl
     (faulty-form total channelTypes (figures start) text (within past-figures) (fitting past-text)
     (line-none text (length text - 1) (omega (arith, some-byte past-text)) (start .args .n) (c .before .if3 .taken)))
     (c .refused3 .ensures)
 
-slice-aggregate-place-line : tie.Need-slice-aggregate-place-line
-slice-aggregate-place-line c = sym (length-take-le _ _ (omega arith))
+slice-aggregate-distance-of-line : tie.Need-slice-aggregate-distance-of-line
+slice-aggregate-distance-of-line c = sym (length-take-le _ _ (omega arith))
 
 -- the text is the line before its last byte 10, and that byte
 whole : (c : tie.Else3) → let text = now (start-of (c .before .before .before .before) .args .text) in
@@ -91,8 +91,8 @@ whole c =
     let text = now (start-of (past-text .before .before) .args .text) in
     line-last text (length text - 1) (omega (arith, some-byte past-text)) (c .if3 .left)
 
-place-line-requires : tie.Need-place-line-requires
-place-line-requires c κs =
+distance-of-line-requires : tie.Need-distance-of-line-requires
+distance-of-line-requires c κs =
     let last-test = c .before .before in
     let past-text = last-test .before .before in
     (within (past-text .before), (ap textWithin (whole last-test) ∙ fitting past-text, start-of (past-text .before .before) .pre))
@@ -102,12 +102,12 @@ returns-4 c =
     let at-line = c .before in
     let last-test = at-line .before .before .before in
     let start = start-of (last-test .before .before .before .before) in
-    let read = at-line .place-line in
-    subst (λ text. Placing total channelTypes (figures start) text (now (start .args .places)) (read .last .1 .1 .1 .1 .0) (read .result))
+    let read = at-line .distance-of-line in
+    subst (λ text. DistanceRead total channelTypes (figures start) text (now (start .args .places)) (read .last .1 .1 .1 .1 .0) (read .result))
     (whole last-test) (read .ensures)
 
-pub place-text-spec : {M : Type 1} → statement M
-place-text-spec =
+pub distance-of-text-spec : {M : Type 1} → statement M
+distance-of-text-spec =
     tie.close
     (tie.spec
     (λ c κs. search needs)
@@ -120,7 +120,7 @@ place-text-spec =
     shared-slice-read-if3
     (λ c κs. search needs)
     returns-3
-    slice-aggregate-place-line
-    place-line-requires
+    slice-aggregate-distance-of-line
+    distance-of-line-requires
     (λ c. search needs)
     returns-4)

@@ -22,11 +22,11 @@ use Rattle.reading_line.specs.Contracts.{lineAlone}
 use Rattle.reading_line.specs.declared.Line.{Line}
 use Rattle.reading_line.specs.declared.Line.the-variants.{Malformed, TagDiffers, OutOfRange, Within}
 use Rattle.reading.specs.Content.{readingContent}
-use Rattle.reading.specs.Contracts.{placing-faulty, placing-sound}
-use Rattle.reading.specs.declared.Placed.the-variants.{At}
+use Rattle.reading.specs.Contracts.{distance-faulty, distance-sound}
+use Rattle.reading.specs.declared.Distance.the-variants.{Is}
 use Rattle.reading.proofs.VerdictSteps.{lineContent, contentOf, content-line, PointRead, point-read}
-use Rattle.reading.proofs.place_line.Statement.{statement}
-use Rattle.reading.proofs.place_line.Tie as tie
+use Rattle.reading.proofs.distance_of_line.Statement.{statement}
+use Rattle.reading.proofs.distance_of_line.Tie as tie
 
 -- where the line is read, and the figures that it is held against
 abbrev start-of : tie.After-read-line → tie.Start
@@ -79,32 +79,32 @@ returns : tie.Need-returns
 returns c =
     let told = c .before in
     let at-read = told .before .before .before in
-    placing-faulty (at-read .read-line .ensures .same-length) (decided at-read Malformed (told .enum-told .given .1)) (c .refused .ensures)
+    distance-faulty (at-read .read-line .ensures .same-length) (decided at-read Malformed (told .enum-told .given .1)) (c .refused .ensures)
 
 returns-2 : tie.Need-returns-2
 returns-2 c =
     let told = c .before in
     let at-read = told .before .before .before in
-    placing-faulty (at-read .read-line .ensures .same-length) (decided at-read TagDiffers (told .enum-told2 .given .1)) (c .refused2 .ensures)
+    distance-faulty (at-read .read-line .ensures .same-length) (decided at-read TagDiffers (told .enum-told2 .given .1)) (c .refused2 .ensures)
 
 returns-3 : tie.Need-returns-3
 returns-3 c =
     let told = c .before in
     let at-read = told .before .before .before in
-    placing-faulty (at-read .read-line .ensures .same-length) (decided at-read OutOfRange (told .enum-told3 .given .1)) (c .refused3 .ensures)
+    distance-faulty (at-read .read-line .ensures .same-length) (decided at-read OutOfRange (told .enum-told3 .given .1)) (c .refused3 .ensures)
 
 returns-4 : tie.Need-returns-4
 returns-4 c =
     let told = c .before .before in
     let at-read = told .before .before .before in
     let within = point at-read (told .enum-told4 .given .1) in
-    placing-sound (at-read .read-line .ensures .same-length)
+    distance-sound (at-read .read-line .ensures .same-length)
     (decided at-read Within (told .enum-told4 .given .1) ∙ ap contentOf (within .is))
-    (ap At (c .scaled-squared-distance .ensures .is ∙ within .distance total (centreOf (figures at-read .ball .«scaled_centre»))))
+    (ap Is (c .scaled-squared-distance .ensures .is ∙ within .distance total (centreOf (figures at-read .ball .«scaled_centre»))))
     (within .first)
 
-pub place-line-spec : {M : Type 1} → statement M
-place-line-spec =
+pub distance-of-line-spec : {M : Type 1} → statement M
+distance-of-line-spec =
     tie.close
     (tie.spec
     read-line-requires
