@@ -10,7 +10,7 @@ use mathlib.Core.List.{List, _++_, map}
 use native.Mathlib.Omega.{arith}
 use lib.IntN.{ℤ}
 use lib.ListN.{length, take, drop, length-map}
-use lib.Seq.{take-all}
+use lib.Seq.{take-all, take-append-seam}
 use Rattle.refusal.specs.Number.{buffer-short}
 use Rattle.limits.specs.Limits.{channelLimit}
 use Rattle.lent.specs.Filled.{filled}
@@ -20,6 +20,8 @@ use Rattle.envelope.specs.FigureLaws.{known-within}
 use Rattle.envelope.specs.declared.Figures.{Figures}
 use Rattle.reading.specs.Content.{readingContent, faulty, sound, distanceOf}
 use Rattle.reading.specs.ContentLaws.{sound-accepted}
+use Rattle.reading.specs.Contracts.{DistanceRead}
+use Rattle.reading.specs.declared.Distance.{Distance}
 use Rattle.reading.specs.Verdict.{verdictOf}
 use Rattle.reading.specs.declared.Verdict.{Verdict}
 use Rattle.measured_reading.specs.Measured.{refusedMeasure, measureOf, MeasuredReading, measured, measureAnswer}
@@ -55,10 +57,11 @@ module _ (D : ℕ) (types : Types) (f : Figures) (text : List ℕ) (places : ℕ
         ∙ sym (ap (λ (r : MeasuredReading). r .answer) measures)
         ∙ sym (answer-fits (measured D types f text) places (omega (arith, ap (λ (r : MeasuredReading). length (r .values)) measures, as-many)))
 
-    pub values-filled : (lent₀ source : List ℤ) {lent : List ℤ} → lent ≡ filled 0 (f .n) source lent₀ → take (f .n) source ≡ map reads values
-        → lent ≡ filled 0 (f .n) (measured D types f text .values) lent₀
+    pub values-filled : (lent₀ : List ℤ) {places₀ source lent : List ℤ} {r : Distance} → DistanceRead D types f text places₀ source r
+        → lent ≡ filled 0 (f .n) source lent₀ → lent ≡ filled 0 (f .n) (measured D types f text .values) lent₀
     unfolding filled
-    values-filled lent₀ source filling first =
+    values-filled lent₀ {places₀} read filling =
         filling ∙ ap (λ (l : List ℤ). l ++ drop (f .n) lent₀)
-        (first ∙ sym (take-all (f .n) (map reads values) (omega (arith, as-many)))
+        (ap₂ (λ k (l : List ℤ). take k l) (sym as-many) (read .written values is) ∙ take-append-seam (map reads values) (drop (f .n) places₀)
+        ∙ sym (take-all (f .n) (map reads values) (omega (arith, as-many)))
         ∙ ap (λ (r : MeasuredReading). take (f .n) (r .values)) (sym measures))

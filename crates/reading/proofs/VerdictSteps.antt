@@ -97,11 +97,11 @@ content-line D types f {line} within bytes read count told is =
 -- ---- a line within
 
 -- the reading that the text is, and its values in the first places, as a row
-pub record PointRead (text : List ℕ) (lent : List ℤ) (n : ℕ) : Type 0 where
+pub record PointRead (text : List ℕ) (lent₀ lent : List ℤ) (n : ℕ) : Type 0 where
   pub reading : Reading
   pub is : readingLine n (lineAlone text) ≡ some reading
   pub row : RowAt lent n 0
-  pub first : take n lent ≡ map reads (reading .values)
+  pub written : lent ≡ map reads (reading .values) ++ drop n lent₀
   pub distance : (D : ℕ) (X : ℕ → ℤ) → scaledSquaredDistance D n X (coordinate lent n 0) ≡ scaledSquaredDistance D n X (pointOf (reading .values))
 
 -- a line within has a reading, whose values are within their ranges
@@ -118,7 +118,7 @@ line-within types codes (some reading) e =
 
 module _ {types : Types} {codes text : List ℕ} {lent₀ lent : List ℤ} (read : LineRead types codes text lent₀ lent Within)
     (sound : SoundTypes types) (n : ℕ) (count : length codes ≡ n) (few : n ≤ length lent₀) (most : n ≤ channelLimit) where
-  pub point-read : PointRead text lent n
+  pub point-read : PointRead text lent₀ lent n
   unfolding coordinate scaledSquaredDistance
   point-read =
       record {
@@ -136,9 +136,7 @@ module _ {types : Types} {codes text : List ℕ} {lent₀ lent : List ℤ} (read
                         (in-range types codes values values-count (within .2) k (omega arith)),
                   );
             };
-        first =
-            ap₂ (λ k (l : List ℤ). take k l) (sym count ∙ sym values-count ∙ sym (length-map values reads)) written
-            ∙ take-append-seam (map reads values) rest;
+        written = written ∙ ap (λ k. map reads values ++ drop k lent₀) count;
         distance = λ D X. distance-cong D n {X = X} {Y = X} (λ k l. refl) point-at;
       }
     where

@@ -6,9 +6,9 @@
 --     distance-is, distance-refused         what a text is, by its s or its refusal
 use Prim.Native.Nat.{ℕ}
 use mathlib.Core.Path.{_≡_, refl, sym, ap, _∙_}
-use mathlib.Core.List.{List, map}
+use mathlib.Core.List.{List, _++_, map}
 use lib.IntN.{ℤ}
-use lib.ListN.{length, take}
+use lib.ListN.{length, drop}
 use Rattle.integers.specs.Tests.{impossible}
 use Rattle.refusal.specs.declared.Refusal.{Refusal}
 use Rattle.channel.specs.Channel.{Types}
@@ -26,11 +26,12 @@ abbrev pub distanceAs : ℕ → Figures → Content → Distance
 distanceAs D f (faulty number line) = refusedDistance number line
 distanceAs D f (sound values) = Is (distanceOf D f values)
 
--- the values of a reading stand in the first n of the lent places
+-- the values of a reading stand in the first n of the lent places, and the others are as they were
 pub record DistanceRead (D : ℕ) (types : Types) (f : Figures) (text : List ℕ) (lent₀ lent : List ℤ) (r : Distance) : Type 0 where
   pub is : r ≡ distanceAs D f (readingContent D types f text)
   pub same-length : length lent ≡ length lent₀
-  pub written : (values : List Written) → readingContent D types f text ≡ sound values → take (f .n) lent ≡ map reads values
+  pub written : (values : List Written) → readingContent D types f text ≡ sound values
+      → lent ≡ map reads values ++ drop (f .n) lent₀
 
 module _ {D : ℕ} {types : Types} {f : Figures} {text : List ℕ} {lent₀ lent : List ℤ} {r : Distance} (same-length : length lent ≡ length lent₀) where
   pub distance-faulty : {number line : ℕ} → readingContent D types f text ≡ faulty number line → r ≡ refusedDistance number line
@@ -39,12 +40,12 @@ module _ {D : ℕ} {types : Types} {f : Figures} {text : List ℕ} {lent₀ lent
       record { is = e ∙ ap (distanceAs D f) (sym is); same-length = same-length; written = λ values h. never-sound (sym is ∙ h) }
 
   pub distance-sound : {values : List Written} → readingContent D types f text ≡ sound values → r ≡ Is (distanceOf D f values)
-      → take (f .n) lent ≡ map reads values → DistanceRead D types f text lent₀ lent r
-  distance-sound is e first =
+      → lent ≡ map reads values ++ drop (f .n) lent₀ → DistanceRead D types f text lent₀ lent r
+  distance-sound is e written =
       record {
         is = e ∙ ap (distanceAs D f) (sym is);
         same-length = same-length;
-        written = λ others h. first ∙ ap (map reads) (same-values (sym is ∙ h));
+        written = λ others h. written ∙ ap (λ vs. map reads vs ++ drop (f .n) lent₀) (same-values (sym is ∙ h));
       }
 
 -- what the text is, by its s or its refusal

@@ -1,18 +1,17 @@
 -- s of the text or its refusal are those of what the text is. A refusal stays, and the values are as they were lent; of a reading the values stand in the
 -- first n places of the array, from where they go to the lent ones if these are n or more.
-use Prim.Native.Nat.{ℕ, _≤_}
+use Prim.Native.Nat.{ℕ}
 use mathlib.Core.Path.{_≡_, refl, sym, ap, _∙_}
-use mathlib.Core.List.{List, map}
+use mathlib.Core.List.{List}
 use native.Mathlib.Omega.{arith}
 use borrow.Author.Needs.{needs}
 use lib.ListN.{length}
 use denote.Ref.{now}
-use Rattle.limits.specs.Limits.{total, channelLimit}
+use Rattle.limits.specs.Limits.{total}
 use Rattle.lent.specs.ContractLaws.{unwritten, rewritten}
 use Rattle.channel.specs.Channel.{channelTypes}
-use Rattle.value.specs.Value.{Written, reads}
+use Rattle.value.specs.Value.{Written}
 use Rattle.envelope.specs.Contracts.{lentFigures}
-use Rattle.envelope.specs.FigureLaws.{known-within}
 use Rattle.envelope.specs.declared.Figures.{Figures}
 use Rattle.reading.specs.Content.{readingContent, sound, distanceOf}
 use Rattle.reading.specs.ContentLaws.{faulty-number}
@@ -81,8 +80,7 @@ returns-2 c =
       answered total channelTypes (figures at) (text at) (length lent) (is .1) (omega arith) (c .verdict-of .ensures) (is .2),
       rewritten (ap verdictNumber (c .verdict-of .ensures) ∙ accepted-number (at-arm .before .read .given .0 .0) M)
           (start-of at .args .scalars .n) _ lent refl
-          (values-filled total channelTypes (figures at) (text at) 0 (is .1) lent (at .distance-of-text .last .1 .1 .1 .1 .1 .1 .1 .1 .0) (at-fill .fill-table .ensures)
-          (at .distance-of-text .ensures .written (is .0) (is .1))),
+          (values-filled total channelTypes (figures at) (text at) 0 (is .1) lent (at .distance-of-text .ensures) (at-fill .fill-table .ensures)),
     )
 
 returns-3 : tie.Need-returns-3

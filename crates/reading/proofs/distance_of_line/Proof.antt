@@ -64,7 +64,7 @@ decided c = content-line total channelTypes (figures c) (start-of c .pre .0) (st
 
 -- the places of a line within
 point : (c : tie.After-read-line) → c .read-line .result ≡ Within
-    → PointRead (now (start-of c .args .line)) (c .read-line .last .1 .1 .1 .0) (figures c .n)
+    → PointRead (now (start-of c .args .line)) (now (start-of c .args .places)) (c .read-line .last .1 .1 .1 .0) (figures c .n)
 point c is =
     let most = limits (start-of c) .channels in
     point-read (rw is at (c .read-line .ensures)) house-sound (figures c .n) (count c) (omega (arith, most, start-of c .pre .1 .1)) most
@@ -101,7 +101,7 @@ returns-4 c =
     distance-sound (at-read .read-line .ensures .same-length)
     (decided at-read Within (told .enum-told4 .given .1) ∙ ap contentOf (within .is))
     (ap Is (c .scaled-squared-distance .ensures .is ∙ within .distance total (centreOf (figures at-read .ball .«scaled_centre»))))
-    (within .first)
+    (within .written)
 
 pub distance-of-line-spec : {M : Type 1} → statement M
 distance-of-line-spec =
