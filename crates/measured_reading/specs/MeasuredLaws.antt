@@ -7,7 +7,7 @@
 --     measured-refused                  a text that is refused has s 0 and no values
 --     answer-fits, answer-short         the answer where as many places are lent as there are values, and where fewer are
 --     answer-none                       the answer where there is nothing to hand out
---     answer-refused                    a refusal of the text comes before 13
+--     refusal-before-room               a refusal of the text comes before 13
 --     answer-accepted                   an answer of the number 0 is an accepted reading's, and its n values have places
 use Prim.Native.Nat.{ℕ, _+_, _≤_, _<_, zero-le}
 use mathlib.Core.Path.{_≡_, refl, sym, _∙_, ap}
@@ -115,9 +115,9 @@ pub answer-none : (k l places : ℕ) → measureAnswer (notMeasured k l) places 
 answer-none k l places = answer-fits (notMeasured k l) places zero-le
 
 module _ (D : ℕ) (types : Types) (f : Figures) (text : List ℕ) (places : ℕ) where
-  pub answer-refused : (r : Refusal) → judged D types f text ≡ Refused r
+  pub refusal-before-room : (r : Refusal) → judged D types f text ≡ Refused r
       → measureAnswer (measured D types f text) places ≡ refusedMeasure (r .number) (r .line)
-  answer-refused r is =
+  refusal-before-room r is =
       ap (λ (m : MeasuredReading). measureAnswer m places) (measured-refused D types f text r is) ∙ answer-none (r .number) (r .line) places
 
   pub answer-accepted : verdictNumber (measureAnswer (measured D types f text) places .verdict) ≡ 0

@@ -26,7 +26,7 @@ use Rattle.reading.specs.Verdict.{judged, refusedVerdict, verdictNumber}
 use Rattle.reading.specs.declared.Verdict.{Verdict}
 use Rattle.reading.specs.declared.Verdict.the-variants.{Alarm, Quiet, Refused}
 use Rattle.measured_reading.specs.Measured.{MeasuredReading, measureAnswer, measured, notMeasured, refusedMeasure}
-use Rattle.measured_reading.specs.MeasuredLaws.{answer-accepted, answer-fits, answer-none, answer-refused, answer-short, measured-accepted, measured-judged, measured-refused}
+use Rattle.measured_reading.specs.MeasuredLaws.{answer-accepted, answer-fits, answer-none, answer-short, measured-accepted, measured-judged, measured-refused, refusal-before-room}
 use Rattle.measured_reading.specs.declared.Measured.{Measured}
 use Rattle.export_figures.specs.Contracts.{endingKnown, figuresGiven}
 use Rattle.export_figures.specs.declared.FiguresGiven.{FiguresGiven}
@@ -150,7 +150,7 @@ measures-refused f text places =
     λ zero-number. measured-accepted total channelTypes f text (ap verdictNumber same ∙ zero-number) .count in
     record {
       same-verdict = same;
-      refused-first = answer-refused total channelTypes f text places;
+      refused-first = refusal-before-room total channelTypes f text places;
       short-13 = λ zero-number short. answer-short (measured total channelTypes f text) places (omega (arith, count zero-number));
       else-measured = λ zero-number room. answer-fits (measured total channelTypes f text) places (omega (arith, count zero-number));
     }
