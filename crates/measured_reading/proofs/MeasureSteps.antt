@@ -1,4 +1,4 @@
--- What is measured of a text, from what the code is told of it.
+-- What is measured of a text, from its s, or its refusal.
 --     few-places           each channel of a reading has a place
 --     answered-short       a reading for whose values too few places are lent
 --     answered             one for whose values there are places

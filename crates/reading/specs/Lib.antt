@@ -1,4 +1,4 @@
--- Verdicts on readings, in reading order: what a text is as a reading, its verdict, then the laws of both; what the code is told.
+-- Verdicts on readings, in reading order: what a text is as a reading, its verdict, then the laws of both; s of a text, or its refusal.
 pub mod Content
 pub mod ContentLaws
 pub mod Verdict
