@@ -363,7 +363,7 @@ pub enum Verdict {
 #[repr(C)]
 #[derive(Clone, Copy, Debug, PartialEq, Eq, Hash)]
 pub struct EnvelopeAnswer {
-    /// 0 where accepted, else the refusal's number; then every figure below is 0.
+    /// 0 where accepted, else the refusal's number; then every figure but the line is 0.
     pub number: u32,
     /// The line at fault, 0 where none is.
     pub line: u32,
@@ -381,7 +381,7 @@ pub struct EnvelopeAnswer {
 #[repr(C)]
 #[derive(Clone, Copy, Debug, PartialEq, Eq, Hash)]
 pub struct CheckAnswer {
-    /// 0 where accepted, else the refusal's number; then every figure below is 0.
+    /// 0 where accepted, else the refusal's number; then every figure but the line is 0.
     pub number: u32,
     /// The line at fault, 0 where none is.
     pub line: u32,
@@ -447,7 +447,7 @@ pub struct FiguresGiven {
 #[repr(C)]
 #[derive(Clone, Copy, Debug, PartialEq, Eq, Hash)]
 pub struct VerdictAnswer {
-    /// 0 where the reading is accepted, else the refusal's number; then both figures below are 0.
+    /// 0 where the reading is accepted, else the refusal's number; then the verdict and the excess are 0.
     pub number: u32,
     /// The line at fault, 0 where none is.
     pub line: u32,
