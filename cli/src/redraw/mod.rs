@@ -55,7 +55,7 @@ fn redraw_folder(path: &OsStr, report: &mut Report) -> Result<Result<(), Failure
         Err(error) => return Ok(Err(Failure::of_file(path, &error))),
     };
     drawn.conclude(folder.flush());
-    // Whoever reads what is told may take his time: the lock is not kept meanwhile.
+    // Whoever reads what is told may be slow: the lock is not kept meanwhile.
     drop(folder);
     report.add(path, &names.references, &drawn)?;
     if names.waiting > 0 {
