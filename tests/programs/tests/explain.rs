@@ -91,7 +91,8 @@ fn assert_line(
     let verdict = match verdict {
         Ok(verdict) => verdict,
         Err(refusal) => {
-            assert!(cells[3].contains(&refusal.number.to_string()), "{line}");
+            let start = format!("refused by {}: ", refusal.number);
+            assert!(cells[3].starts_with(&start), "{line}");
             return word;
         }
     };

@@ -249,7 +249,7 @@ fn wait_for(holds: impl Fn() -> bool) {
 
 #[test]
 fn starts_at_the_same_time_build_once() {
-    let slow = PROVES.replace("cat\n", "cat; sleep 0.8\n");
+    let slow = PROVES.replace("cat\n", "cat; sleep 2\n");
     let repository = Repository::new(&slow, BUILDS);
     let children = [0; 4].map(|_| start(&repository));
     let mut waited = 0;

@@ -331,14 +331,14 @@ fn two_runs_at_once_draw_each_record_once() {
         .iter()
         .map(|ended| ended.text().matches("drawn ").count())
         .sum();
-    // The last line of each run that was not turned away says it once more.
+    // In the last line of a run a comma stands behind the word.
     let told = ends.iter().filter(|ended| ended.status == 0).count();
     assert!(told >= 1);
     assert_eq!(drawn, 100);
     assert_eq!(other_names(&folder), [""; 0]);
 }
 
-/// What other runs left is counted and stays; also what an earlier version of the command left.
+/// What other runs left is counted and stays, a folder of such a name too.
 #[test]
 fn leftovers_of_other_runs_stay_and_are_told() {
     let folder = Folder::new();
@@ -468,5 +468,6 @@ fn the_first_refused_texts_are_told_in_words() {
             .messages
             .ends_with("envelope: refused texts besides: 5\n")
     );
-    assert!(ended.messages.lines().count() >= 21, "{}", ended.messages);
+    // A reason and a hint of each, and the last line.
+    assert_eq!(ended.messages.lines().count(), 41, "{}", ended.messages);
 }
