@@ -174,7 +174,8 @@ fn an_unreadable_file_is_named() {
         let told = |file: &PathBuf, mut command: Command, teller: &str, status: i32| {
             set_mode(file, 0o000);
             run_without_privileges(&mut command);
-            let line = format!("{teller}: '{}': Permission denied", file.display());
+            let shown = quoted(file.as_os_str().as_bytes());
+            let line = format!("{teller}: {shown}: Permission denied");
             end(&mut command, b"").assert_told(&line, status);
             set_mode(file, 0o644);
         };
