@@ -1,4 +1,4 @@
-//! `judge --explain`: a line for each reading that a shift lead reads at a glance, and the counts.
+//! `judge --explain`: a line for each reading in words and units, and the counts.
 
 use crate::columns::{Side, aligned};
 use crate::distances::{farthest_channel, share_above, share_below};
