@@ -2,7 +2,10 @@
 
 use crate::failure::Failure;
 use crate::texts::Text;
-use cundarivo::{CHANNELS, Envelope, ROWS, Refusal};
+use cundarivo::{CHANNELS, Envelope, Figures, ROWS, Refusal};
+
+/// The refusal of an empty or too long text.
+pub const NO_TEXT: u32 = 1;
 
 /// Which text of a command.
 #[derive(Clone, Copy, Debug, PartialEq, Eq)]
@@ -96,16 +99,17 @@ impl<'t> Reference<'t> {
         })
     }
 
-    /// Whether the readings together are a text. What is asked of each of them by itself is no part of it.
-    pub fn readings(&self, text: &'t Text) -> Result<(), Refused<'t>> {
-        match text.bytes.len() {
-            1..=65_536 => Ok(()),
-            _ => Err(Refused {
+    /// Whether the readings together are a text: judged as one reading they are refused by 1 where they are
+    /// none. What is asked of each of them by itself is no part of it.
+    pub fn readings(&self, figures: &Figures, text: &'t Text) -> Result<(), Refused<'t>> {
+        match cundarivo::judge(figures, &text.bytes) {
+            Err(refusal) if refusal.number == NO_TEXT => Err(Refused {
                 kind: Kind::Readings,
                 text,
-                refusal: Refusal { number: 1, line: 0 },
+                refusal,
                 codes: self.codes.clone(),
             }),
+            _ => Ok(()),
         }
     }
 }
@@ -116,8 +120,7 @@ pub fn require_answer(refused: &Refused<'_>, output: &[u8]) -> Result<(), Failur
         true => Ok(()),
         false => Err(Failure::contradiction(&format!(
             "{} is refused by {}, and the program answers otherwise",
-            refused.text.source.shown(),
-            refused.refusal.number
+            refused.text.told, refused.refusal.number
         ))),
     }
 }

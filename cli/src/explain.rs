@@ -4,7 +4,8 @@ use crate::columns::{Side, aligned};
 use crate::distances::{farthest_channel, share_above, share_below};
 use crate::judged::Reading;
 use crate::types;
-use crate::{shown, units, words};
+use crate::words::{self, LABEL_LIMIT};
+use crate::{shown, units};
 use cundarivo::{Figures, Measured, TOTAL, Verdict};
 
 const HEADING: [&str; 5] = ["line", "label", "verdict", "of radius", "most in"];
@@ -16,9 +17,6 @@ const SIDES: [Side; 6] = [
     Side::Left,
     Side::Left,
 ];
-
-/// The bytes of a label: no more of a first field that is none are shown.
-const LABEL_BYTES: usize = 12;
 
 pub fn explained(figures: &Figures, readings: &[Reading<'_>]) -> String {
     let mut lines = vec![HEADING.map(str::to_string).to_vec()];
@@ -71,8 +69,8 @@ fn share(measured: &Measured, radius: u64) -> String {
 fn label(field: &[u8]) -> String {
     match field.len() {
         0 => "''".to_string(),
-        1..=LABEL_BYTES => shown::escaped(field),
-        _ => shown::escaped(&field[..LABEL_BYTES]) + "...",
+        1..=LABEL_LIMIT => shown::escaped(field),
+        _ => shown::escaped(&field[..LABEL_LIMIT]) + "...",
     }
 }
 

@@ -42,9 +42,16 @@ use status::Status;
 use std::ffi::OsString;
 use std::process::ExitCode;
 
+const _: () = assert!(
+    cfg!(target_feature = "crt-static"),
+    "build it in the folder cli, whose .cargo/config.toml has it linked statically"
+);
+
 fn main() -> ExitCode {
     std::panic::set_hook(Box::new(|fault| {
-        failure::tell(&format!("a fault of this program: {fault}").replace('\n', " "));
+        let place = fault.location().map(ToString::to_string);
+        let place = place.unwrap_or_default();
+        failure::tell(&format!("a fault of this program, at {place}"));
         std::process::exit(i32::from(Status::Failed.code()));
     }));
     system::let_large_writes_fail();

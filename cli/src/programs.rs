@@ -53,7 +53,7 @@ pub fn judge(words: &[OsString]) -> Result<Status, Failure> {
     let answer = programs::judge(&reference.bytes, &record.bytes, &readings.bytes);
     let accepted = Reference::read(reference).and_then(|read| {
         let envelope = read.record(record)?;
-        read.readings(readings)?;
+        read.readings(&envelope.figures, readings)?;
         Ok(envelope.figures)
     });
     let figures = match accepted {

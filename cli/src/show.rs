@@ -118,10 +118,10 @@ fn origin(shown: &Shown<'_>) -> String {
     let Reference { text, m, n, .. } = shown.reference;
     let envelope = match shown.record {
         None => "drawn from it now, with a budget of 10,000 moves".to_string(),
-        Some(record) => format!("record {}, which agrees with it", record.source.shown()),
+        Some(record) => format!("record {}, which agrees with it", record.told),
     };
     let lines = [
-        ("reference text", text.source.shown()),
+        ("reference text", text.told.clone()),
         ("rows", m.to_string()),
         ("channels", n.to_string()),
         ("envelope", envelope),
@@ -212,7 +212,7 @@ mod tests {
 
     fn text(bytes: &[u8]) -> Text {
         Text {
-            source: Source::Input,
+            told: String::new(),
             bytes: bytes.to_vec(),
         }
     }

@@ -36,10 +36,10 @@ impl Source {
     }
 }
 
-/// A text and where it came from.
+/// A text and its source as it is told.
 #[derive(Debug)]
 pub struct Text {
-    pub source: Source,
+    pub told: String,
     pub bytes: Vec<u8>,
 }
 
@@ -49,9 +49,10 @@ impl Text {
             Source::Input => read_input(),
             Source::File(name) => File::open(name).and_then(|file| read_start(&file, READ_LIMIT)),
         };
+        let told = source.shown();
         match bytes {
-            Ok(bytes) => Ok(Text { source, bytes }),
-            Err(error) => Err(Failure::of(&source.shown(), &error)),
+            Ok(bytes) => Ok(Text { told, bytes }),
+            Err(error) => Err(Failure::of(&told, &error)),
         }
     }
 

@@ -19,6 +19,8 @@ mod record;
 mod reference;
 mod value;
 
+pub use label::LIMIT as LABEL_LIMIT;
+
 use crate::examined::{Kind, Refused};
 use crate::failure;
 use crate::judged::Reading;
@@ -60,7 +62,7 @@ pub fn tell_refused_readings(text: &Text, readings: &[Reading<'_>], codes: &[u8]
         1 => "1 more reading is refused".to_string(),
         more => format!("{more} more readings are refused"),
     };
-    failure::tell(&format!("{}: {more}", text.source.shown()));
+    failure::tell(&format!("{}: {more}", text.told));
 }
 
 /// Number, reason and hint of a refused reading, on one line. `line` is the reading with its byte 10 where
@@ -75,7 +77,7 @@ fn refused(number: u32) -> String {
 }
 
 fn tell(text: &Text, refusal: Refusal, hint: &str) {
-    let name = text.source.shown();
+    let name = &text.told;
     let line = match refusal.line {
         0 => String::new(),
         line => format!(", line {line}"),

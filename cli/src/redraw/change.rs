@@ -1,6 +1,6 @@
 //! The figures of a new record beside those of the one that it replaces.
 
-use crate::examined::Reference;
+use crate::examined::{NO_TEXT, Reference};
 use crate::failure::Failure;
 use crate::system::FileStatus;
 use crate::types::{self, Type};
@@ -10,7 +10,6 @@ use cundarivo::TOTAL;
 /// A line that makes the first three of a record in form a record in form.
 const WEIGHT_LINE: &[u8] = b"W,1,65536\n";
 const NOT_IN_FORM: u32 = 11;
-const NO_TEXT: u32 = 1;
 
 /// What was there under a record's name.
 pub struct Old {

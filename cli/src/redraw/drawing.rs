@@ -7,11 +7,10 @@ use super::waiting::{Waiting, WaitingNames};
 use crate::examined::{Reference, require_answer};
 use crate::failure::{self, Failure};
 use crate::shown;
-use crate::texts::{Source, Text, read_start};
+use crate::texts::{Text, read_start};
 use cundarivo::{Refusal, programs};
-use std::ffi::{CStr, CString, OsStr};
+use std::ffi::{CStr, CString};
 use std::io;
-use std::os::unix::ffi::OsStrExt;
 
 /// Where the texts of a run are, and where their records go.
 pub struct Place<'f> {
@@ -40,7 +39,7 @@ impl<'f> Place<'f> {
     pub fn draw(&self, name: &CStr) -> Result<Drawing<'f>, String> {
         let bytes = text::read(self.folder, name).map_err(|error| failure::reason(&error))?;
         let text = Text {
-            source: self.source(name),
+            told: self.shown(name),
             bytes,
         };
         let answer = programs::draw(&text.bytes);
@@ -94,11 +93,13 @@ impl<'f> Place<'f> {
         }))
     }
 
-    fn source(&self, name: &CStr) -> Source {
-        let folder = self.told.map(|folder| [folder, b"/"].concat());
-        let mut path = folder.unwrap_or_default();
-        path.extend_from_slice(name.to_bytes());
-        Source::File(OsStr::from_bytes(&path).to_owned())
+    /// A file's name as it is told, with that of its folder where there are several.
+    fn shown(&self, name: &CStr) -> String {
+        let name = shown::quoted(name.to_bytes());
+        match self.told {
+            Some(folder) => format!("{name} in {}", shown::quoted(folder)),
+            None => name,
+        }
     }
 }
 

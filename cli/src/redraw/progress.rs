@@ -19,7 +19,8 @@ pub struct Progress {
 
 struct State {
     done: usize,
-    shown: Instant,
+    /// When the bar was shown last.
+    shown: Option<Instant>,
     /// The columns of the bar that is on the terminal.
     width: usize,
 }
@@ -31,7 +32,7 @@ impl Progress {
             bar: io::stderr().is_terminal(),
             state: Mutex::new(State {
                 done: 0,
-                shown: Instant::now(),
+                shown: None,
                 width: 0,
             }),
         }
@@ -42,8 +43,8 @@ impl Progress {
         let mut state = self.state.lock().unwrap_or_else(PoisonError::into_inner);
         state.done += 1;
         if self.bar {
-            if state.shown.elapsed() >= PAUSE {
-                state.shown = Instant::now();
+            if state.shown.is_none_or(|shown| shown.elapsed() >= PAUSE) {
+                state.shown = Some(Instant::now());
                 let line = bar(state.done, self.all);
                 state.width = line.len();
                 write(&format!("\r{line}"));

@@ -32,8 +32,9 @@ pub fn read(folder: &Folder, name: &CStr) -> io::Result<Vec<u8>> {
 /// How long a text's times take to settle. There is no answer where they count in seconds and it was changed
 /// since the folder was opened: whoever changes many would hold the run up for seconds each.
 fn time_to_wait(version: &Version, opened: SystemTime, now: SystemTime) -> Option<Duration> {
-    let (seconds, nanoseconds) = version.changed.max(version.modified);
-    // A time before 1970 or after this moment needs no waiting: a change sets another one.
+    // The time of a change of status, which every write sets too, cannot be set by anybody.
+    let (seconds, nanoseconds) = version.changed;
+    // One before 1970 or after this moment needs no waiting: a change sets another one.
     let Ok(seconds) = u64::try_from(seconds) else {
         return Some(Duration::ZERO);
     };
@@ -41,8 +42,7 @@ fn time_to_wait(version: &Version, opened: SystemTime, now: SystemTime) -> Optio
     let Some(age) = last.and_then(|last| now.duration_since(last).ok()) else {
         return Some(Duration::ZERO);
     };
-    // The time of a change of status cannot be set.
-    if version.changed.1 != 0 {
+    if nanoseconds != 0 {
         return Some(TIME_TO_SETTLE.saturating_sub(age));
     }
     let open = now.duration_since(opened).unwrap_or_default();
@@ -77,6 +77,8 @@ mod tests {
         assert_eq!(at(500_000_001), zero);
         assert_eq!(wait((-1, 5), (-1, 5), 0), zero);
         assert_eq!(wait((7, 5), (i64::MAX, 0), 0), zero);
+        let future = wait((1_000, 500_000_000), (i64::MAX, 0), 0);
+        assert_eq!(future, Some(TIME_TO_SETTLE));
     }
 
     #[test]

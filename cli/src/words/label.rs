@@ -3,7 +3,8 @@
 use super::{field, line};
 
 const FORM: &str = "a label is 1 to 12 bytes of A-Z, 0-9 and hyphen";
-const LIMIT: usize = 12;
+/// The most bytes of a label.
+pub const LIMIT: usize = 12;
 
 /// Whether the library takes these bytes as a label.
 pub fn accepted(label: &[u8]) -> bool {

@@ -6,7 +6,7 @@ use programs::process::{Ended, command, end, spawn};
 use programs::repository::{BUILDS, PROVES, Repository, SOURCES, set_mode};
 use programs::system::{kill_group, run_without_privileges};
 use std::fs::{self, File};
-use std::os::unix::fs::symlink;
+use std::os::unix::fs::{chown, symlink};
 use std::os::unix::process::CommandExt;
 use std::path::Path;
 use std::process::{Child, Stdio};
@@ -326,6 +326,23 @@ fn what_is_not_proved_and_built_does_not_run() {
         }
         repository.write_executable("path/rt", PROVES);
         repository.write_executable("path/cargo", BUILDS);
+        repository.assert_runs();
+    }
+}
+
+/// Only a privileged user can give a file to somebody else.
+#[test]
+fn settings_of_a_stranger_in_a_folder_above_are_not_built_with() {
+    for name in [".cargo/config.toml", ".cargo/config", "rust-toolchain.toml"] {
+        let repository = Repository::new(PROVES, BUILDS);
+        let file = repository.folder.write(name, "");
+        if chown(&file, Some(65_534), None).is_err() {
+            println!("left out: no file can be given to another user");
+            return;
+        }
+        repository.run().assert_failed("are somebody else's");
+        assert!(!repository.folder.has("runs"), "{name}");
+        chown(&file, Some(0), None).expect("a file of ours");
         repository.assert_runs();
     }
 }

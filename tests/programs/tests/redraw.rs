@@ -266,6 +266,7 @@ fn several_folders_are_redrawn_in_their_order() {
     for words in [
         "envelope: 'none': No such file or directory\n",
         "envelope: there is no *.ref in the folder 'empty'\n",
+        "envelope: 'c.ref' in 'y\\x20y', line 1: refused by 2: ",
     ] {
         assert!(ended.messages.contains(words), "{}", ended.messages);
     }
@@ -274,6 +275,18 @@ fn several_folders_are_redrawn_in_their_order() {
         b"",
     );
     assert_counts(&ended, [0, 2, 1, 0]);
+}
+
+/// Of a folder's long name only the start is told, of the file's the whole.
+#[test]
+fn a_refused_file_is_told_by_its_name_in_a_folder_of_a_long_name() {
+    let (folder, long) = (Folder::new(), "f".repeat(200));
+    folder.write(format!("{long}/x.ref"), "REF,0\n");
+    folder.write("y/x.ref", REFERENCE);
+    let ended = end(command_of(&[&*long, "y"]).current_dir(folder.path()), b"");
+    assert_counts(&ended, [1, 0, 1, 0]);
+    let told = format!("envelope: 'x.ref' in '{}'..., line 1: ", "f".repeat(60));
+    assert!(ended.messages.contains(&told), "{}", ended.messages);
 }
 
 #[test]

