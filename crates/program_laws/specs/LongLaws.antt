@@ -27,7 +27,8 @@ use Rattle.reference_rows.specs.Rows.{Content, faulty, sound}
 use Rattle.reference.specs.Reference.{content}
 use Rattle.reference.specs.RefusalLaws.{refuses-long}
 use Rattle.envelope.specs.declared.Figures.{Figures}
-use Rattle.record_read.specs.Contracts.{notRead, givenWithin, recordRead}
+use Rattle.record_read.specs.Contracts.{notRead, recordRead}
+use Rattle.typed_rows.specs.Given.{givenWithin}
 use Rattle.record_read.specs.ReadLaws.{read-limits, read-length}
 use Rattle.record_read.specs.declared.EnvelopeRead.{EnvelopeRead}
 use Rattle.program_lines.specs.Lines.{printRefusal, printAccepted}

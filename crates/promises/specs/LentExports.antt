@@ -42,7 +42,8 @@ use Rattle.envelope.specs.declared.Envelope.{Envelope}
 use Rattle.record_form.specs.WeightsLaws.{weights-length}
 use Rattle.record_print.specs.Printed.{recordText}
 use Rattle.record_read.specs.Contracts.{recordRead, statedBall}
-use Rattle.record_read.specs.ReadLaws.{accepted-read, given-within, read-zero}
+use Rattle.record_read.specs.ReadLaws.{accepted-read, read-zero}
+use Rattle.typed_rows.specs.GivenLaws.{given-within}
 use Rattle.panel_steps.specs.Panel.{panelShown}
 use Rattle.panel_steps.specs.declared.PanelShown.{PanelShown}
 use Rattle.export_figures.specs.Contracts.{endingKnown, figuresGiven}

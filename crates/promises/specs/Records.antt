@@ -33,7 +33,8 @@ use Rattle.record_form.specs.FaultLaws.{AfterCentre, AfterHeading, AfterResult,
 use Rattle.record_form.specs.Record.{Record, Within, faulty, printRecord, sound}
 use Rattle.record_form.specs.RecordLaws.{form-printed, printed-form}
 use Rattle.record_form.specs.Weights.{weightsOf}
-use Rattle.record_read.specs.Contracts.{ballOfRecord, givenWithin, notRead, recordRead, statedEnvelope}
+use Rattle.record_read.specs.Contracts.{ballOfRecord, notRead, recordRead, statedEnvelope}
+use Rattle.typed_rows.specs.Given.{givenWithin}
 use Rattle.record_read.specs.ReadLaws.{accepted-read, accepting, not-11-printed, printed-not-11, read-accepted, read-faulty}
 use Rattle.record_read.specs.declared.EnvelopeRead.{EnvelopeRead}
 use Rattle.promises.specs.House.{textForm}

@@ -37,7 +37,8 @@ use Rattle.reading.specs.VerdictLaws.{range-after-tags, tags-before-range}
 use Rattle.record_form.specs.Record.{Record, faulty, sound}
 use Rattle.record_form.specs.Weights.{weightsOf}
 use Rattle.record_print.specs.Printed.{recordText}
-use Rattle.record_read.specs.Contracts.{ballOfRecord, givenWithin, notRead, recordRead}
+use Rattle.record_read.specs.Contracts.{ballOfRecord, notRead, recordRead}
+use Rattle.typed_rows.specs.Given.{givenWithin}
 use Rattle.record_read.specs.ReadLaws.{read-faulty, read-length, read-limits, read-sound}
 use Rattle.record_write.specs.Contracts.{recordWritten}
 use Rattle.record_write.specs.WriteLaws.{Writing, outside-figures, outside-rows, refused-writing, short-writing, writing-written}

@@ -52,11 +52,13 @@ use Rattle.record_form.specs.Weights.{weightsOf, listed}
 use Rattle.record_form.specs.WeightsLaws.{ShortWeight, placed-listed, listed-placed, listed-within, listed-some}
 use Rattle.record_print.specs.Printed.{recordOf, recordText}
 use Rattle.ball.specs.Ball.{filledBall}
-use Rattle.record_read.specs.Contracts.{statedBall, ballOfRecord, statedEnvelope, givenWithin, recordRead}
+use Rattle.record_read.specs.Contracts.{statedBall, ballOfRecord, statedEnvelope, recordRead}
+use Rattle.typed_rows.specs.Given.{givenWithin}
 use Rattle.record_write.specs.Contracts.{recordWritten}
 use Rattle.lent.specs.Contracts.{notWritten, written}
 use Rattle.record_read.specs.declared.EnvelopeRead.{EnvelopeRead}
-use Rattle.record_read.specs.ReadLaws.{given-within, Accepting, accepting, accepted-read, read-accepted}
+use Rattle.record_read.specs.ReadLaws.{Accepting, accepting, accepted-read, read-accepted}
+use Rattle.typed_rows.specs.GivenLaws.{given-within}
 use Rattle.record_write.specs.WriteLaws.{Writing, writing-written, writing-refused, refused-writing}
 
 -- ---- the ball that a record states

@@ -41,7 +41,8 @@ use Rattle.record_form.specs.Contracts.{statedForm}
 use Rattle.record_form.specs.declared.form.Stated.{Stated}
 use Rattle.record_read.specs.declared.EnvelopeRead.{EnvelopeRead}
 use Rattle.ball.specs.Ball.{filledBall}
-use Rattle.record_read.specs.Contracts.{notRead, statedBall, givenWithin, ballAnswer, statedAnswer, recordRead}
+use Rattle.record_read.specs.Contracts.{notRead, statedBall, ballAnswer, statedAnswer, recordRead}
+use Rattle.typed_rows.specs.Given.{givenWithin}
 use Rattle.record_read.specs.ReadLaws.{accepting, read-faulty, read-sound}
 use Rattle.record_read.specs.HeldLaws.{Holding, held-answer}
 

@@ -4,7 +4,6 @@
 --     ballOfRecord r                                   the ball that a record states, X in its eight places
 --     statedEnvelope limit r ball                      the envelope that a record states, with this ball
 --     agreedBall D limit rows m codes stated ws ball   this ball, if there is one, and it agrees with rows and codes
---     givenWithin limit types rows m n codes           the rows and the n codes are within their limits
 --     recordRead D limit types rows m n codes text     what reading answers
 --     ballAnswer D limit rows m codes stated ball      the same for what the reader of the form hands over, if there is this ball
 --     statedAnswer D limit rows m codes stated         the same for what it hands over
@@ -14,7 +13,6 @@ use mathlib.Core.Path.{_≡_}
 use mathlib.Core.Bool.{Bool, true, cond, _&&_}
 use mathlib.Core.List.{List}
 use mathlib.Core.Option.{Option, none, some}
-use lib.Dec.{leb}
 use lib.IntN.{ℤ, pos, negsuc}
 use lib.ListN.{length, take}
 use Rattle.lists.specs.Padded.{padded}
@@ -27,7 +25,8 @@ use Rattle.limits.specs.Limits.{channelLimit, rowLimit}
 use Rattle.geometry.specs.Places.{centreList, centreOf}
 use Rattle.ball.specs.declared.Ball.{Ball}
 use Rattle.text.specs.Parts.{textWithin, same}
-use Rattle.channel.specs.Channel.{Types, codesKnown}
+use Rattle.channel.specs.Channel.{Types}
+use Rattle.typed_rows.specs.Given.{givenWithin}
 use Rattle.envelope.specs.Figures.{figuresOf, envelopeOf, emptyEnvelope}
 use Rattle.agreement.specs.Agreement.{agrees}
 use Rattle.envelope.specs.declared.Envelope.{Envelope}
@@ -58,9 +57,6 @@ statedEnvelope limit r ball =
 abbrev pub agreedBall : ℕ → ℕ → List ℤ → ℕ → List ℕ → List ℕ → List ℕ → Option Ball → Option Ball
 agreedBall D limit rows m codes stated ws none = none
 agreedBall D limit rows m codes stated ws (some ball) = cond (same codes stated && agrees D limit rows m (length codes) ball ws) (some ball) none
-
-abbrev pub givenWithin : ℕ → Types → List ℤ → ℕ → ℕ → List ℕ → Bool
-givenWithin limit types rows m n codes = rowsWithin limit rows m n && (leb n (length codes) && codesKnown types (take n codes))
 
 -- 8, 1, 11, 12
 unfoldable pub recordRead : ℕ → ℕ → Types → List ℤ → ℕ → ℕ → List ℕ → List ℕ → EnvelopeRead

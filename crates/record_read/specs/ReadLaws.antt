@@ -2,7 +2,6 @@
 --     accepting e                    the answer with this envelope
 --     agreed-ball, ball-agreed       a ball that agrees with rows and codes, test by test
 --     soundAnswer D limit ..         what a record in form answers
---     given-within                   what a record is read against is within its limits, as facts
 --     read-limits, read-length       8 and 1
 --     read-faulty, read-sound        11, and what is answered past it
 --     Accepting                      what an accepted record is: in form, with the codes given, and in agreement with the rows
@@ -38,7 +37,8 @@ use Rattle.envelope.specs.declared.Envelope.{Envelope}
 use Rattle.record_form.specs.Record.{Record, Form, faulty, sound, form, printRecord, Within}
 use Rattle.record_form.specs.RecordLaws.{each-sound, form-printed, printed-form}
 use Rattle.record_form.specs.Weights.{weightsOf}
-use Rattle.record_read.specs.Contracts.{notRead, ballOfRecord, statedEnvelope, agreedBall, givenWithin, recordRead}
+use Rattle.record_read.specs.Contracts.{notRead, ballOfRecord, statedEnvelope, agreedBall, recordRead}
+use Rattle.typed_rows.specs.Given.{givenWithin}
 use Rattle.record_read.specs.declared.EnvelopeRead.{EnvelopeRead}
 
 abbrev pub accepting : Envelope → EnvelopeRead
@@ -64,14 +64,6 @@ module _ (D limit : ℕ) (rows : List ℤ) (m : ℕ) (codes stated ws : List ℕ
       ∙ ap (λ (t : Bool). cond t (some ball) none) (ap₂ _&&_ (ap (same codes) (sym alike) ∙ same-refl codes) agreeing)
 
 -- ---- the order
-
-pub given-within : (limit : ℕ) (types : Types) (rows : List ℤ) (m n : ℕ) (codes : List ℕ) → givenWithin limit types rows m n codes ≡ true
-    → (rowsWithin limit rows m n ≡ true) × (n ≤ length codes)
-given-within limit types rows m n codes h =
-    let places = leb n (length codes) in
-    let known = codesKnown types (take n codes) in
-    let parts = both (rowsWithin limit rows m n) (places && known) h in
-    (parts .0, leb-true n (length codes) (both places known (parts .1) .0))
 
 -- a record in form, past 11
 abbrev pub soundAnswer : ℕ → ℕ → List ℤ → ℕ → List ℕ → Record → EnvelopeRead

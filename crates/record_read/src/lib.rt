@@ -3,21 +3,20 @@ ghost use mathlib.Core.Path.{_≡_};
 ghost use Rattle.refusal.specs.Outcome.{refusedAt};
 ghost use Rattle.limits.specs.Limits.{total, rowLimit};
 ghost use Rattle.channel.specs.Channel.{channelTypes};
-ghost use Rattle.record_read.specs.Contracts.{notRead, givenWithin, Agreeing, statedAnswer, recordRead};
+ghost use Rattle.record_read.specs.Contracts.{notRead, Agreeing, statedAnswer, recordRead};
 use agreement::agrees;
 use ball::filled_ball;
 use channel::Code;
-use channel::codes_known;
 use channel::same_codes;
 use envelope::Envelope;
 use envelope::empty_envelope;
 use envelope::filled_envelope;
 use envelope::filled_figures;
-use figures::table::rows_within;
 use record_form::form::Stated;
 use record_form::form::read_form;
 use refusal::Outcome;
 use text::parts::text_within;
+use typed_rows::given_within;
 
 // What reading a record answers. In a refusal every figure and weight is 0.
 pub struct EnvelopeRead {
@@ -33,19 +32,6 @@ pub fn not_read(number: u32, line: u32) -> EnvelopeRead
         outcome: refusal::refused_at(number, line),
         envelope: empty_envelope(),
     }
-}
-
-// Whether rows and the n codes are within their limits.
-fn given_within(rows: &[i32], m: usize, n: usize, codes: &[Code]) -> bool
-    ensures { λ r. ⌜ r ≡ givenWithin rowLimit channelTypes (now (rows .entry)) m n (now (codes .entry)) ⌝ }
-{
-    if !rows_within(rows, m, n) {
-        return false;
-    }
-    if codes.len() < n {
-        return false;
-    }
-    codes_known(codes, n)
 }
 
 // What a record in form states against rows and codes within their limits.

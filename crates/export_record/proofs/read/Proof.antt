@@ -6,7 +6,8 @@ use denote.Ref.{now}
 use Rattle.lent.specs.Filled.{filled}
 use Rattle.limits.specs.Limits.{total, rowLimit}
 use Rattle.channel.specs.Channel.{channelTypes}
-use Rattle.record_read.specs.ReadLaws.{given-within, accepted-read, read-zero}
+use Rattle.record_read.specs.ReadLaws.{accepted-read, read-zero}
+use Rattle.typed_rows.specs.GivenLaws.{given-within}
 use Rattle.record_read.specs.declared.EnvelopeRead.{EnvelopeRead}
 use Rattle.export_record.specs.Contracts.{readAnswer}
 use Rattle.export_answers.specs.ContractLaws.{accepted-places}

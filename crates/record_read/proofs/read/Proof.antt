@@ -11,9 +11,10 @@ use Rattle.limits.specs.Limits.{total, rowLimit}
 use Rattle.text.specs.Parts.{textWithin}
 use Rattle.channel.specs.Channel.{channelTypes}
 use Rattle.channel.specs.ChannelLaws.{house-sound}
-use Rattle.record_read.specs.Contracts.{givenWithin}
+use Rattle.typed_rows.specs.Given.{givenWithin}
 use Rattle.record_read.specs.HeldLaws.{holding-total}
-use Rattle.record_read.specs.ReadLaws.{given-within, read-limits, read-length}
+use Rattle.record_read.specs.ReadLaws.{read-limits, read-length}
+use Rattle.typed_rows.specs.GivenLaws.{given-within}
 use Rattle.record_read.proofs.ReadSteps.{stated-faulty, read-channels, stated-sound}
 use Rattle.record_read.proofs.read.Statement.{statement}
 use Rattle.record_read.proofs.read.Tie as tie

@@ -9,8 +9,8 @@ use denote.Ref.{now}
 use Rattle.geometry.specs.Table.{rowsWithin}
 use Rattle.limits.specs.Limits.{rowLimit}
 use Rattle.channel.specs.Channel.{channelTypes, codesKnown}
-use Rattle.record_read.proofs.given_within.Statement.{statement}
-use Rattle.record_read.proofs.given_within.Tie as tie
+use Rattle.typed_rows.proofs.given_within.Statement.{statement}
+use Rattle.typed_rows.proofs.given_within.Tie as tie
 
 -- the definition, by its first two tests
 abbrev answer : tie.Start → Bool → Bool → Bool

@@ -1,0 +1,1 @@
+// The reference text of a table.

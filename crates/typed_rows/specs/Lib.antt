@@ -1,0 +1,3 @@
+-- Rows of typed channels: when they are within their limits, then the law about it.
+pub mod Given
+pub mod GivenLaws
