@@ -14,11 +14,11 @@ use native.Mathlib.Omega.{arith}
 use borrow.Author.Tests.{leb-true, le-leb, eqb-true, eq-eqb}
 use lib.Dec.{eqb, leb}
 use lib.IntN.{ℤ, pos, negsuc}
-use lib.ListN.{length, length-map}
+use lib.ListN.{length, getD, length-map}
 use Rattle.text.specs.Parts.{comma, cut, join, same, free, allFree}
 use Rattle.integers.specs.Tests.{both, unlike, cond-some}
 use Rattle.lists.specs.Each.{Each, each-cons, each-head, each-tail}
-use Rattle.text.specs.PartsLaws.{same-eq, same-refl, join-cut, cut-join, join-free, join-length}
+use Rattle.text.specs.PartsLaws.{same-eq, same-refl, join-cut, cut-join, join-free, join-length, join-short}
 use Rattle.number.specs.Number.{plain, print}
 use Rattle.number.specs.NumberLaws.{plain-print, print-plain, print-free, magnitude-short}
 use Rattle.label.specs.Label.{isLabel, isLabelByte}
@@ -161,11 +161,7 @@ module _ (types : Types) (types-sound : SoundTypes types) where
 
 module _ (types : Types) (short : ShortTags types) where
   tags-length : (first codes : List ℕ) → length (join comma (first ∷ map (tagOf types) codes)) ≤ length first + suc tagLimit * length codes
-  unfolding join
-  tags-length first [] = omega arith
-  tags-length first (code ∷ codes) =
-      let tag = tagOf types code in
-      omega (arith, join-length comma first tag (map (tagOf types) codes), type-short types short code, tags-length tag codes)
+  tags-length first codes = join-short (tagOf types) 0 comma tagLimit first codes (λ j h. type-short types short (getD codes j 0))
 
   pub heading-length : (k : ℕ) (word codes : List ℕ) → 1 ≤ k → length codes < 10 ^ k
       → length (printHeading word types codes) ≤ length word + suc k + suc tagLimit * length codes

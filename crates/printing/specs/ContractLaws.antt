@@ -21,7 +21,7 @@ use lib.IntN.{ℤ, pos, natAbs}
 use lib.ListN.{length, getD, set, take, drop, length-append, length-set}
 use lib.Seq.{length-take-le, getD-take, append-snoc, set-split, take-suc, take-set-le, take-suc-set, take-add, drop-at}
 use Rattle.text.specs.Parts.{comma, lineEnd, join}
-use Rattle.text.specs.PartsLaws.{join-more}
+use Rattle.text.specs.PartsLaws.{join-short, join-more}
 use Rattle.number.specs.Number.{digitZero, decimal, printMagnitude, print}
 use Rattle.number.specs.NumberLaws.{decimal-more, print-short}
 use Rattle.printing.specs.Contracts.{numberDigits, fieldRoom, numbersAfter, Put}
@@ -177,12 +177,9 @@ numbers-more word zs z =
 
 pub numbers-short : (k : ℕ) (word : List ℕ) (zs : List ℤ) → 1 ≤ k → ((j : ℕ) → j < length zs → natAbs (getD zs j (pos 0)) < 10 ^ k)
     → length (numbersAfter word zs) ≤ length word + (k + 2) * length zs
-unfolding numbersAfter join
-numbers-short k word [] some-digit below = omega arith
-numbers-short k word (z ∷ zs) some-digit below =
-    let first : length (print z) ≤ suc k = print-short k z some-digit (below 0 (omega arith)) in
-    let others = numbers-short k (print z) zs some-digit (λ j h. below (suc j) (omega arith)) in
-    omega (arith, length-append word (comma ∷ join comma (print z ∷ map print zs)), mul-suc (k + 2) (length zs))
+unfolding numbersAfter
+numbers-short k word zs some-digit below =
+    omega (arith, join-short print (pos 0) comma (suc k) word zs (λ j h. print-short k (getD zs j (pos 0)) some-digit (below j h)))
 
 pub numbers-room : (word : List ℕ) (count : ℕ) (zs : List ℤ) → count ≤ length zs → ((k : ℕ) → k < count → natAbs (getD zs k (pos 0)) < 2 ^ 63)
     → length (numbersAfter word (take count zs)) ≤ length word + count * fieldRoom

@@ -4,6 +4,7 @@ pub mod Reference
 pub mod Contracts
 pub mod Printing
 pub mod ReferenceLaws
+pub mod PrintedLaws
 pub mod LineLaws
 pub mod TableLaws
 pub mod RefusalLaws

@@ -2,10 +2,11 @@
 --     ended-printed     a text of lines is its parts with byte 10 between each two
 --     printed-ended     it is cut into its lines and an empty part
 --     printed-some      a text of a line or more has a byte
+--     printed-more      a text with one line more
 use Prim.Native.Nat.{ℕ, _≤_}
 use mathlib.Core.Path.{_≡_, refl, sym, _∙_, ap}
 use mathlib.Core.Bool.{true}
-use mathlib.Core.List.{List, [], _∷_, _++_}
+use mathlib.Core.List.{List, [], _∷_, _++_, append-assoc}
 use native.Mathlib.Omega.{arith}
 use lib.ListN.{length, length-append}
 use Rattle.integers.specs.Tests.{both}
@@ -36,3 +37,10 @@ printed-ended lines h = ap (cut lineEnd) (sym (ended-printed lines)) ∙ cut-end
 pub printed-some : (line : List ℕ) (lines : List (List ℕ)) → 1 ≤ length (printLines (line ∷ lines))
 unfolding printLines
 printed-some line lines = rw length-append (omega arith)
+
+pub printed-more : (lines : List (List ℕ)) (line : List ℕ) → printLines (lines ++ (line ∷ [])) ≡ printLines lines ++ (line ++ (lineEnd ∷ []))
+unfolding printLines
+printed-more [] line = refl
+printed-more (first ∷ lines) line =
+    ap (λ (l : List ℕ). first ++ (lineEnd ∷ l)) (printed-more lines line)
+    ∙ sym (append-assoc first (lineEnd ∷ printLines lines) (line ++ (lineEnd ∷ [])))

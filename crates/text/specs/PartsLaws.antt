@@ -9,6 +9,7 @@
 --     cut-keeps-free, join-free        a byte that stands nowhere still stands nowhere after cutting, and after joining by another byte
 --     free-append                      a byte stands in neither of two lists
 --     join-length                      the bytes of parts joined, by the first part
+--     join-short                       the most bytes of a part and of others, each after a separator, none of which is longer than k
 --     join-more                        one part more
 --     parts-within                     the parts from an index within the text
 --     parts-whole, parts-none          the parts from 0 are those of the text; past the end there are none
@@ -28,10 +29,11 @@
 --     part-start-most                  part k starts within the text or just past it, as long as there are k parts
 --     part-start-next                  the parts from past the end of a part start where those after it do
 --     part-start-drop                  the text from where part k starts is the parts from that one on, joined
-use Prim.Native.Nat.{ℕ, zero, suc, _+_, _-_, _≤_, _<_, zero-le}
+use Prim.Native.Nat.{ℕ, zero, suc, _+_, _-_, _*_, _≤_, _<_, zero-le}
 use mathlib.Core.Path.{_≡_, refl, sym, ap, ap₂, _∙_}
 use mathlib.Core.Bool.{Bool, true, false, not, cond, _&&_, and-assoc}
-use mathlib.Core.List.{List, [], _∷_, _++_, append-assoc}
+use mathlib.Core.List.{List, [], _∷_, _++_, map, append-assoc}
+use native.Mathlib.Nat.{mul-suc}
 use native.Mathlib.Numerals.{add-one}
 use native.Mathlib.Omega.{arith}
 use borrow.Author.Tests.{eqb-true, eq-eqb, ne-eqb, le-leb, lt-leb, leb-false, leb-true, not-true}
@@ -165,6 +167,19 @@ cut-join c p (q ∷ ps) h =
 pub join-length : (c : ℕ) (p q : List ℕ) (ps : List (List ℕ)) → length (join c (p ∷ q ∷ ps)) ≡ length p + suc (length (join c (q ∷ ps)))
 unfolding join
 join-length c p q ps = length-append p (c ∷ join c (q ∷ ps))
+
+pub join-short : {A : Type 0} (f : A → List ℕ) (d : A) (c k : ℕ) (first : List ℕ) (l : List A) → ((j : ℕ) → j < length l → length (f (getD l j d)) ≤ k)
+    → length (join c (first ∷ map f l)) ≤ length first + suc k * length l
+unfolding join
+join-short f d c k first [] h = omega arith
+join-short f d c k first (x ∷ l) h =
+    omega (
+      arith,
+      join-length c first (f x) (map f l),
+      h 0 (omega arith),
+      join-short f d c k (f x) l (λ j b. h (suc j) (omega arith)),
+      mul-suc (suc k) (length l),
+    )
 
 pub join-more : (c : ℕ) (p q : List ℕ) (ps : List (List ℕ)) → join c ((p ∷ ps) ++ (q ∷ [])) ≡ join c (p ∷ ps) ++ (c ∷ q)
 unfolding join
