@@ -10,14 +10,12 @@
 --     accepted-read, read-accepted   a record is accepted exactly where it is an accepted one
 --     not-11-printed                 a text of 1 to 65,536 bytes that 11 does not meet is the printing of a record within the limits
 --     printed-not-11                 the printing of a record within the limits is not met by 11
-use Prim.Native.Nat.{ℕ, _≤_, _<_}
+use Prim.Native.Nat.{ℕ, _<_}
 use mathlib.Core.Path.{_≡_, refl, sym, _∙_, ap, ap₂}
 use mathlib.Core.Bool.{Bool, true, false, cond, _&&_}
 use mathlib.Core.List.{List}
 use mathlib.Core.Option.{Option, none, some}
 use native.Mathlib.Omega.{arith}
-use borrow.Author.Tests.{leb-true}
-use lib.Dec.{leb}
 use lib.IntN.{ℤ}
 use lib.ListN.{length, take}
 use Rattle.integers.specs.Tests.{both, cond-some, impossible, nonzero, unlike}
@@ -25,12 +23,11 @@ use Rattle.refusal.specs.Number.{text-length, outside-limits, record-form, disa
 use Rattle.refusal.specs.Outcome.{refused, refusedAt, numberOf, requireSome}
 use Rattle.refusal.specs.OutcomeLaws.{each-answer, each-found}
 use Rattle.refusal.specs.declared.Outcome.the-variants.{Accepted}
-use Rattle.geometry.specs.Table.{rowsWithin}
 use Rattle.ball.specs.declared.Ball.{Ball}
 use Rattle.text.specs.Parts.{textWithin, same}
 use Rattle.text.specs.PartsLaws.{same-eq, same-refl}
 use Rattle.number.specs.Contracts.{magnitudeLimit}
-use Rattle.channel.specs.Channel.{Types, codesKnown}
+use Rattle.channel.specs.Channel.{Types}
 use Rattle.channel.specs.ChannelLaws.{SoundTypes}
 use Rattle.agreement.specs.Agreement.{agrees}
 use Rattle.envelope.specs.declared.Envelope.{Envelope}

@@ -1,6 +1,6 @@
 -- Labels that are lent as their bytes, one label after another, and the index at which each ends.
 --     labelsFrom bytes from ends     the labels that end at these, the first one from an index on
---     endsReach from ends count      no end is below the one before it, and the last one is this count
+--     endsReach from ends count      from this index on no end falls, and the last one is this count
 --     labelsJoined labels            the bytes of these labels, one after another
 --     endsFrom from labels           where each of these labels ends, the first one standing at an index
 use Prim.Native.Nat.{ℕ, _+_, _-_}

@@ -6,6 +6,8 @@
 -- In the turns of a loop over the ends:
 --     reach-most                    no end is above the number of bytes
 --     labels-next                   the label that ends at the next end, and those after it
+--     reach-at                      the test of the ends, by the next one
+--     reach-done                    and where none is left
 --     reach-next                    the next end is not below the one before it, and those after it are right too
 use Prim.Native.Nat.{ℕ, suc, _+_, _-_, _≤_, _<_}
 use mathlib.Core.Path.{_≡_, refl, sym, ap, ap₂, _∙_}
@@ -14,7 +16,7 @@ use mathlib.Core.List.{List, [], _∷_, _++_, append-assoc}
 use native.Mathlib.Numerals.{add-one}
 use native.Mathlib.Omega.{arith}
 use borrow.Author.Tests.{leb-true, le-leb, eqb-true, eq-eqb}
-use lib.Dec.{leb}
+use lib.Dec.{eqb, leb}
 use lib.ListN.{length, getD, take, drop, length-append, length-drop, take-append-drop, drop-of-length-le}
 use lib.Seq.{drop-at, drop-cons, drop-drop, length-take-le, take-at}
 use Rattle.integers.specs.Tests.{both}
@@ -105,11 +107,18 @@ module _ (ends : List ℕ) (i : ℕ) (below : i < length ends) (from : ℕ) wher
   unfolding labelsFrom
   labels-next bytes = ap (labelsFrom bytes from) ends-at
 
+  pub reach-at : (count : ℕ)
+      → endsReach from (drop i ends) count ≡ (leb from (getD ends i 0) && endsReach (getD ends i 0) (drop (i + 1) ends) count)
+  unfolding endsReach
+  reach-at count = ap (λ l. endsReach from l count) ends-at
+
   pub reach-next : (count : ℕ) → endsReach from (drop i ends) count ≡ true
       → (from ≤ getD ends i 0) × (endsReach (getD ends i 0) (drop (i + 1) ends) count ≡ true)
-  unfolding endsReach
   reach-next count h =
       let end = getD ends i 0 in
-      let tests =
-      both (leb from end) (endsReach end (drop (i + 1) ends) count) (sym (ap (λ l. endsReach from l count) ends-at) ∙ h) in
+      let tests = both (leb from end) (endsReach end (drop (i + 1) ends) count) (sym (reach-at count) ∙ h) in
       (leb-true from end (tests .0), tests .1)
+
+pub reach-done : (ends : List ℕ) (i : ℕ) → length ends ≤ i → (from count : ℕ) → endsReach from (drop i ends) count ≡ eqb from count
+unfolding endsReach
+reach-done ends i h from count = ap (λ l. endsReach from l count) (drop-of-length-le ends {i = i} h)

@@ -30,7 +30,7 @@ abbrev pub table-short : ℕ
 table-short = 7
 
 -- n, m, coordinate, type code, envelope figure or chart channel outside limits; rows lent in below m times n places;
--- weight list not of m places
+-- weight list not of m places; labels not one for each row
 abbrev pub outside-limits : ℕ
 outside-limits = 8
 

@@ -18,7 +18,7 @@ pub const ROW_COUNT: u32 = 6;
 // 7: lent table below m times n
 pub const TABLE_SHORT: u32 = 7;
 // 8: n, m, coordinate, type code, envelope figure or chart channel outside limits; rows lent in below m times n places;
-// weight list not of m places
+// weight list not of m places; labels not one for each row
 pub const OUTSIDE_LIMITS: u32 = 8;
 // 9: budget above 1,000,000
 pub const BUDGET_TOO_LARGE: u32 = 9;

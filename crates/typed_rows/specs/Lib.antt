@@ -1,3 +1,3 @@
--- Rows of typed channels: when they are within their limits, then the law about it.
+-- Rows of typed channels: when they are within their limits, then the laws about it.
 pub mod Given
 pub mod GivenLaws
