@@ -1,5 +1,5 @@
 -- The walk over the rows that are lent, row by row.
---     Lending, lending                what is lent is within its limits, as facts
+--     Taken                           what is lent is within its limits, as facts
 --     Walk                            what holds before a row: no row passed has a fault, and the text has them
 --     heading-within, walk-start      the heading has room for its byte 10; before the first row
 --     walk-label, walk-places         the label and the places of a row are within what is lent
@@ -7,24 +7,21 @@
 --     turn-room                       a row without a fault has room
 --     walk-stops, walk-next           the refusal of a row with a fault, and what holds after one without
 --     walk-done                       after the last row
-use Prim.Native.Nat.{ℕ, suc, _+_, _-_, _*_, _≤_, _<_}
+use Prim.Native.Nat.{ℕ, _+_, _-_, _*_, _≤_, _<_}
 use mathlib.Core.Path.{_≡_, refl, sym, ap, ap₂, subst, _∙_}
 use mathlib.Core.Bool.{Bool, true, false}
 use mathlib.Core.List.{List, [], _∷_, _++_, map, map-append}
 use mathlib.Core.Logic.{_⊎_, inl, inr}
-use native.Mathlib.Nat.{suc-mul}
 use native.Mathlib.Numerals.{add-one}
 use native.Mathlib.Omega.{arith}
 use lib.Dec.{leb}
 use lib.IntN.{ℤ, pos, natAbs}
-use lib.ListN.{length, getD, set, take, drop, length-append, length-drop, length-map, length-set}
+use lib.ListN.{length, getD, set, take, drop, length-append, length-drop, length-set}
 use lib.Seq.{drop-cons, getD-drop, getD-take, length-take-le, take-length, take-suc, take-suc-set, take-take}
 use Rattle.integers.specs.SumLaws.{last-or-below}
 use Rattle.refusal.specs.Outcome.{refusedAt}
-use Rattle.limits.specs.Limits.{rowLimit, channelLimit, coordinateLimit}
-use Rattle.geometry.specs.Contracts.{Table}
+use Rattle.limits.specs.Limits.{rowLimit}
 use Rattle.geometry.specs.Table.{coordinate}
-use Rattle.geometry.specs.TableLaws.{within-table, row-end}
 use Rattle.lent.specs.Contracts.{notWritten, written}
 use Rattle.lent.specs.declared.TextWritten.{TextWritten}
 use Rattle.text.specs.Parts.{lineEnd}
@@ -40,44 +37,25 @@ use Rattle.channel.specs.ChannelLaws.{house-sound}
 use Rattle.channel.specs.ContractLaws.{house-short}
 use Rattle.value.specs.Value.{number}
 use Rattle.value.specs.Values.{valuesInRange}
-use Rattle.value.specs.ValuesLaws.{in-range}
 use Rattle.heading.specs.Heading.{printHeading}
 use Rattle.heading.specs.HeadingLaws.{heading-most}
 use Rattle.reference_row.specs.Row.{Row, noRow, printRow}
-use Rattle.reference_rows.specs.ReferenceText.{ReferenceText}
-use Rattle.reference_rows.specs.Rows.{Content, faulty, sound}
+use Rattle.reference_rows.specs.Rows.{Content, faulty}
 use Rattle.reference.specs.Reference.{referenceWord}
-use Rattle.reference.specs.Printing.{printText, RowWithin, referenceMost}
+use Rattle.reference.specs.Printing.{printText, referenceMost}
 use Rattle.reference.specs.PrintedLaws.{row-short}
-use Rattle.typed_rows.specs.GivenLaws.{given-within}
 use Rattle.reference_write.specs.Labels.{labelsFrom, endsReach}
-use Rattle.reference_write.specs.LabelsLaws.{labels-count, labels-next, reach-most, reach-next}
-use Rattle.reference_write.specs.Writing.{Lent, labelsLent, lentWithin, plainRow, plainRows, lentText}
-use Rattle.reference_write.specs.Contracts.{faultBy, RowRoom, textRoom, textPut, TextPut}
-use Rattle.reference_write.specs.Held.{TextOf}
+use Rattle.reference_write.specs.LabelsLaws.{labels-next, reach-most, reach-next}
+use Rattle.reference_write.specs.Writing.{Lent, labelsLent, plainRow, plainRows, lentText}
+use Rattle.reference_write.specs.Contracts.{faultBy, RowRoom, textRoom, TextPut}
 use Rattle.reference_write.specs.PlainRowsLaws.{rows-count, rows-at}
-use Rattle.reference_write.specs.FaultLaws.{rowFault, fault-none, lentRow, lentFault, NoFault, lent-within, first-fault, no-fault}
+use Rattle.reference_write.specs.FaultLaws.{rowFault, fault-none, lentRow, lentFault, NoFault, first-fault, no-fault}
+use Rattle.reference_write.specs.LendingLaws.{Lending, row-places, row-within}
 
 -- ---- what is lent
 
-pub record Lending (lent : Lent) : Type 0 where
-  pub within : lentWithin rowLimit channelTypes lent ≡ true
-  pub table : Table (lent .rows) (lent .m) (lent .n)
-  pub typed : lent .n ≤ length (lent .codes)
-  pub counted : length (lent .ends) ≡ lent .m
-  pub reaches : endsReach 0 (lent .ends) (length (lent .labels)) ≡ true
-
-pub lending : (lent : Lent) → lentWithin rowLimit channelTypes lent ≡ true → Lending lent
-lending lent h =
-    let parts = lent-within rowLimit channelTypes lent h in
-    let given = given-within rowLimit channelTypes (lent .rows) (lent .m) (lent .n) (lent .codes) (parts .0) in
-    record {
-      within = h;
-      table = within-table (lent .rows) (lent .m) (lent .n) (given .0);
-      typed = given .1;
-      counted = parts .1;
-      reaches = parts .2;
-    }
+abbrev pub Taken : Lent → Type 0
+Taken lent = Lending rowLimit channelTypes lent
 
 -- the codes of the channels, the rows as they are written, and the text of the heading and the first i of them
 abbrev codesIn : Lent → List ℕ
@@ -103,7 +81,7 @@ pub record Walk (lent : Lent) (out keys : List ℕ) (at from place i : ℕ) : Ty
   pub room : at ≤ referenceMost i
   pub places : textRoom ≤ length out
 
-module _ {lent : Lent} (l : Lending lent) where
+module _ {lent : Lent} (l : Taken lent) where
   abbrev n : ℕ
   n = lent .n
 
@@ -112,13 +90,12 @@ module _ {lent : Lent} (l : Lending lent) where
   module _ {out out′ : List ℕ} {r : ℕ} (room : textRoom ≤ length out) (put : Put (printHeading referenceWord channelTypes (codesIn lent)) out 0 out′ r) where
     heading-short : r + 1 ≤ referenceMost 0
     heading-short =
-        let channels = length-take-le n (lent .codes) (l .typed) in
         omega (
           arith,
           put .next,
-          channels,
+          l .coded,
           l .table .channels,
-          heading-most channelTypes house-short referenceWord (codesIn lent) (omega (arith, channels, l .table .channels)),
+          heading-most channelTypes house-short referenceWord (codesIn lent) (omega (arith, l .coded, l .table .channels)),
         )
 
     pub heading-within : r < length out′
@@ -151,34 +128,21 @@ module _ {lent : Lent} (l : Lending lent) where
     abbrev row : Row
     row = lentRow lent i
 
-    places-left : i * n + n ≤ length (lent .rows)
-    places-left = omega (arith, row-end i (lent .m) n below, l .table .places)
-
-    row-within : lentFault channelTypes lent i ≡ 0 → RowWithin channelTypes (codesIn lent) row
-    row-within none =
-        let passed = fault-none channelTypes (codesIn lent) (take i (labelsLent lent)) row none in
-        let numbers = drop (i * n) (lent .rows) in
-        let complete = length-map (take n numbers) number
-        ∙ length-take-le n numbers (omega (arith, length-drop (i * n) (lent .rows), places-left))
-        ∙ sym (length-take-le n (lent .codes) (l .typed)) in
-        record { labelled = passed .0; complete = complete; each-in-range = in-range channelTypes (codesIn lent) (row .values) complete (passed .1) }
-
     line-short : lentFault channelTypes lent i ≡ 0 → length (printRow row ++ (lineEnd ∷ [])) ≤ 61
     line-short none =
         omega (
           arith,
           length-append (printRow row) (lineEnd ∷ []),
-          row-short channelTypes house-sound (codesIn lent) (omega (arith, length-take-le n (lent .codes) (l .typed), l .table .channels)) row (row-within none),
+          row-short channelTypes house-sound (codesIn lent) (omega (arith, l .coded, l .table .channels)) row (row-within l i below none),
         )
 
     text-next : textOf lent (take (i + 1) (rowsIn lent)) ≡ textOf lent (take i (rowsIn lent)) ++ (printRow row ++ (lineEnd ∷ []))
     text-next =
         let rows = rowsIn lent in
         let heading = printHeading referenceWord channelTypes (codesIn lent) in
-        let labels : length (labelsLent lent) ≡ lent .m = labels-count (lent .labels) 0 (lent .ends) ∙ l .counted in
-        let many : length rows ≡ lent .m = rows-count n (labelsLent lent) (lent .rows) ∙ labels in
+        let many : length rows ≡ lent .m = rows-count n (labelsLent lent) (lent .rows) ∙ l .labelled in
         ap (λ (k : ℕ). textOf lent (take k rows)) (add-one i)
-        ∙ ap (textOf lent) (take-suc rows i noRow (omega arith) ∙ ap (λ (r : Row). take i rows ++ (r ∷ [])) (rows-at n (labelsLent lent) (lent .rows) i (omega arith)))
+        ∙ ap (textOf lent) (take-suc rows i noRow (omega arith) ∙ ap (λ (r : Row). take i rows ++ (r ∷ [])) (rows-at n (labelsLent lent) (lent .rows) i (omega (arith, l .labelled))))
         ∙ ap (λ (lines : List (List ℕ)). printLines (heading ∷ lines)) (map-append printRow (take i rows) (row ∷ []))
         ∙ printed-more (heading ∷ map printRow (take i rows)) (printRow row)
 
@@ -195,7 +159,7 @@ pub record Turn (lent : Lent) (keys : List ℕ) (from place i key fault : ℕ) :
   pub is-repeated : repeated ≡ keyUsed key (take i keys)
   pub is-fault : fault ≡ faultBy (leb 1 key) within repeated
 
-module _ {lent : Lent} (l : Lending lent) {out keys : List ℕ} {at from place i : ℕ} (w : Walk lent out keys at from place i) where
+module _ {lent : Lent} (l : Taken lent) {out keys : List ℕ} {at from place i : ℕ} (w : Walk lent out keys at from place i) where
   -- where the label of row i ends
   abbrev end : ℕ
   end = getD (lent .ends) i 0
@@ -214,12 +178,12 @@ module _ {lent : Lent} (l : Lending lent) {out keys : List ℕ} {at from place i
         (next .0, reach-most end (drop (i + 1) (lent .ends)) (length (lent .labels)) (next .1))
 
     pub walk-places : place + lent .n ≤ length (lent .rows)
-    walk-places = omega (arith, places-left l i below, w .placed)
+    walk-places = omega (arith, row-places l i below, w .placed)
 
     labels-left : part ∷ labelsFrom (lent .labels) end (drop (i + 1) (lent .ends)) ≡ getD (labelsLent lent) i [] ∷ drop (i + 1) (labelsLent lent)
     labels-left =
         sym (labels-next (lent .ends) i (omega (arith, l .counted)) from (lent .labels)) ∙ w .left
-        ∙ drop-cons (labelsLent lent) i [] (omega (arith, labels-count (lent .labels) 0 (lent .ends), l .counted))
+        ∙ drop-cons (labelsLent lent) i [] (omega (arith, l .labelled))
         ∙ ap (λ (k : ℕ). getD (labelsLent lent) i [] ∷ drop k (labelsLent lent)) (sym (add-one i))
 
     label-is : part ≡ getD (labelsLent lent) i []
@@ -297,7 +261,7 @@ module _ {lent : Lent} (l : Lending lent) {out keys : List ℕ} {at from place i
       label-more : take (i + 1) (labelsLent lent) ≡ earlier ++ (label ∷ [])
       label-more =
           ap (λ (k : ℕ). take k (labelsLent lent)) (add-one i)
-          ∙ take-suc (labelsLent lent) i [] (omega (arith, t .below, labels-count (lent .labels) 0 (lent .ends), l .counted))
+          ∙ take-suc (labelsLent lent) i [] (omega (arith, t .below, l .labelled))
 
       none-more : (j : ℕ) → (j ≡ i) ⊎ (j < i) → lentFault channelTypes lent j ≡ 0
       none-more j (inl e) = ap (lentFault channelTypes lent) e ∙ none-here
@@ -336,7 +300,7 @@ module _ {lent : Lent} (l : Lending lent) {out keys : List ℕ} {at from place i
       let text = no-fault rowLimit channelTypes lent (l .within) (subst (NoFault channelTypes lent) done (w .none)) in
       let rows = rowsIn lent in
       let many : i ≡ length rows =
-      omega (arith, rows-count (lent .n) (labelsLent lent) (lent .rows), labels-count (lent .labels) 0 (lent .ends), l .counted) in
+      omega (arith, rows-count (lent .n) (labelsLent lent) (lent .rows), l .labelled) in
       let all : take i rows ≡ rows = ap (λ (k : ℕ). take k rows) many ∙ take-length rows in
       let whole : textOf lent (take i rows) ≡ printText channelTypes (text .0) =
       ap (textOf lent) all

@@ -11,7 +11,6 @@ use Rattle.integers.specs.Tests.{impossible}
 use Rattle.refusal.specs.Number.{outside-limits}
 use Rattle.refusal.specs.Outcome.{refused, numberOf}
 use Rattle.refusal.specs.declared.Refusal.{Refusal}
-use Rattle.refusal.specs.declared.Outcome.{Outcome}
 use Rattle.refusal.specs.declared.Outcome.the-variants.{Accepted, Refused}
 use Rattle.limits.specs.Limits.{rowLimit}
 use Rattle.lent.specs.Filled.{filled}

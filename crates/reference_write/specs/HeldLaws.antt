@@ -12,45 +12,41 @@
 --     text-exactly                a text is that of what is lent exactly when it is accepted as one that holds it and no `<` stands in it
 use Prim.Native.Nat.{ℕ, _*_, _≤_, _<_}
 use mathlib.Core.Path.{_≡_, refl, sym, ap, ap₂, _∙_}
-use mathlib.Core.Bool.{true, false}
+use mathlib.Core.Bool.{true}
 use mathlib.Core.List.{List, [], _++_, map}
 use mathlib.Core.Logic.{_↔_}
 use native.Mathlib.Omega.{arith}
 use lib.IntN.{ℤ}
-use lib.ListN.{length, getD, take, drop, length-drop, length-map, length-take, take-append-drop, List·getD-map}
+use lib.ListN.{length, getD, take, drop, length-map, length-take, take-append-drop, List·getD-map}
 use lib.Seq.{getD-take, length-take-le, take-all, take-length}
 use Rattle.limits.specs.Limits.{textLimit}
-use Rattle.geometry.specs.Table.{rowsWithin}
-use Rattle.geometry.specs.Contracts.{TableWithin}
-use Rattle.geometry.specs.TableLaws.{row-end, within-limits}
 use Rattle.text.specs.Parts.{free}
-use Rattle.label.specs.RowLabel.{isRowLabel, labelUsed}
 use Rattle.label.specs.RowLabelLaws.{label-new, new-label}
-use Rattle.channel.specs.Channel.{Types, codesKnown}
+use Rattle.channel.specs.Channel.{Types}
 use Rattle.channel.specs.ChannelLaws.{SoundTypes}
 use Rattle.channel.specs.ContractLaws.{ShortTags}
 use Rattle.channel.specs.CodesLaws.{codes-each, each-codes}
-use Rattle.value.specs.Value.{number, lessThan}
-use Rattle.value.specs.Values.{valuesInRange}
-use Rattle.value.specs.ValuesLaws.{in-range, range-in}
+use Rattle.value.specs.Value.{lessThan}
+use Rattle.value.specs.ValuesLaws.{range-in}
 use Rattle.reference_row.specs.Row.{Row, noRow, rowLabels}
 use Rattle.reference_rows.specs.ReferenceText.{ReferenceText, codesOf, channelCount, rowsOf, rowCount, rowAt, labelsOf, labelAt, rowNumbers, tableOf}
 use Rattle.reference_rows.specs.ReferenceTextLaws.{text-same, label-at}
 use Rattle.reference_rows.specs.Rows.{sound}
 use Rattle.reference.specs.Reference.{content}
-use Rattle.reference.specs.Printing.{printText, RowWithin, Within}
+use Rattle.reference.specs.Printing.{printText, Within}
 use Rattle.reference.specs.ReferenceLaws.{accepted-within, accepted-printed, accepted-labels, printed-accepted}
 use Rattle.reference.specs.PrintedLaws.{text-short}
 use Rattle.reference.specs.TableLaws.{table-length}
 use Rattle.reference_table.specs.AcceptedTable.{accepted-table}
-use Rattle.typed_rows.specs.GivenLaws.{given-within, within-given}
+use Rattle.typed_rows.specs.GivenLaws.{within-given}
 use Rattle.reference_write.specs.Labels.{labelsFrom, labelsJoined, endsFrom}
 use Rattle.reference_write.specs.Writing.{Lent, labelsLent, lentWithin, plainRows, lentText}
 use Rattle.reference_write.specs.Held.{Holds, lentOf, TextOf, plainOf, Plain}
-use Rattle.reference_write.specs.LabelsLaws.{labels-count, ends-count, lent-labels, lent-reach, labels-lent}
+use Rattle.reference_write.specs.LabelsLaws.{ends-count, lent-labels, lent-reach, labels-lent}
 use Rattle.reference_write.specs.PlainRowsLaws.{rows-labels, rows-count, rows-at, rows-numbers, rows-plain, rows-again}
 use Rattle.reference_write.specs.PlainLaws.{free-plain, plain-free, plain-within}
-use Rattle.reference_write.specs.FaultLaws.{fault-none, none-fault, lentRow, NoFault, lent-within, within-lent, no-fault, text-sound}
+use Rattle.reference_write.specs.FaultLaws.{fault-none, none-fault, lentRow, NoFault, within-lent, no-fault, text-sound}
+use Rattle.reference_write.specs.LendingLaws.{Lending, lending, row-within}
 
 -- ---- the text of what is lent
 
@@ -67,72 +63,54 @@ module _ (lent : Lent) (found : ReferenceText) (is : TextOf lent found) where
       ∙ rows-at n (labelsLent lent) (lent .rows) i (omega (arith, ap length (is .all-rows), rows-count n (labelsLent lent) (lent .rows)))
 
   module _ (limit : ℕ) (types : Types) (within : lentWithin limit types lent ≡ true) where
-    tests : (rowsWithin limit (lent .rows) (lent .m) n ≡ true) × (n ≤ length (lent .codes)) × (codesKnown types (take n (lent .codes)) ≡ true)
-    tests = given-within limit types (lent .rows) (lent .m) n (lent .codes) (lent-within limit types lent within .0)
-
-    table : TableWithin limit (lent .rows) (lent .m) n
-    table = within-limits limit (lent .rows) (lent .m) n (tests .0)
-
-    count : length (labelsLent lent) ≡ lent .m
-    count = labels-count (lent .labels) 0 (lent .ends) ∙ lent-within limit types lent within .1
+    facts : Lending limit types lent
+    facts = lending limit types lent within
 
     many : rowCount found ≡ lent .m
-    many = ap length (is .all-rows) ∙ rows-count n (labelsLent lent) (lent .rows) ∙ count
+    many = ap length (is .all-rows) ∙ rows-count n (labelsLent lent) (lent .rows) ∙ facts .labelled
 
     channels : channelCount found ≡ n
-    channels = ap length (is .codes) ∙ length-take-le n (lent .codes) (tests .1)
+    channels = ap length (is .codes) ∙ facts .coded
 
     of-holds : Holds found lent
     unfolding tableOf
     of-holds =
-        let reach = lent-within limit types lent within .2 in
-        let bytes = labels-lent (lent .labels) (lent .ends) reach in
+        let bytes = labels-lent (lent .labels) (lent .ends) (facts .reaches) in
         record {
           row-count = many;
           channels = channels;
           codes = is .codes;
-          table = ap rowNumbers (is .all-rows) ∙ rows-numbers n (labelsLent lent) (lent .rows) ∙ ap (λ k. take (k * n) (lent .rows)) count;
+          table = ap rowNumbers (is .all-rows) ∙ rows-numbers n (labelsLent lent) (lent .rows) ∙ ap (λ k. take (k * n) (lent .rows)) (facts .labelled);
           labels = ap labelsJoined same-labels ∙ bytes .0;
           ends = ap (endsFrom 0) same-labels ∙ bytes .1;
         }
 
     module _ (none : NoFault types lent (lent .m)) where
-      -- what the tests of row i say
-      module _ (i : ℕ) (l : i < lent .m) where
-        passed : (isRowLabel (lentRow lent i .label) ≡ true) × (valuesInRange types (take n (lent .codes)) (lentRow lent i .values) ≡ true)
-            × (labelUsed (lentRow lent i .label) (take i (labelsLent lent)) ≡ false)
-        passed = fault-none types (take n (lent .codes)) (take i (labelsLent lent)) (lentRow lent i) (none i l)
-
-        row-within : RowWithin types (take n (lent .codes)) (lentRow lent i)
-        row-within =
-            let codes = take n (lent .codes) in
-            let numbers = drop (i * n) (lent .rows) in
-            let room : n ≤ length numbers = omega (arith, length-drop (i * n) (lent .rows), row-end i (lent .m) n l, table .places) in
-            let complete = length-map (take n numbers) number ∙ length-take-le n numbers room ∙ sym (length-take-le n (lent .codes) (tests .1)) in
-            record { labelled = passed .0; complete = complete; each-in-range = in-range types codes (lentRow lent i .values) complete (passed .1) }
-
-        label-other : (j : ℕ) → j < i → getD (labelsLent lent) j [] ≡ getD (labelsLent lent) i [] → ⊥
-        label-other j below same =
-            label-new (getD (labelsLent lent) i []) (take i (labelsLent lent)) (passed .2) j
-            (omega (arith, length-take-le i (labelsLent lent) (omega (arith, count))))
-            (getD-take i (labelsLent lent) j [] below ∙ same)
+      label-other : (i j : ℕ) → i < lent .m → j < i → getD (labelsLent lent) j [] ≡ getD (labelsLent lent) i [] → ⊥
+      label-other i j l below same =
+          label-new (getD (labelsLent lent) i []) (take i (labelsLent lent))
+          (fault-none types (take n (lent .codes)) (take i (labelsLent lent)) (lentRow lent i) (none i l) .2) j
+          (omega (arith, length-take-le i (labelsLent lent) (omega (arith, facts .labelled))))
+          (getD-take i (labelsLent lent) j [] below ∙ same)
 
       of-within : Within limit types found
       of-within =
           record {
             heading =
                 record {
-                  some-channel = omega (arith, channels, table .some-channel);
-                  channels = omega (arith, channels, table .channels);
-                  each-known = rw (is .codes) (codes-each types (take n (lent .codes)) (tests .2));
+                  some-channel = omega (arith, channels, facts .table .some-channel);
+                  channels = omega (arith, channels, facts .table .channels);
+                  each-known = rw (is .codes) (codes-each types (take n (lent .codes)) (facts .known));
                 };
-            some-row = omega (arith, many, table .some-row);
+            some-row = omega (arith, many, facts .table .some-row);
             all-rows =
                 record {
-                  most = omega (arith, many, table .rows-most);
-                  each = λ i l. rw (is .codes, row-is i l) (row-within i (omega (arith, many)));
+                  most = omega (arith, many, facts .table .rows-most);
+                  each = λ i l.
+                      (let below : i < lent .m = omega (arith, many) in
+                      rw (is .codes, row-is i l) (row-within facts i below (none i below)));
                   different = λ i j below l same.
-                      label-other j (omega (arith, many)) i below
+                      label-other j i (omega (arith, many)) below
                       (sym (ap (λ (row : Row). row .label) (row-is i (omega arith))) ∙ same ∙ ap (λ (row : Row). row .label) (row-is j l));
                 };
           }

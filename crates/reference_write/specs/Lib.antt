@@ -9,4 +9,5 @@ pub mod LabelsLaws
 pub mod PlainRowsLaws
 pub mod PlainLaws
 pub mod FaultLaws
+pub mod LendingLaws
 pub mod HeldLaws

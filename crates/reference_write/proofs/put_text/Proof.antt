@@ -8,8 +8,10 @@ use lib.ListN.{length, getD, length-set}
 use Rattle.refusal.specs.declared.Outcome.{Outcome}
 use Rattle.limits.specs.Limits.{rowLimit}
 use Rattle.text.specs.Parts.{lineEnd}
+use Rattle.channel.specs.Channel.{channelTypes}
 use Rattle.reference_write.specs.Writing.{Lent, lentTable}
-use Rattle.reference_write.proofs.Walk.{Lending, lending, Walk, heading-within, walk-start, walk-label, walk-places, Turn, turn-room, walk-stops, walk-next, walk-done}
+use Rattle.reference_write.specs.LendingLaws.{lending}
+use Rattle.reference_write.proofs.Walk.{Taken, Walk, heading-within, walk-start, walk-label, walk-places, Turn, turn-room, walk-stops, walk-next, walk-done}
 use Rattle.reference_write.proofs.put_text.Statement.{statement}
 use Rattle.reference_write.proofs.put_text.Tie as tie
 
@@ -30,8 +32,8 @@ at-heading c = c .before .before .before
 abbrev lent : tie.Start Inv-loop μ-loop → Lent
 lent c = lentTable (c .args .rows .now) (length (c .args .ends .now)) (c .args .n) (c .args .codes .now) (c .args .labels .now) (c .args .ends .now)
 
-facts : (c : tie.Start Inv-loop μ-loop) → Lending (lent c)
-facts c = lending (lent c) (c .pre .within)
+facts : (c : tie.Start Inv-loop μ-loop) → Taken (lent c)
+facts c = lending rowLimit channelTypes (lent c) (c .pre .within)
 
 put-heading-requires : tie.Need-put-heading-requires Inv-loop μ-loop
 put-heading-requires c κs =
