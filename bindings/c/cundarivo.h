@@ -48,6 +48,8 @@
  *   means below detection and reads as 0. A label is 1 to 12 bytes of A-Z, 0-9 and hyphen.
  *
  *   Reference text: the heading REF, n and n tags; then for each row a line of its label and n values.
+ *   Where the library writes one every value is a plain number: '<5' that was read is written as 0, the number
+ *   that it reads as.
  *   Reading: one line of a label, then tag and value n times.
  *   Record: the line ENV, n and n tags; the line C and X; the line R, M, L, moves and S for Settled or B for
  *   Budget; then for each weight above 0 a line W, row and weight, rows counted from 1 and rising.
@@ -57,7 +59,8 @@
  *   Every call but cundarivo_label answers with a number and a line. The number is 0 where the call is
  *   accepted, else that of the refusal (enum cundarivo_refusal); where several apply it is the first in
  *   the order stated at the call. The line is the one at fault, counted from 1 in its text, and 0 where no
- *   line is at fault (refusals 1, 7, 8, 9, 12 and 13) and where the call is accepted.
+ *   line is at fault (refusals 1, 7, 8, 9, 12 and 13) and where the call is accepted. Of a reference text that
+ *   is to be written it is the line that the row at fault would have.
  *   On a refusal every lent place is as it was before the call, and every other member of the answer is 0.
  *   Where a call is accepted it fills the first places of what is lent for writing, as many as it says, and
  *   leaves every other place as it was.
@@ -123,8 +126,9 @@ extern "C" {
 #define CUNDARIVO_TEXT_BYTES 65536
 
 /*
- * Bytes that are proved to be enough for every record and for every output of a program, whatever the texts
- * are. Where fewer are lent than the output has the call is refused by 13.
+ * Bytes that are proved to be enough for every record, for every reference text that is written and for every
+ * output of a program, whatever the texts are. Where fewer are lent than the output has the call is refused
+ * by 13.
  */
 
 /*
@@ -133,8 +137,17 @@ extern "C" {
  */
 #define CUNDARIVO_RECORD_BYTES (38 + 90 + 52 + 12 * CUNDARIVO_ROWS)
 
+/*
+ * 38 for the heading and 61 for each row: `reference-most` in crates/reference_write/specs. A reference text
+ * that is written of m rows has at most 38 + 61 * m.
+ */
+#define CUNDARIVO_REFERENCE_BYTES (38 + 61 * CUNDARIVO_ROWS)
+
 /* A record, or the line of a refusal: `output_room` in crates/program_draw/src/lib.rt. */
 #define CUNDARIVO_PROGRAM_DRAW_BYTES CUNDARIVO_RECORD_BYTES
+
+/* A reference text, or the line of a refusal: `output_room` in crates/program_plain/src/lib.rt. */
+#define CUNDARIVO_PROGRAM_PLAIN_BYTES CUNDARIVO_REFERENCE_BYTES
 
 /* One line: `output_room` in crates/program_verify/src/lib.rt. */
 #define CUNDARIVO_PROGRAM_VERIFY_BYTES 64
@@ -158,18 +171,18 @@ enum cundarivo_refusal {
     CUNDARIVO_REFUSED_TEXT_LENGTH = 1,
     /* The heading of a reference text is not in form, or has an unknown tag. */
     CUNDARIVO_REFUSED_HEADING = 2,
-    /* A line is not in form, or has no byte 10. */
+    /* A line is not in form, or has no byte 10; or a label that is to be written is not in form. */
     CUNDARIVO_REFUSED_LINE_FORM = 3,
-    /* A value is outside its type's range. */
+    /* A value, read or to be written, is outside its type's range. */
     CUNDARIVO_REFUSED_VALUE_RANGE = 4,
-    /* A label is that of an earlier row. */
+    /* A label, read or to be written, is that of an earlier row. */
     CUNDARIVO_REFUSED_LABEL_REPEATED = 5,
     /* There is no row, or a 257th. */
     CUNDARIVO_REFUSED_ROW_COUNT = 6,
     /* The lent table has fewer than m times n places. */
     CUNDARIVO_REFUSED_TABLE_SHORT = 7,
     /* A number that is given is outside its limits, or a list that is lent for reading has too few or too
-     * many places; each call says which. */
+     * many places, or the ends of labels do not part their bytes; each call says which. */
     CUNDARIVO_REFUSED_OUTSIDE_LIMITS = 8,
     /* The budget is above 1,000,000. */
     CUNDARIVO_REFUSED_BUDGET_TOO_LARGE = 9,
@@ -274,7 +287,7 @@ typedef struct {
     uint64_t scaled_squared_distance; /* s */
 } cundarivo_measured_answer;
 
-/* The answer to the writing of a record, and of each program: how many bytes are written. */
+/* The answer to the writing of a record or reference text, and of each program: how many bytes are written. */
 typedef struct {
     uint32_t number;
     uint32_t line;
@@ -319,6 +332,31 @@ cundarivo_reference_answer cundarivo_read_reference(
 cundarivo_label_answer cundarivo_label(
     const uint8_t *text, size_t text_length,
     size_t row);
+
+/*
+ * Writes the reference text of the first m rows of n channels of these codes, with these labels, and answers
+ * with its length. It fills the first `length` places of `buffer`. Of `codes` the first n places count.
+ * `labels` has the bytes of the labels one after another, with nothing between them, and `ends` has m places:
+ * the label of a row is the bytes from the end of the label before, 0 for the first row, up to its own end.
+ * CUNDARIVO_REFERENCE_BYTES places are enough for every text.
+ *
+ * Every value is written plain: where the rows were read from a text, a value below detection is written as
+ * the number that it reads as, 0. cundarivo_read_reference reads a written text as these rows and codes, and
+ * cundarivo_label finds these labels in it. The rows, codes and labels of an accepted text without '<' give
+ * that text again.
+ *
+ * Refused: 8 as for cundarivo_draw, for `codes` of fewer than n places or a code outside 1 to 8, for `ends` of
+ * more or fewer than m places, an end below the one before it, or a last end that is not the number of bytes
+ * in `labels`; then row by row, at line 2 for the first row, 3 for a label that is not in form, 4, 5; then 13
+ * for `buffer` of fewer places than the text has bytes.
+ */
+cundarivo_written_answer cundarivo_write_reference(
+    const int32_t *rows, size_t rows_length,
+    size_t m, size_t n,
+    const uint8_t *codes, size_t codes_length,
+    const uint8_t *labels, size_t labels_length,
+    const size_t *ends, size_t ends_length,
+    uint8_t *buffer, size_t buffer_length);
 
 /* ---- the ball */
 
@@ -453,10 +491,10 @@ cundarivo_panel_answer cundarivo_panel(
 /* ---- the programs */
 
 /*
- * Each call below is one of the programs draw, verify, judge and panel: it is lent the texts that the program
- * reads, and fills the first `length` places of `output` with what the program prints. Each text is lent by
- * itself and is never joined with another, since whoever writes the first of joined texts decides where the
- * second begins. A text may have any length: above 65,536 bytes it is turned back by 1.
+ * Each call below is one of the programs draw, plain, verify, judge and panel: it is lent the texts that the
+ * program reads, and fills the first `length` places of `output` with what the program prints. Each text is
+ * lent by itself and is never joined with another, since whoever writes the first of joined texts decides
+ * where the second begins. A text may have any length: above 65,536 bytes it is turned back by 1.
  *
  * The only refusal of a call is 13, for `output` of fewer places than are printed; CUNDARIVO_PROGRAM_..._BYTES
  * are always enough. What the program itself turns back is printed: the line NO, number and line, parted by
@@ -468,6 +506,16 @@ cundarivo_panel_answer cundarivo_panel(
  * NO: as cundarivo_read_reference refuses the text, without 7 and 13.
  */
 cundarivo_written_answer cundarivo_program_draw(
+    const uint8_t *reference, size_t reference_length,
+    uint8_t *output, size_t output_length);
+
+/*
+ * Prints the reference text that cundarivo_write_reference writes of the rows, codes and labels of a reference
+ * text: each value below detection becomes the number that it reads as, 0. What it prints reads as the same
+ * rows, codes and labels, and is printed again as it is.
+ * NO: as for draw.
+ */
+cundarivo_written_answer cundarivo_program_plain(
     const uint8_t *reference, size_t reference_length,
     uint8_t *output, size_t output_length);
 
