@@ -1,7 +1,7 @@
 /*
- * An envelope from C: the reference text is read, its ball drawn and checked, the record written and read
- * back, readings judged and measured, the chart and the panel made; at last the four programs do the same
- * from the texts.
+ * An envelope from C: the reference text is read and written back, its ball drawn and checked, the record
+ * written and read back, readings judged and measured, the chart and the panel made; at last the five programs
+ * do the same from the texts.
  *
  * Every answer is looked at. A call that has to be accepted here ends the example with a message and status 1
  * where it is refused; refusals that belong to the example are printed with number, line and reason.
@@ -41,6 +41,13 @@ struct envelope {
     int64_t centre[CUNDARIVO_CHANNELS];
     uint32_t weights[CUNDARIVO_ROWS];
     cundarivo_figures_given figures;
+};
+
+/* The labels of rows: their bytes one after another, and where each of them ends. */
+struct labels {
+    size_t ends[CUNDARIVO_ROWS];
+    size_t length;
+    uint8_t bytes[12 * CUNDARIVO_ROWS];
 };
 
 /* A text with room for all that the example writes. */
@@ -153,6 +160,67 @@ static void read_faulty_reference(void)
     }
     print_refusal(stdout, "faulty reference text", answer.number, answer.line);
     printf("its table: %" PRId32 " %" PRId32 "\n", table[0], table[1]);
+}
+
+/* The labels of the first m rows of a text that has as many. */
+static void find_labels(const uint8_t *text, size_t text_length, size_t m, struct labels *labels)
+{
+    labels->length = 0;
+    for (size_t row = 0; row < m; row++) {
+        cundarivo_label_answer label = cundarivo_label(text, text_length, row + 1);
+        memcpy(labels->bytes + labels->length, text + label.start, label.length);
+        labels->length += label.length;
+        labels->ends[row] = labels->length;
+    }
+}
+
+/* Writes the reference text of the rows with these labels, of whose ends so many are lent. */
+static cundarivo_written_answer write_reference(
+    const struct envelope *envelope, const struct labels *labels, size_t end_count,
+    uint8_t *buffer, size_t buffer_length)
+{
+    size_t n = envelope->figures.n;
+    return cundarivo_write_reference(
+        envelope->rows, CUNDARIVO_PLACES, envelope->m, n,
+        envelope->codes, n,
+        labels->bytes, labels->length,
+        labels->ends, end_count,
+        buffer, buffer_length);
+}
+
+/* Prints why nothing is written where a call has to be refused. */
+static void print_not_written(const char *what, cundarivo_written_answer answer)
+{
+    if (answer.number == CUNDARIVO_ACCEPTED) {
+        fail(what);
+    }
+    print_refusal(stdout, what, answer.number, answer.line);
+}
+
+/* A text that is read, without '<', is written as its own bytes. */
+static void write_reference_back(const struct envelope *envelope)
+{
+    static struct labels labels;
+    uint8_t written[CUNDARIVO_REFERENCE_BYTES];
+    size_t m = envelope->m;
+    find_labels(bytes_of(REFERENCE), strlen(REFERENCE), m, &labels);
+    cundarivo_written_answer answer = write_reference(envelope, &labels, m, written, sizeof written);
+    require("writing the reference text", answer.number, answer.line);
+    if (answer.length != strlen(REFERENCE) || memcmp(written, REFERENCE, answer.length) != 0) {
+        fail("another reference text is written than was read");
+    }
+    printf("reference text written back: the same %zu bytes\n", answer.length);
+
+    answer = write_reference(envelope, &labels, m, written, answer.length - 1);
+    print_not_written("written in one byte fewer", answer);
+    answer = write_reference(envelope, &labels, m - 1, written, sizeof written);
+    print_not_written("written with one end fewer", answer);
+    labels.bytes[1] = 'b';
+    answer = write_reference(envelope, &labels, m, written, sizeof written);
+    print_not_written("written with the label b for B", answer);
+    labels.bytes[1] = 'A';
+    answer = write_reference(envelope, &labels, m, written, sizeof written);
+    print_not_written("written with the label A for B", answer);
 }
 
 static void draw(struct envelope *envelope)
@@ -337,7 +405,21 @@ static void print_output(const char *program, cundarivo_written_answer answer, c
     print_bytes(output, answer.length);
 }
 
-/* The four programs on the texts of the example, each lent by itself. */
+/* Values below detection are printed as the number that they read as. */
+static void run_plain(void)
+{
+    static const char text[] = "REF,2,TOC,CND\nA,<5,0\nB,6,<40\n";
+    uint8_t output[CUNDARIVO_PROGRAM_PLAIN_BYTES];
+    cundarivo_written_answer answer =
+        cundarivo_program_plain(bytes_of(text), strlen(text), output, sizeof output);
+    print_output("program plain", answer, output);
+    answer = cundarivo_program_plain(bytes_of(text), strlen(text) - 1, output, sizeof output);
+    print_output("program plain of a text without its last byte", answer, output);
+    answer = cundarivo_program_plain(bytes_of(text), strlen(text), output, 2);
+    print_not_written("program plain in 2 bytes", answer);
+}
+
+/* The other four programs on the texts of the example, each lent by itself. */
 static void run_programs(const struct text *record)
 {
     static struct text readings;
@@ -401,6 +483,7 @@ int main(void)
     static struct text record;
     read_reference(&envelope);
     read_faulty_reference();
+    write_reference_back(&envelope);
     draw(&envelope);
     check(&envelope);
     write_record(&envelope, &record);
@@ -413,6 +496,7 @@ int main(void)
     measure(&envelope, READINGS[2], 1);
     measure(&envelope, READINGS[4], 1);
     chart_and_panel(&envelope);
+    run_plain();
     run_programs(&record);
     run_programs_on_faults(&record);
     if (fflush(stdout) != 0 || ferror(stdout)) {
