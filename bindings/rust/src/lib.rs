@@ -1,7 +1,7 @@
-//! Safe calls of the proved library: reference texts read into rows, a tight ball round them drawn
-//! in whole numbers, the check of weights that anybody has chosen, the verdict on a reading, the
-//! records of envelopes written and read, and the figures of charts and of the panel. [`programs`]
-//! has the same as whole programs, text to text.
+//! Safe calls of the proved library: reference texts read into rows and written of them, a tight ball
+//! round the rows drawn in whole numbers, the check of weights that anybody has chosen, the verdict on
+//! a reading, the records of envelopes written and read, and the figures of charts and of the panel.
+//! [`programs`] has the same as whole programs, text to text.
 //!
 //! There are m rows (1 to 256) of n channels (1 to 8); each coordinate is a whole number from
 //! -4,000 to 4,000, counted in steps of its channel. Rows are lent as one list, row by row: the first
@@ -58,6 +58,17 @@
 //! high, which means below detection and reads as 0. [`read_reference`] reads such a text, and
 //! [`label`] finds the label of a row in it; [`read_reference_into`] and [`label_part`] are the
 //! library's own calls.
+//!
+//! [`write_reference`] writes the text of rows, codes and labels, and [`write_reference_into`] is the
+//! library's own call. Every value is written plain: `<5` that was read is written as 0, the number
+//! that it reads as.
+//!
+//! ```
+//! // Rows (0, 0) and (6, 8) of TOC and CND: codes 1 and 4.
+//! let text = cundarivo::write_reference(&[0, 0, 6, 8], 2, 2, &[1, 4], &["A", "B"])?;
+//! assert_eq!(text, b"REF,2,TOC,CND\nA,0,0\nB,6,8\n");
+//! # Ok::<(), cundarivo::Refusal>(())
+//! ```
 //!
 //! A *reading* is one line of a label, then tag and value of each channel. Its s is the squared
 //! length of (D times its values - X): it is Quiet where s is at most M, else an Alarm with s - M.
@@ -156,6 +167,7 @@ mod chart;
 mod measured;
 pub mod programs;
 mod record;
+mod reference;
 
 pub use chart::{Mark, MarkAnswer, PanelAnswer, Point, chart, chart_given, panel, panel_into};
 pub use measured::{Measured, MeasuredAnswer, measure, measure_into};
@@ -163,6 +175,7 @@ pub use record::{
     Envelope, RECORD_BYTES, WrittenAnswer, read_record, read_record_into, write_record,
     write_record_into,
 };
+pub use reference::{REFERENCE_BYTES, write_reference, write_reference_into};
 
 use std::error::Error;
 use std::fmt;
@@ -177,18 +190,19 @@ pub const CHANNELS: usize = 8;
 pub const TOTAL: u32 = 65_536;
 
 /// Input that was turned back: its number in the table of refusals, and the line at fault, counted
-/// from 1, or 0 where no line is at fault, as for 1, 7, 8, 9, 12 and 13.
+/// from 1, or 0 where no line is at fault, as for 1, 7, 8, 9, 12 and 13. Of a reference text that is to
+/// be written it is the line that the row at fault would have.
 ///
 /// | number | when |
 /// |---|---|
 /// | 1 | a text that is empty or above 65,536 bytes |
 /// | 2 | a bad heading or an unknown tag |
-/// | 3 | a line that is not in form, or has no byte 10 |
-/// | 4 | a value outside its type's range |
-/// | 5 | a label that an earlier row has |
+/// | 3 | a line that is not in form, or has no byte 10, or a label to be written that is not in form |
+/// | 4 | a value, read or to be written, outside its type's range |
+/// | 5 | a label, read or to be written, that an earlier row has |
 /// | 6 | no row, or a 257th |
 /// | 7 | a lent table of fewer than m·n places |
-/// | 8 | n, m, a coordinate, a type code or a figure of an envelope outside its limits, a channel of a chart outside 1 to n, rows of fewer than m·n places, a weight list not of m places or, in an envelope, of fewer than m or more than [`ROWS`], codes or X of fewer than n places, an ending that is neither 0 nor 1 |
+/// | 8 | n, m, a coordinate, a type code or a figure of an envelope outside its limits, a channel of a chart outside 1 to n, rows of fewer than m·n places, a weight list not of m places or, in an envelope, of fewer than m or more than [`ROWS`], codes or X of fewer than n places, labels to be written that are not m or whose ends do not part their bytes, an ending that is neither 0 nor 1 |
 /// | 9 | a budget above 1,000,000 |
 /// | 10 | a tag of a reading that is not the envelope's |
 /// | 11 | a record that is not in form |
@@ -198,7 +212,7 @@ pub const TOTAL: u32 = 65_536;
 pub struct Refusal {
     /// The number in the table above, 1 to 13.
     pub number: u32,
-    /// The line at fault in its text, counted from 1, or 0.
+    /// The line at fault in its text, read or to be written, counted from 1, or 0.
     pub line: u32,
 }
 
@@ -213,7 +227,7 @@ impl fmt::Display for Refusal {
             6 => "no row, or a 257th",
             7 => "lent table too short",
             8 => {
-                "rows, channels, a coordinate, the weight list, a figure or a chart channel outside the limits"
+                "rows, channels, a coordinate, the weight list, the labels, a figure or a chart channel outside the limits"
             }
             9 => "budget above 1,000,000",
             10 => "tag that is not the envelope's",

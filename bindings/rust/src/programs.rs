@@ -1,8 +1,9 @@
-//! The four programs as calls: their texts, each by itself, to the bytes of standard output.
+//! The five programs as calls: their texts, each by itself, to the bytes of standard output.
 //!
 //! | program | texts | output where none is refused |
 //! |---|---|---|
 //! | [`draw`] | reference text | the record of the envelope drawn with a budget of 10,000 moves |
+//! | [`plain`] | reference text | the same text with each value below detection as the number that it reads as |
 //! | [`verify`] | reference text, record | `OK` |
 //! | [`judge`] | reference text, record, readings | a line for each reading: `QUIET`, or `ALARM` and s - M, or its refusal |
 //! | [`panel`] | reference text, record | a line for each channel: tag and centre to the nearest whole step |
@@ -37,7 +38,7 @@
 //! assert_eq!(programs::judge(&embedding, &record, readings), b"NO,3,5\n");
 //! ```
 
-use crate::{RECORD_BYTES, Refusal, WrittenAnswer, accepted};
+use crate::{RECORD_BYTES, REFERENCE_BYTES, Refusal, WrittenAnswer, accepted};
 
 /// The most bytes of readings that are judged, and of what is written for each.
 const READING_BYTES: usize = 65_536;
@@ -55,6 +56,11 @@ pub const OUTPUT_BYTES: usize = OUTPUT_PER_READING_BYTE * READING_BYTES + REFUSA
 pub enum Call<'t> {
     /// See [`draw`].
     Draw {
+        /// The reference text.
+        reference: &'t [u8],
+    },
+    /// See [`plain`].
+    Plain {
         /// The reference text.
         reference: &'t [u8],
     },
@@ -85,6 +91,13 @@ pub enum Call<'t> {
 
 unsafe extern "C" {
     fn cundarivo_program_draw(
+        reference: *const u8,
+        reference_len: usize,
+        output: *mut u8,
+        output_len: usize,
+    ) -> WrittenAnswer;
+
+    fn cundarivo_program_plain(
         reference: *const u8,
         reference_len: usize,
         output: *mut u8,
@@ -162,6 +175,10 @@ impl Call<'_> {
             Call::Draw { reference } => unsafe {
                 cundarivo_program_draw(reference.as_ptr(), reference.len(), places, count)
             },
+            // SAFETY: as for `Draw`.
+            Call::Plain { reference } => unsafe {
+                cundarivo_program_plain(reference.as_ptr(), reference.len(), places, count)
+            },
             Call::Verify { reference, record } => {
                 answer_to_two(cundarivo_program_verify, reference, record, output)
             }
@@ -189,14 +206,16 @@ impl Call<'_> {
     }
 
     /// Bytes that are proved to be enough for the output: for `judge` as many as these readings ask
-    /// for (`readings_room` in `crates/program_judge/src/lib.rt`), for `draw` as many as a record has,
-    /// and fewer for `verify` and `panel` (`output_room` in `crates/program_verify/src/lib.rt` and
-    /// `crates/program_panel/src/lib.rt`).
+    /// for (`readings_room` in `crates/program_judge/src/lib.rt`), for `plain` as many as a reference
+    /// text has that is written (`output_room` in `crates/program_plain/src/lib.rt`), for `draw` as
+    /// many as a record has, and fewer for `verify` and `panel` (`output_room` in
+    /// `crates/program_verify/src/lib.rt` and `crates/program_panel/src/lib.rt`).
     fn room(self) -> usize {
         match self {
             Call::Judge { readings, .. } => {
                 OUTPUT_PER_READING_BYTE * readings.len().min(READING_BYTES) + REFUSAL_BYTES
             }
+            Call::Plain { .. } => REFERENCE_BYTES,
             _ => RECORD_BYTES,
         }
     }
@@ -239,6 +258,24 @@ fn answer_to_two(
 /// ```
 pub fn draw(reference: &[u8]) -> Vec<u8> {
     Call::Draw { reference }.run()
+}
+
+/// The reference text that [`write_reference`](crate::write_reference) gives of the rows, codes and
+/// labels of a reference text, or the text's refusal. Values are written plain: one below detection
+/// becomes the number that it reads as, 0. An accepted text without `<` is printed as it is.
+///
+/// ```
+/// use cundarivo::programs::plain;
+///
+/// let written = plain(b"REF,2,TOC,CND\nA,<5,0\nB,6,<40\n");
+/// assert_eq!(written, b"REF,2,TOC,CND\nA,0,0\nB,6,0\n");
+/// assert_eq!(plain(&written), written);
+///
+/// // `<` and a number above the range of TOC: 4, at the text's own line.
+/// assert_eq!(plain(b"REF,1,TOC\nA,<2001\n"), b"NO,4,2\n");
+/// ```
+pub fn plain(reference: &[u8]) -> Vec<u8> {
+    Call::Plain { reference }.run()
 }
 
 /// `OK` where a record agrees with the rows and tags of a reference text, else a refusal.
@@ -295,6 +332,25 @@ pub fn panel(reference: &[u8], record: &[u8]) -> Vec<u8> {
 /// Refusal 13, where the buffer is too short; then nothing is changed.
 pub fn draw_into(reference: &[u8], output: &mut [u8]) -> Result<usize, Refusal> {
     Call::Draw { reference }.run_into(output)
+}
+
+/// As [`plain`], into a lent buffer; gives the length of the output.
+///
+/// ```
+/// use cundarivo::programs::plain_into;
+///
+/// let mut output = [b'.'; 16];
+/// assert_eq!(plain_into(b"REF,1,TOC\nA,<5\n", &mut output)?, 14);
+/// assert_eq!(&output, b"REF,1,TOC\nA,0\n..");
+/// # Ok::<(), cundarivo::Refusal>(())
+/// ```
+///
+/// # Errors
+///
+/// Refusal 13, where the buffer is too short; then nothing is changed.
+/// [`REFERENCE_BYTES`] are always enough.
+pub fn plain_into(reference: &[u8], output: &mut [u8]) -> Result<usize, Refusal> {
+    Call::Plain { reference }.run_into(output)
 }
 
 /// As [`verify`], into a lent buffer; gives the length of the output.

@@ -45,6 +45,11 @@ fn calls() -> Result<(), Refusal> {
     let (m, n) = (counts.m, counts.n);
     assert_eq!((m, n), (ROWS, CHANNELS));
     assert_eq!(within(CALLS, || cundarivo::label(&text, m)), b"ROW-256");
+    let labels: Vec<String> = (1..=m).map(|row| format!("ROW-{row}")).collect();
+    let written = within(CALLS, || {
+        cundarivo::write_reference(&table, m, n, &codes, &labels)
+    })?;
+    assert_eq!(written, text);
     let drawing = within(CALLS, || cundarivo::draw(&table, m, n, 10_000))?;
     within(CALLS, || cundarivo::check(&table, m, n, &drawing.weights))?;
     let envelope = drawing.envelope(&codes);
@@ -61,8 +66,9 @@ fn calls() -> Result<(), Refusal> {
 }
 
 #[test]
-fn draw_verify_and_panel() {
+fn draw_plain_verify_and_panel() {
     let text = reference();
+    assert_eq!(within(PROGRAMS, || programs::plain(&text)), text);
     let record = within(PROGRAMS, || programs::draw(&text));
     assert!(record.starts_with(b"ENV,8"));
     let verified = within(PROGRAMS, || programs::verify(&text, &record));
