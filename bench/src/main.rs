@@ -17,6 +17,10 @@ mod record_fields;
 mod record_pass;
 mod records;
 mod redraw;
+mod reference;
+mod reference_fields;
+mod reference_pass;
+mod references;
 mod texts;
 mod verdict;
 
@@ -53,6 +57,7 @@ fn main() {
     records::measure_records(&mut random);
     charts::measure_charts(&mut random);
     redraw::measure_redraw(&mut random);
+    references::measure_references(&mut random);
     memory::measure_memory();
 }
 

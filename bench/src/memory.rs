@@ -26,6 +26,7 @@ pub fn measure_memory() {
     let verified = [largest.as_str(), &record.expect("a record in ASCII")];
     for (name, texts) in [
         ("draw", &verified[..1]),
+        ("plain", &verified[..1]),
         ("verify", &verified),
         ("panel", &verified),
         ("judge", &[REFERENCE, RECORD, &line_ends]),

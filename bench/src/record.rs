@@ -15,10 +15,10 @@ pub const TAGS: [&str; CHANNELS] = ["TOC", "TC", "IC", "CND", "TMP", "PH", "FLW"
 /// A refusal's number and line.
 pub type Refusal = (u32, u32);
 
-const OUTSIDE_LIMITS: Refusal = (8, 0);
+pub const OUTSIDE_LIMITS: Refusal = (8, 0);
 const TEXT_LENGTH: Refusal = (1, 0);
 const DISAGREES: Refusal = (12, 0);
-const TOO_SHORT: Refusal = (13, 0);
+pub const TOO_SHORT: Refusal = (13, 0);
 const RECORD_FORM: u32 = 11;
 
 /// A number of at most 19 digits.
@@ -118,7 +118,7 @@ pub struct Rows<'a> {
 
 impl<'a> Rows<'a> {
     /// The table and the first n codes.
-    fn within_limits(&self) -> Result<(Table<'a>, &'a [u8]), Refusal> {
+    pub fn within_limits(&self) -> Result<(Table<'a>, &'a [u8]), Refusal> {
         let table = Table::new(self.places, self.m, self.n).map_err(|_| OUTSIDE_LIMITS)?;
         let codes = self.codes.get(..self.n).ok_or(OUTSIDE_LIMITS)?;
         match codes.iter().all(|code| (1..=8).contains(code)) {

@@ -37,7 +37,9 @@ type Outcome = (
 
 pub fn measure_texts(random: &mut Random) {
     print_header("bytes");
-    let ordinary: Vec<Vec<u8>> = (0..TEXTS).map(|_| ordinary_text(random)).collect();
+    let ordinary: Vec<Vec<u8>> = (0..TEXTS)
+        .map(|_| ordinary_text(random, ROWS, CHANNELS))
+        .collect();
     let largest: Vec<Vec<u8>> = (0..TEXTS).map(|_| largest_text(random)).collect();
     let stretched: Vec<Vec<u8>> = largest.iter().map(|text| stretched(text)).collect();
     for (name, texts) in [
@@ -78,15 +80,19 @@ fn plain_read(text: &[u8]) -> Outcome {
     (counts, table, codes)
 }
 
-fn ordinary_text(random: &mut Random) -> Vec<u8> {
-    let mut text = format!("REF,{CHANNELS}");
-    TAGS.iter().for_each(|(tag, ..)| text += &format!(",{tag}"));
-    for row in 0..ROWS {
+/// A text of m rows and of the first n types.
+pub fn ordinary_text(random: &mut Random, m: usize, n: usize) -> Vec<u8> {
+    let types = &TAGS[..n];
+    let mut text = format!("REF,{n}");
+    types
+        .iter()
+        .for_each(|(tag, ..)| text += &format!(",{tag}"));
+    for row in 0..m {
         // The row's number in two digits keeps the labels apart.
         let more = "ABCDEFGHI".get(..random.below(10)).unwrap_or_default();
         text += &format!("\n{row:02X}{more}");
-        for channel in TAGS {
-            text += &format!(",{}", value(random, channel).0);
+        for channel in types {
+            text += &format!(",{}", value(random, *channel).0);
         }
     }
     (text + "\n").into_bytes()
