@@ -49,7 +49,7 @@ Exit status, for every command:
   3  of judge: some reading is an alarm or is turned back
 ";
 
-const COMMANDS: [Command; 9] = [
+const COMMANDS: [Command; 10] = [
     Command {
         name: "draw",
         words: "[REF]",
@@ -110,6 +110,21 @@ counts. What follows from them is for the shift lead to decide.
 
 Exit status 0 means that every reading is quiet; 3 that some reading is an
 alarm or is turned back.
+",
+    },
+    Command {
+        name: "plain",
+        words: "[REF]",
+        summary: "a reference text with every value as a plain number",
+        details: "\
+Prints the reference text of the table, types and labels of a reference text,
+with plain values: one below detection, <v, is printed as the number that it
+reads as, which is 0. How many there are, and where the first stands, is said
+on standard error. A text without them is printed as it is.
+
+What is printed reads as the same table with the same types and labels, so
+that 'draw' prints the same record of both. The detection limits are gone from
+it: print it to another file, and keep the text that has them.
 ",
     },
     Command {

@@ -4,8 +4,10 @@
 //!
 //! - `arguments`: the words of a command; `texts`: a command's texts, read; `output`: standard output.
 //! - `examined`: the texts through the library's calls, which is what statuses and words rest on.
-//! - `programs`: draw, verify, panel and judge, whose standard output is that of the proved program calls.
+//! - `programs`: draw, verify, panel, judge and plain, whose standard output is that of the proved program
+//!   calls.
 //! - `judged`: the readings of `judge`, measured; `explain`: these as `judge --explain` prints them.
+//! - `plain`: what `plain` prints, held against its text; the values below detection.
 //! - `show`: an envelope in units; `weighted_rows`: the rows that hold it.
 //! - `distances`, `units`, `types`, `columns`: distances in whole numbers, numbers as people read them, the
 //!   channel types, lines in columns.
@@ -24,6 +26,7 @@ mod failure;
 mod help;
 mod judged;
 mod output;
+mod plain;
 mod programs;
 mod redraw;
 mod refusals;
@@ -76,6 +79,7 @@ fn run(words: &[OsString]) -> Result<Status, Failure> {
         b"verify" => programs::verify(words),
         b"panel" => programs::panel(words),
         b"judge" => programs::judge(words),
+        b"plain" => programs::plain(words),
         b"show" => show::show(words),
         b"types" => types::print_types(words),
         b"refusals" => refusals::print_refusals(words),

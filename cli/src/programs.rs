@@ -1,4 +1,4 @@
-//! The four programs: their texts read, their proved calls made, the output of these printed as it is.
+//! The programs: their texts read, their proved calls made, the output of these printed as it is.
 
 use crate::arguments::Words;
 use crate::examined::{Reference, Refused, require_answer};
@@ -6,6 +6,7 @@ use crate::explain;
 use crate::failure::Failure;
 use crate::judged::{self, Reading};
 use crate::output;
+use crate::plain;
 use crate::status::Status;
 use crate::texts::Text;
 use crate::types;
@@ -71,6 +72,19 @@ pub fn judge(words: &[OsString]) -> Result<Status, Failure> {
         true => Status::Done,
         false => Status::NotAllQuiet,
     })
+}
+
+pub fn plain(words: &[OsString]) -> Result<Status, Failure> {
+    let [reference] = &read_texts("plain", words)?;
+    let answer = programs::plain(&reference.bytes);
+    let read = match Reference::read(reference) {
+        Ok(read) => read,
+        Err(refused) => return conclude(Some(refused), &answer, b""),
+    };
+    plain::require_same(&read, &answer)?;
+    output::print(&answer)?;
+    plain::tell_below_detection(&read);
+    Ok(Status::Done)
 }
 
 fn read_texts<const COUNT: usize>(
