@@ -40,17 +40,17 @@ const TABLE: [Entry; 13] = [
     ),
     refusal(
         "line not in form",
-        "a row of a reference text, a single reading",
+        "a row of a reference text, a single reading; labels that callers write",
         "mend the line as the hint says; each line ends in byte 10",
     ),
     refusal(
         "value outside its type's range",
-        "a row of a reference text, a single reading",
+        "a row of a reference text, a single reading; values that callers write",
         "count the value in the steps of 'envelope types', or check its column",
     ),
     refusal(
         "label used on an earlier row",
-        "a row of a reference text",
+        "a row of a reference text; labels that callers write",
         "give one of the two rows another label, or remove it",
     ),
     refusal(
@@ -66,7 +66,7 @@ const TABLE: [Entry; 13] = [
     refusal(
         "number or list outside its limits",
         LIBRARY,
-        "see what the call states of n, m, values, codes, weights and figures",
+        "see what the call says of n, m, values, codes, labels, weights, figures",
     ),
     refusal(
         "budget above 1,000,000",
