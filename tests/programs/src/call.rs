@@ -82,7 +82,8 @@ impl Way {
         }
     }
 
-    /// Asserts what was printed, with its status. A refusal is said by the command in words too.
+    /// Asserts what was printed, with its status. A refusal is said by the command in words too, and of
+    /// values below detection that `plain` prints there is a line.
     pub fn assert_answer(self, ended: &Ended, name: &str, output: impl AsRef<[u8]>) {
         let output = output.as_ref();
         assert!(
@@ -97,9 +98,11 @@ impl Way {
             "{}",
             ended.messages
         );
-        if self == Way::Command && lines(output).any(|line| line.starts_with(b"NO,")) {
+        if self == Way::Command && has_refusal(name, output) {
             ended.assert_words();
             assert!(!refuses_a_text(output) || !ended.messages.is_empty());
+        } else if self == Way::Command && name == "plain" && !ended.messages.is_empty() {
+            assert!(notes_below_detection(ended), "{}", ended.messages);
         } else {
             assert_eq!(ended.messages, "");
         }
@@ -116,6 +119,22 @@ fn refuses_a_text(output: &[u8]) -> bool {
         b"NO,3,1\n" | b"NO,4,1\n" | b"NO,10,1\n" => false,
         first => first.starts_with(b"NO,"),
     }
+}
+
+/// Whether a text or a reading is refused. Behind the heading that `plain` prints, `NO` is a label.
+fn has_refusal(name: &str, output: &[u8]) -> bool {
+    match name {
+        "plain" => refuses_a_text(output),
+        _ => lines(output).any(|line| line.starts_with(b"NO,")),
+    }
+}
+
+/// Whether the only message is that values below detection were printed as plain numbers.
+fn notes_below_detection(ended: &Ended) -> bool {
+    let mut lines = ended.messages.split_inclusive('\n');
+    let first = lines.next().unwrap_or_default();
+    let says = first.contains(" below detection ") && first.contains(" on line ");
+    first.starts_with("envelope: ") && first.ends_with('\n') && says && lines.next().is_none()
 }
 
 fn all_quiet(output: &[u8]) -> bool {

@@ -22,7 +22,7 @@ pub mod system;
 
 use std::path::{Path, PathBuf};
 
-pub const PROGRAMS: [&str; 4] = ["draw", "verify", "panel", "judge"];
+pub const PROGRAMS: [&str; 5] = ["draw", "verify", "panel", "judge", "plain"];
 /// The most bytes of a text.
 pub const TEXT_LIMIT: usize = 65_536;
 /// The three sampling points of `examples`.
@@ -60,7 +60,7 @@ pub fn example(name: &str, kind: &str) -> Vec<u8> {
 /// How many texts a program takes.
 pub fn texts(name: &str) -> usize {
     match name {
-        "draw" => 1,
+        "draw" | "plain" => 1,
         "judge" => 3,
         _ => 2,
     }
@@ -78,6 +78,7 @@ pub fn answer(name: &str) -> &'static str {
         "draw" => RECORD,
         "verify" => "OK\n",
         "panel" => "TOC,3\nCND,4\n",
+        "plain" => REFERENCE,
         _ => "QUIET\n",
     }
 }

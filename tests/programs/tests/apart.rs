@@ -32,7 +32,9 @@ fn an_embedded_record_is_refused_with_its_reference_text() {
     let honest = record(HONEST);
     assert_refused("judge", &[&embedded, &honest, HIGH], "NO,3,4\n");
     assert_refused("judge", &[&embedded, &record(WIDE), HIGH], "NO,3,4\n");
-    assert_refused("draw", &[&embedded], "NO,3,4\n");
+    for name in ["draw", "plain"] {
+        assert_refused(name, &[&embedded], "NO,3,4\n");
+    }
     for name in ["verify", "panel"] {
         assert_refused(name, &[&embedded, &honest], "NO,3,4\n");
     }
@@ -56,8 +58,10 @@ fn joined_texts_are_not_taken_apart() {
     ended.assert_failed(
         "too few texts for judge; usage: envelope judge [--explain] REF ENV [READINGS]",
     );
-    let ended = envelope(&["draw"], joined.as_bytes());
-    Way::Command.assert_answer(&ended, "draw", "NO,3,4\n");
+    for name in ["draw", "plain"] {
+        let ended = envelope(&[name], joined.as_bytes());
+        Way::Command.assert_answer(&ended, name, "NO,3,4\n");
+    }
 }
 
 #[test]
@@ -100,6 +104,7 @@ fn an_empty_line_in_a_reference_text_is_refused() {
         (format!("REF,1,TOC\n{rows}\n"), "NO,6,258\n"),
     ] {
         assert_refused("draw", &[&reference], output);
+        assert_refused("plain", &[&reference], output);
         assert_refused("verify", &[&reference, RECORD], output);
         assert_refused("panel", &[&reference, RECORD], output);
         assert_refused("judge", &[&reference, RECORD, READING], output);
@@ -123,6 +128,7 @@ fn an_empty_line_in_a_record_is_refused() {
 #[test]
 fn record_and_reference_text_exchanged_are_refused() {
     assert_refused("draw", &[RECORD], "NO,2,1\n");
+    assert_refused("plain", &[RECORD], "NO,2,1\n");
     assert_refused("verify", &[RECORD, REFERENCE], "NO,2,1\n");
     assert_refused("panel", &[RECORD, REFERENCE], "NO,2,1\n");
     assert_refused("judge", &[RECORD, REFERENCE, READING], "NO,2,1\n");

@@ -33,8 +33,11 @@ fn a_missing_argument_is_told() {
 /// The first one that is too many, before a file is opened.
 #[test]
 fn an_argument_in_excess_is_told() {
-    assert_told("draw", &["x.ref"], "argument 1 'x.ref': one too many");
-    assert_told("draw", &["a", "b"], "argument 1 'a': one too many");
+    for name in ["draw", "plain"] {
+        assert_told(name, &["x.ref"], "argument 1 'x.ref': one too many");
+        assert_told(name, &["a", "b"], "argument 1 'a': one too many");
+        assert_told(name, &["--help"], "argument 1 '--help': one too many");
+    }
     for name in ["verify", "panel"] {
         assert_told(name, &["a", "x.env"], "argument 2 'x.env': one too many");
         assert_told(name, &["a", "b", "c"], "argument 2 'b': one too many");

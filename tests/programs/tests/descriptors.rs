@@ -269,15 +269,23 @@ fn a_pipe_that_nobody_reads_is_told() {
     }
 }
 
-/// Messages that cannot be written change neither the answer nor the status.
+/// Messages that cannot be written change neither the answer nor the status: words of a refusal, and the
+/// line on values below detection.
 #[test]
 fn messages_that_cannot_be_written_change_nothing() {
-    for (reference, output) in [(REFERENCE, RECORD), ("REF,0\n", "NO,2,1\n")] {
+    let below = REFERENCE.replace(",0", ",<7");
+    for (name, reference, output) in [
+        ("draw", REFERENCE, RECORD),
+        ("draw", "REF,0\n", "NO,2,1\n"),
+        ("plain", REFERENCE, REFERENCE),
+        ("plain", &below, REFERENCE),
+        ("plain", "REF,0\n", "NO,2,1\n"),
+    ] {
         for redirections in ["2>/dev/full", "2>&-", "2</dev/null"] {
             let folder = Folder::new();
-            let command = Way::Command.command("draw", &folder.write_texts(&[reference]));
+            let command = Way::Command.command(name, &folder.write_texts(&[reference]));
             let ended = end(&mut redirected(redirections, &command), b"");
-            let status = Way::Command.status("draw", output.as_bytes());
+            let status = Way::Command.status(name, output.as_bytes());
             ended.assert_printed(output, status);
         }
     }
@@ -297,10 +305,12 @@ fn a_descriptor_that_is_open_the_wrong_way_is_told() {
             if way == Way::Program && !files.is_empty() {
                 continue;
             }
-            let command = way.command("draw", files);
-            let ended = end(&mut redirected(redirections, &command), b"");
-            let line = format!("{}: standard {stream}: {bad}", way.teller("draw"));
-            ended.assert_told(&line, way.failed());
+            for name in ["draw", "plain"] {
+                let command = way.command(name, files);
+                let ended = end(&mut redirected(redirections, &command), b"");
+                let line = format!("{}: standard {stream}: {bad}", way.teller(name));
+                ended.assert_told(&line, way.failed());
+            }
         }
     }
 }

@@ -1,4 +1,4 @@
-//! The command with the four programs: where it takes the texts from, what it prints, its exit statuses and
+//! The command with the programs: where it takes the texts from, what it prints, its exit statuses and
 //! its help.
 
 use programs::call::Way;
@@ -107,10 +107,11 @@ fn the_longest_output_is_passed_on_whole() {
 #[test]
 fn the_examples_give_what_stands_beside_them() {
     for point in EXAMPLES {
-        let [reference, record, readings, panel, verdicts] =
-            ["ref", "env", "readings", "panel", "verdicts"]
+        let [reference, plain, record, readings, panel, verdicts] =
+            ["ref", "plain", "env", "readings", "panel", "verdicts"]
                 .map(|kind| String::from_utf8(example(point, kind)).expect("a text"));
         assert_ends("draw", &[&reference], &record, 0);
+        assert_ends("plain", &[&reference], &plain, 0);
         assert_ends("verify", &[&reference, &record], "OK\n", 0);
         assert_ends("panel", &[&reference, &record], &panel, 0);
         assert_ends("judge", &[&reference, &record, &readings], &verdicts, 3);
@@ -202,17 +203,19 @@ fn a_fifo_whose_writer_has_gone_is_an_empty_text() {
 fn a_hyphen_is_standard_input_also_behind_two() {
     let folder = Folder::new();
     folder.write("-", REFERENCE);
-    let run = |words: &[&str]| {
-        let mut command = Way::Command.command("draw", words);
-        end(command.current_dir(folder.path()), b"REF,0\n")
-    };
-    for words in [&["-"][..], &["--", "-"], &["-", "--"], &["--"], &[]] {
-        Way::Command.assert_answer(&run(words), "draw", "NO,2,1\n");
+    for name in ["draw", "plain"] {
+        let run = |words: &[&str]| {
+            let mut command = Way::Command.command(name, words);
+            end(command.current_dir(folder.path()), b"REF,0\n")
+        };
+        for words in [&["-"][..], &["--", "-"], &["-", "--"], &["--"], &[]] {
+            Way::Command.assert_answer(&run(words), name, "NO,2,1\n");
+        }
+        for words in [&["./-"][..], &["--", "./-"]] {
+            run(words).assert_printed(answer(name), 0);
+        }
+        run(&["--", "--"]).assert_told("envelope: '--': No such file or directory", 2);
     }
-    for words in [&["./-"][..], &["--", "./-"]] {
-        run(words).assert_printed(RECORD, 0);
-    }
-    run(&["--", "--"]).assert_told("envelope: '--': No such file or directory", 2);
 }
 
 #[test]
@@ -258,6 +261,9 @@ fn too_few_and_too_many_texts_are_bad_usage() {
         (&["draw", "a", "b"][..], "many", "draw [REF]"),
         (&["draw", "-", "-"], "many", "draw [REF]"),
         (&["draw", "--", "a", "b"], "many", "draw [REF]"),
+        (&["plain", "a", "b"], "many", "plain [REF]"),
+        (&["plain", "-", "-"], "many", "plain [REF]"),
+        (&["plain", "--", "a", "b"], "many", "plain [REF]"),
         (&["verify"], "few", "verify REF [ENV]"),
         (&["verify", "--"], "few", "verify REF [ENV]"),
         (&["verify", "a", "b", "c"], "many", "verify REF [ENV]"),
@@ -319,6 +325,7 @@ fn help_names_every_command_and_status() {
         "envelope verify REF [ENV]\n",
         "envelope panel REF [ENV]\n",
         "envelope judge ",
+        "envelope plain [REF]\n",
         "envelope redraw ",
         "envelope show REF [ENV]\n",
         "envelope types\n",

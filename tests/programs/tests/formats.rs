@@ -46,19 +46,21 @@ fn every_example_of_a_refusal_is_answered_as_it_says() {
         let (folder, example) = (Folder::new(), text(example));
         folder.write("x.ref", REFERENCE);
         folder.write("x.env", RECORD);
-        let (words, status) = match kind.as_str() {
-            "reference" => (&["draw"][..], 1),
-            "record" => (&["verify", "x.ref"][..], 1),
-            _ => (&["judge", "x.ref", "x.env"][..], 3),
+        let (calls, status): (&[&[&str]], i32) = match kind.as_str() {
+            "reference" => (&[&["draw"], &["plain"]], 1),
+            "record" => (&[&["verify", "x.ref"]], 1),
+            _ => (&[&["judge", "x.ref", "x.env"]], 3),
         };
-        let mut command = command(path());
-        command.args(words).current_dir(folder.path());
-        let ended = end(&mut command, example.as_bytes());
-        assert_eq!(
-            (ended.text(), ended.status),
-            (&*text(&format!("{answer}⏎")).replace('`', ""), status),
-            "{row:?}"
-        );
+        for words in calls {
+            let mut command = command(path());
+            command.args(*words).current_dir(folder.path());
+            let ended = end(&mut command, example.as_bytes());
+            assert_eq!(
+                (ended.text(), ended.status),
+                (&*text(&format!("{answer}⏎")).replace('`', ""), status),
+                "{row:?}"
+            );
+        }
         assert!(
             answer
                 .trim_matches('`')
@@ -96,15 +98,20 @@ fn its_texts_are_those_of_an_example() {
     let reference = programs::example("purified-water", "ref");
     let record = programs::example("purified-water", "env");
     let readings = programs::example("purified-water", "readings");
-    let part = |start: &str| {
-        let from = document.find(&format!("```text\n{start}")).expect("a text") + 8;
-        let length = document[from..].find("```").expect("an end");
-        document[from..from + length].to_string()
+    let parts = |start: &str| -> Vec<String> {
+        let texts = document.split("```text\n").skip(1);
+        let texts = texts.filter_map(|rest| rest.split("```").next());
+        let texts = texts.filter(|text| text.starts_with(start));
+        texts.map(str::to_string).collect()
     };
+    let part = |start: &str| parts(start).swap_remove(0);
     let rows = part("REF,");
     assert!(reference.starts_with(rows.lines().next().expect("a heading").as_bytes()));
     let drawn = envelope(&["draw"], rows.as_bytes());
     assert_eq!(drawn.status, 0, "{}", drawn.messages);
+    let plain = envelope(&["plain"], rows.as_bytes());
+    assert_eq!((plain.text(), plain.status), (&*parts("REF,")[1], 0));
+    assert!(plain.messages.contains(": 1 value below detection "));
     assert_eq!(part("ENV,").as_bytes(), record);
     let reading = part("PW1-");
     assert!(

@@ -28,8 +28,8 @@ const TURNED_BACK: [&str; 4] = [
 ];
 
 /// Every command, as help names it.
-const COMMANDS: [&str; 9] = [
-    "draw", "verify", "panel", "judge", "show", "redraw", "types", "refusals", "help",
+const COMMANDS: [&str; 10] = [
+    "draw", "verify", "panel", "judge", "plain", "show", "redraw", "types", "refusals", "help",
 ];
 
 fn run<Text: AsRef<[u8]>>(words: &[&str], texts: &[Text]) -> Ended {
@@ -180,6 +180,8 @@ fn readings_that_are_turned_back_are_said_in_words() {
 fn a_refused_text_is_1() {
     for (words, texts) in [
         (&["draw"][..], &["REF,0\n"][..]),
+        (&["plain"], &["REF,0\n"]),
+        (&["plain"], &["REF,1,TOC\nA,<5\nB,<0\n"]),
         (&["verify"], &[REFERENCE, "ENV,0\n"]),
         (&["panel"], &[REFERENCE, "ENV,0\n"]),
         (&["show"], &["REF,0\n"]),
@@ -207,6 +209,10 @@ fn bad_usage_is_2() {
         &["\x1b[31m"],
         &["draw", "a", "b"],
         &["draw", "--explain"],
+        &["plain", "a", "b"],
+        &["plain", "-", "-"],
+        &["plain", "--explain"],
+        &["plain", "-x", "a"],
         &["verify"],
         &["judge", "a"],
         &["judge", "--explain", "a"],
@@ -242,6 +248,8 @@ fn files_that_cannot_be_read_are_2() {
     let here = folder.path().to_str().expect("UTF-8");
     for (words, reason) in [
         (&["show", "missing"][..], "'missing': No such file"),
+        (&["plain", "missing"], "'missing': No such file"),
+        (&["plain", here], ": Is a directory"),
         (&["show", files[0], "missing"], "'missing': No such file"),
         (&["show", here], ": Is a directory"),
         (
@@ -323,7 +331,7 @@ fn help_says_how_each_command_is_used() {
     let listed = overview.text().lines();
     let listed = listed.filter_map(|line| line.strip_prefix("  envelope "));
     let listed: Vec<&str> = listed.filter_map(|line| line.split(' ').next()).collect();
-    assert_eq!(listed[..9], COMMANDS);
+    assert_eq!(listed[..COMMANDS.len()], COMMANDS);
     for name in COMMANDS {
         let ended = envelope(&["help", name], b"");
         let usage = ended.text().lines().next().expect("a line");

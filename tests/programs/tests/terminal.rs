@@ -15,15 +15,17 @@ const END_OF_INPUT: &str = "\x04";
 
 #[test]
 fn a_text_that_is_typed_is_asked_for() {
-    let (mut person, program) = open_terminal();
-    let typed = format!("{REFERENCE}{END_OF_INPUT}");
-    person.write_all(typed.as_bytes()).expect("a terminal");
-    let ended = end_on(command(path()).arg("draw"), program);
-    assert_eq!(
-        ended.messages,
-        "envelope: reading standard input; Ctrl-D ends it\n"
-    );
-    assert_eq!((ended.text(), ended.status), (RECORD, 0));
+    for (name, output) in [("draw", RECORD), ("plain", REFERENCE)] {
+        let (mut person, program) = open_terminal();
+        let typed = format!("{REFERENCE}{END_OF_INPUT}");
+        person.write_all(typed.as_bytes()).expect("a terminal");
+        let ended = end_on(command(path()).arg(name), program);
+        assert_eq!(
+            ended.messages,
+            "envelope: reading standard input; Ctrl-D ends it\n"
+        );
+        assert_eq!((ended.text(), ended.status), (output, 0));
+    }
 }
 
 /// Everything that is written to a terminal until nobody has it open.

@@ -75,6 +75,24 @@ fn reference_texts_of_analysts() {
     }
 }
 
+/// `plain` refuses the same texts and says the same of each; what it prints of the others is drawn alike.
+#[test]
+fn reference_texts_of_analysts_written_plain() {
+    let mut refused = 0;
+    for name in named(".ref") {
+        let [drawn, plain] = ["draw", "plain"].map(|command| in_fixtures(&[command, &name], b""));
+        assert_eq!(plain.status, drawn.status, "{name}");
+        if ACCEPTED.contains(&name.as_str()) {
+            envelope(&["draw"], &plain.output).assert_printed(drawn.text(), 0);
+        } else {
+            assert_eq!(plain.text(), drawn.text(), "{name}");
+            assert_eq!(plain.messages, drawn.messages, "{name}");
+            refused += 1;
+        }
+    }
+    assert_eq!(refused, REFUSED);
+}
+
 #[test]
 fn readings_of_analysts() {
     let record = in_fixtures(&["draw", "good.ref"], b"").output;
@@ -107,6 +125,8 @@ fn every_command_tells_a_refused_text() {
     for words in [
         &["draw", "x.ref"][..],
         &["draw", "-"],
+        &["plain", "x.ref"],
+        &["plain", "-"],
         &["verify", "x.ref", "-"],
         &["panel", "-", "x.ref"],
         &["judge", "x.ref", "-", "x.ref"],
