@@ -62,17 +62,17 @@ fn ends_within(labels: &[u8], ends: &[usize], m: usize) -> bool
     if ends.len() != m {
         return false;
     }
-    let mut from = 0;
+    let mut reached = 0;
     let mut i = 0;
     while i < ends.len() {
         let end = ends[i];
-        if end < from {
+        if end < reached {
             return false;
         }
-        from = end;
+        reached = end;
         i += 1;
     }
-    from == labels.len()
+    reached == labels.len()
 }
 
 // Whether each of n numbers is within the range of its type.

@@ -14,11 +14,11 @@ use Rattle.reference_write.proofs.ends_within.Statement.{statement}
 use Rattle.reference_write.proofs.ends_within.Tie as tie
 
 abbrev Inv-loop : tie.InvT-loop
-Inv-loop labels ends m from₀ i₀ from i =
-    (i ≤ length ends) × (endsReach 0 ends (length labels) ≡ endsReach from (drop i ends) (length labels))
+Inv-loop labels ends m reached₀ i₀ reached i =
+    (i ≤ length ends) × (endsReach 0 ends (length labels) ≡ endsReach reached (drop i ends) (length labels))
 
 abbrev μ-loop : tie.MeasureT-loop
-μ-loop labels ends m from₀ i₀ from i = length ends - i
+μ-loop labels ends m reached₀ i₀ reached i = length ends - i
 
 returns : tie.Need-returns Inv-loop μ-loop
 returns c = ap (λ t. t && endsReach 0 (c .before .args .ends .now) (length (c .before .args .labels .now))) (sym (ne-eqb _ _ (c .if1 .taken)))
@@ -39,8 +39,8 @@ returns-2 c =
     let end = getD (args .ends .now) (loop .i) 0 in
     ap₂ _&&_ (sym (counted (at-loop .before)))
     (sym
-    (loop .inv .1 ∙ reach-at (args .ends .now) (loop .i) (omega arith) (loop .from) count
-    ∙ ap (λ t. t && endsReach end (drop (loop .i + 1) (args .ends .now)) count) (lt-leb (loop .from) end (c .if2 .taken))))
+    (loop .inv .1 ∙ reach-at (args .ends .now) (loop .i) (omega arith) (loop .reached) count
+    ∙ ap (λ t. t && endsReach end (drop (loop .i + 1) (args .ends .now)) count) (lt-leb (loop .reached) end (c .if2 .taken))))
 
 loop-again : tie.Need-loop-again Inv-loop μ-loop
 loop-again c =
@@ -50,8 +50,8 @@ loop-again c =
     let count = length (args .labels .now) in
     let end = getD (args .ends .now) (loop .i) 0 in (
       omega arith,
-      loop .inv .1 ∙ reach-at (args .ends .now) (loop .i) (omega arith) (loop .from) count
-          ∙ ap (λ t. t && endsReach end (drop (loop .i + 1) (args .ends .now)) count) (le-leb (loop .from) end (c .if2 .left)),
+      loop .inv .1 ∙ reach-at (args .ends .now) (loop .i) (omega arith) (loop .reached) count
+          ∙ ap (λ t. t && endsReach end (drop (loop .i + 1) (args .ends .now)) count) (le-leb (loop .reached) end (c .if2 .left)),
     )
 
 returns-3 : tie.Need-returns-3 Inv-loop μ-loop
@@ -61,7 +61,7 @@ returns-3 c =
     let loop = at-loop .loop in
     sym
     (ap₂ _&&_ (counted (at-loop .before))
-    (loop .inv .1 ∙ reach-done (args .ends .now) (loop .i) (omega arith) (loop .from) (length (args .labels .now))))
+    (loop .inv .1 ∙ reach-done (args .ends .now) (loop .i) (omega arith) (loop .reached) (length (args .labels .now))))
 
 pub ends-within-spec : {M : Type 1} → statement M
 ends-within-spec =
