@@ -13,7 +13,6 @@ use Rattle.refusal.specs.Outcome.{numberOf}
 use Rattle.refusal.specs.declared.Outcome.{Outcome}
 use Rattle.refusal.specs.declared.Outcome.the-variants.{Accepted}
 use Rattle.limits.specs.Limits.{rowLimit, channelLimit}
-use Rattle.lent.specs.Contracts.{textWritten}
 use Rattle.lent.specs.Filled.{filled}
 use Rattle.lent.specs.declared.TextWritten.{TextWritten}
 use Rattle.geometry.specs.Table.{rowsWithin}
@@ -34,8 +33,8 @@ accepted-places rows m n all is only within z =
     let table = within-table rows m n (within accepted) in
     (is ∙ accepted, (table .channels, omega (arith, table .rows-most)))
 
-pub numbered : (text lent : List ℕ) (places : ℕ) {after : List ℕ} {w : TextWritten} {a : WrittenAnswer} → a ≡ writtenInNumbers w → w ≡ textWritten text places
+pub numbered : (text lent : List ℕ) (defined : TextWritten) {after : List ℕ} {w : TextWritten} {a : WrittenAnswer} → a ≡ writtenInNumbers w → w ≡ defined
     → after ≡ filled (numberOf (w .outcome)) (w .length) text lent
-    → (a ≡ writtenInNumbers (textWritten text places)) × (after ≡ filled (a .number) (a .length) text lent)
-numbered text lent places is written filling =
+    → (a ≡ writtenInNumbers defined) × (after ≡ filled (a .number) (a .length) text lent)
+numbered text lent defined is written filling =
     (is ∙ ap writtenInNumbers written, filling ∙ ap (λ (x : WrittenAnswer). filled (x .number) (x .length) text lent) (sym is))

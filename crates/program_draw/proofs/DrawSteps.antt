@@ -3,11 +3,10 @@
 use Prim.Native.Nat.{ℕ, _*_, _≤_}
 use mathlib.Core.Path.{_≡_, refl, sym, ap, ap₂, _∙_}
 use mathlib.Core.Bool.{true}
-use mathlib.Core.List.{List, _++_}
+use mathlib.Core.List.{List}
 use native.Mathlib.Omega.{arith}
 use lib.IntN.{ℤ}
-use lib.ListN.{length, take, drop, length-append, length-drop}
-use lib.Seq.{take-at, take-length}
+use lib.ListN.{length, take}
 use Rattle.lent.specs.Filled.{filled}
 use Rattle.lists.specs.Padded.{padded}
 use Rattle.refusal.specs.Outcome.{numberOf}
@@ -30,22 +29,11 @@ use Rattle.record_write.specs.Contracts.{recordWritten}
 use Rattle.lent.specs.Contracts.{written}
 use Rattle.record.specs.HouseLaws.{house-drawn-most, house-drawn-written}
 use Rattle.lent.specs.declared.TextWritten.{TextWritten}
+use Rattle.program_lines.proofs.LineSteps.{filled-put}
 use Rattle.program_draw.specs.Output.{drawBudget, drawOutput}
 use Rattle.program_draw.specs.OutputLaws.{draw-accepted, draw-record}
 use Rattle.program_draw.specs.Contracts.{drawRoom}
 use Rattle.program_record.proofs.ReadSteps.{RowsRead}
-
--- a slice whose first places are filled with a text
-filled-put : (text out : List ℕ) → length text ≤ length out → Put text out 0 (filled 0 (length text) text out) (length text)
-unfolding filled
-filled-put text out room =
-    let first : take (length text) text ≡ text = take-length text in
-    let parts : filled 0 (length text) text out ≡ text ++ drop (length text) out = ap (λ (l : List ℕ). l ++ drop (length text) out) first in
-    record {
-      next = omega arith;
-      is = ap (take (length text)) parts ∙ take-at text (drop (length text) out) (length text) refl;
-      same-length = ap length parts ∙ length-append text (drop (length text) out) ∙ omega (arith, length-drop (length text) out);
-    }
 
 module _ {text : List ℕ} {r : Reference} {table : List ℤ} (read : RowsRead text r table) {d : Drawing}
     (promise : DrawPromise (take (r .m * r .n) table) (r .m) (r .n) drawBudget d) where
