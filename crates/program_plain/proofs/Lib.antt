@@ -1,0 +1,3 @@
+-- What the proofs of `plain` use.
+pub mod GatherSteps
+pub mod PlainSteps
