@@ -10,6 +10,7 @@ ghost use Rattle.program_draw.specs.Output.{drawOutput};
 ghost use Rattle.program_verify.specs.Output.{verifyOutput};
 ghost use Rattle.program_panel.specs.Output.{panelOutput};
 ghost use Rattle.program_judge.specs.Output.{judgeOutput};
+ghost use Rattle.program_plain.specs.Output.{plainOutput};
 ghost use Rattle.export_answers.specs.Contracts.{writtenInNumbers};
 use export_answers::WrittenAnswer;
 
@@ -77,4 +78,17 @@ pub extern "C" fn cundarivo_program_panel(
         (panelOutput total rowLimit channelTypes (now (reference .entry)) (now («record_text» .entry))) (now (output .entry)) ⌝ }
 {
     export_programs::panel(reference, record_text, output)
+}
+
+// The program `plain`: a reference text with each value plain. Output and refusal as for `draw`.
+#[no_mangle]
+pub extern "C" fn cundarivo_program_plain(reference: &[u8], output: &mut [u8]) -> WrittenAnswer
+    ensures answer { λ r.
+        ⌜ r ≡ writtenInNumbers (textWritten (plainOutput rowLimit channelTypes (now (reference .entry)))
+        (length (now (output .entry)))) ⌝ }
+    ensures output_filled { λ r.
+        ⌜ now (output .exit) ≡ filled (r .number) (r .length)
+        (plainOutput rowLimit channelTypes (now (reference .entry))) (now (output .entry)) ⌝ }
+{
+    export_programs::plain(reference, output)
 }

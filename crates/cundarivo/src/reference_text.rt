@@ -8,8 +8,12 @@ ghost use Rattle.channel.specs.Channel.{channelTypes};
 ghost use Rattle.reference.specs.Reference.{content};
 ghost use Rattle.reference.specs.Contracts.{referenceRead, valuesIn};
 ghost use Rattle.reference_label.specs.Contracts.{labelPart};
+ghost use Rattle.reference_write.specs.Writing.{lentTable, lentText};
+ghost use Rattle.reference_write.specs.Contracts.{writtenText, referenceWritten};
+ghost use Rattle.export_answers.specs.Contracts.{writtenInNumbers};
 ghost use Rattle.export_reference.specs.Contracts.{referenceAnswer, labelAnswer};
 use channel::Code;
+use export_answers::WrittenAnswer;
 use export_reference::LabelAnswer;
 use export_reference::ReferenceAnswer;
 
@@ -41,4 +45,30 @@ pub extern "C" fn cundarivo_label(text: &[u8], row: usize) -> LabelAnswer
     ensures { λ r. ⌜ r ≡ labelAnswer (labelPart rowLimit channelTypes (now (text .entry)) row) ⌝ }
 {
     export_reference::label(text, row)
+}
+
+// Writes the reference text of a table: m rows of n channels of these codes, of `rows` the first m·n places and of `codes` the first n.
+// The labels are lent as their bytes, one label after another, and `ends` has the index at which each ends. Where the text fits, it fills
+// the first `length` places of `buffer` and no other. Refused, with `buffer` as it was: 8, then row by row 3, 4, 5, last 13.
+#[no_mangle]
+pub extern "C" fn cundarivo_write_reference(
+    rows: &[i32],
+    m: usize,
+    n: usize,
+    codes: &[Code],
+    labels: &[u8],
+    ends: &[usize],
+    buffer: &mut [u8],
+) -> WrittenAnswer
+    ensures answer { λ r.
+        ⌜ r ≡ writtenInNumbers (referenceWritten rowLimit channelTypes
+        (lentTable (now (rows .entry)) m n (now (codes .entry)) (now (labels .entry)) (now (ends .entry)))
+        (length (now (buffer .entry)))) ⌝ }
+    ensures buffer_filled { λ r.
+        ⌜ now (buffer .exit) ≡ filled (r .number) (r .length)
+        (writtenText channelTypes (lentText rowLimit channelTypes
+        (lentTable (now (rows .entry)) m n (now (codes .entry)) (now (labels .entry)) (now (ends .entry)))))
+        (now (buffer .entry)) ⌝ }
+{
+    export_reference::write(rows, m, n, codes, labels, ends, buffer)
 }

@@ -1,5 +1,5 @@
-// The reference text for C and Rust: its table and codes go into slices of the caller's, a label is handed back by its place
-// in the text.
+// The reference text for C and Rust: where it is read, its table and codes go into slices of the caller's, and a label is handed back by
+// its place in the text; where it is written, the text goes into such a slice.
 ghost use Prim.Native.Nat.{_*_};
 ghost use mathlib.Core.Path.{_≡_};
 ghost use lib.ListN.{length};
@@ -9,9 +9,14 @@ ghost use Rattle.channel.specs.Channel.{channelTypes};
 ghost use Rattle.reference.specs.Reference.{content};
 ghost use Rattle.reference.specs.Contracts.{referenceRead, valuesIn};
 ghost use Rattle.reference_label.specs.Contracts.{labelPart};
+ghost use Rattle.reference_write.specs.Writing.{lentTable, lentText};
+ghost use Rattle.reference_write.specs.Contracts.{writtenText, referenceWritten};
+ghost use Rattle.export_answers.specs.Contracts.{writtenInNumbers};
 ghost use Rattle.export_reference.specs.Contracts.{referenceAnswer, refusedAnswer, labelAnswer};
 use channel::Code;
 use channel::fill_codes;
+use export_answers::WrittenAnswer;
+use export_answers::written_in_numbers;
 use lent::fill_table;
 use limits::PLACES;
 use reference_label::label_part;
@@ -89,4 +94,29 @@ pub fn label(text: &[u8], row: usize) -> LabelAnswer
         start: part.start,
         length: part.length,
     }
+}
+
+// Writes the reference text of a table: m rows of n channels of these codes, of `rows` the first m·n places and of `codes` the first n.
+// The labels are lent as their bytes, one label after another, and `ends` has the index at which each ends. Where the text fits, it fills
+// the first `length` places of `buffer` and no other. Refused, with `buffer` as it was: 8, then row by row 3, 4, 5, last 13.
+pub fn write(
+    rows: &[i32],
+    m: usize,
+    n: usize,
+    codes: &[Code],
+    labels: &[u8],
+    ends: &[usize],
+    buffer: &mut [u8],
+) -> WrittenAnswer
+    ensures answer { λ r.
+        ⌜ r ≡ writtenInNumbers (referenceWritten rowLimit channelTypes
+        (lentTable (now (rows .entry)) m n (now (codes .entry)) (now (labels .entry)) (now (ends .entry)))
+        (length (now (buffer .entry)))) ⌝ }
+    ensures buffer_filled { λ r.
+        ⌜ now (buffer .exit) ≡ filled (r .number) (r .length)
+        (writtenText channelTypes (lentText rowLimit channelTypes
+        (lentTable (now (rows .entry)) m n (now (codes .entry)) (now (labels .entry)) (now (ends .entry)))))
+        (now (buffer .entry)) ⌝ }
+{
+    written_in_numbers(reference_write::write(rows, m, n, codes, labels, ends, buffer))
 }
