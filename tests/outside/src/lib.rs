@@ -1,5 +1,5 @@
 //! The outside implementation: what the product is compared with. It shares no code with the
-//! product and is written from document 01; docs/DECISIONS.md says what its writers had seen.
+//! product and is written from documents 01 and 02; docs/DECISIONS.md says what its writers had seen.
 //!
 //! - `rules`: the figures, the move, the drawing, the check and their refusals.
 //! - `reference`: reading a reference text and finding its labels, and the refusals of both.
@@ -8,6 +8,7 @@
 //! - `records`: reading and writing the record of an envelope, and the refusals of both.
 //! - `fractions`: exact fractions, and the bits of the binary64 number that equals one.
 //! - `charts`: the mark of an envelope in a chart, what the panel shows, and the refusals of both.
+//! - `reference_writing`: writing the reference text of labelled rows, and its refusals.
 //! - `programs`: the four programs, each text by itself to output bytes.
 //! - `random`: a seeded source of numbers.
 //! - `sets`: reference sets of many shapes and sizes, whole and damaged.
@@ -35,8 +36,10 @@
 //! - `record_calls`: calls that read a record with one fault, and with two in both orders.
 //! - `record_damage`: records damaged in any way.
 //! - `writing_faults`: envelopes with one fault, and with two.
+//! - `reference_writing_faults`: labelled rows with one fault, and with two in both orders.
 //! - `known_records`: the records that document 01 and the list of bad input name.
 //! - `known_writings`: the envelopes that they name.
+//! - `known_reference_writings`: the labelled rows that document 02 and the list of bad input name.
 //! - `known_programs`: texts of the programs with what these print.
 //! - `program_inputs`: seeded texts of the programs, whole and with each text changed.
 //! - `chart_figures`: figures for charts and the panel, and channels within the limits and outside.
@@ -57,6 +60,7 @@ pub mod known_measured;
 pub mod known_programs;
 pub mod known_readings;
 pub mod known_records;
+pub mod known_reference_writings;
 pub mod known_texts;
 pub mod known_writings;
 pub mod program_inputs;
@@ -75,6 +79,8 @@ pub mod record_faults;
 pub mod record_texts;
 pub mod records;
 pub mod reference;
+pub mod reference_writing;
+pub mod reference_writing_faults;
 pub mod rules;
 pub mod sets;
 pub mod stored;

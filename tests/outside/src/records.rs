@@ -3,7 +3,7 @@
 //! 128 bits. A record is written from formatted numbers, and turned back where it does not read back.
 
 use crate::readings::EnvelopeFigures;
-use crate::reference::{self, ChannelType};
+use crate::reference::{self, ChannelType, Reference};
 use crate::rules::{
     self, BUDGET_LIMIT, BUFFER_TOO_SHORT, OUTSIDE_LIMITS, ROW_LIMIT, Refusal, WEIGHTS_DISAGREE,
 };
@@ -53,8 +53,20 @@ pub struct StatedFigures {
 }
 
 impl TypedRows {
+    /// The rows and types of an accepted reference text.
+    pub fn read(reference: &Reference) -> TypedRows {
+        TypedRows {
+            set: Set {
+                places: reference.table(),
+                m: reference.rows.len(),
+                n: reference.types.len(),
+            },
+            types: reference.types.clone(),
+        }
+    }
+
     /// The types of the n channels, or refusal 8 where a row or a type is outside the limits.
-    fn within_limits(&self) -> Result<Vec<ChannelType>, Refusal> {
+    pub(crate) fn within_limits(&self) -> Result<Vec<ChannelType>, Refusal> {
         rules::rows_within_limits(&self.set.places, self.set.m, self.set.n)?;
         reference::types_with(&self.types, self.set.n).ok_or(OUTSIDE_LIMITS)
     }
@@ -241,13 +253,9 @@ pub fn place_text(text: &[u8], buffer: &mut [u8]) -> Result<usize, Refusal> {
 /// The text of an envelope whose types are these, whether it agrees with any rows or not.
 pub fn print(envelope: &Envelope, types: &[ChannelType]) -> Vec<u8> {
     let Envelope { figures, weights } = envelope;
-    let n = types.len();
-    let mut text = format!("ENV,{n}");
-    types
-        .iter()
-        .for_each(|channel| text += &format!(",{}", channel.tag));
-    text += "\nC";
-    let centre = &figures.scaled_centre[..n];
+    let mut text = reference::print_heading("ENV", types);
+    text += "C";
+    let centre = &figures.scaled_centre[..types.len()];
     centre.iter().for_each(|place| text += &format!(",{place}"));
     let letter = ["B", "S"][figures.settled as usize];
     text += &format!(
