@@ -55,7 +55,7 @@ fn known_of(
     }
 }
 
-/// A reference text of all four programs, with document 01's record and a reading.
+/// A reference text of every program, with document 01's record and a reading.
 fn of_reference(name: &'static str, reference: &str, output: &str) -> KnownInput {
     known_of(&PROGRAMS, name, [reference, RECORD, READING], output)
 }
@@ -73,6 +73,11 @@ fn of_record(name: &'static str, record: &str, output: &str) -> KnownInput {
 /// A reference text that is drawn.
 fn drawn(name: &'static str, reference: &str, output: &str) -> KnownInput {
     known_of(&[Program::Draw], name, [reference, "", ""], output)
+}
+
+/// A reference text that is written anew.
+fn rewritten(name: &'static str, reference: &str, output: &str) -> KnownInput {
+    known_of(&[Program::Plain], name, [reference, "", ""], output)
 }
 
 /// The three texts of `judge`.
@@ -152,7 +157,49 @@ pub fn examples() -> Vec<KnownInput> {
         ),
         shown("panel_one_row", &five, one_row, "TOC,5\n"),
         judged("judge_record", READING, "QUIET\n"),
+        rewritten("plain_record", REFERENCE, REFERENCE),
+        rewritten("plain_below_5", &under_toc("<5"), &under_toc("0")),
     ]
+}
+
+/// Reference texts written anew: as they are, but for values below detection.
+pub fn rewritings() -> Vec<KnownInput> {
+    let every_type = "REF,8,TOC,TC,IC,CND,TMP,PH,FLW,ORP\n";
+    let lows = "LOW,0,0,0,0,-200,0,0,-2000\n";
+    let highs = "HIGH,2000,4000,4000,4000,1500,1400,4000,2000\n";
+    let below = "BELOW,<2000,<4000,<4000,<4000,<1500,<1400,<4000,<2000\n";
+    let ends = [every_type, lows, highs, below].concat();
+    let ends_plain = [every_type, lows, highs, "BELOW,0,0,0,0,0,0,0,0\n"].concat();
+    let mixed = "REF,2,TOC,CND\nA,<1,7\nB,7,<1\nC,<7,<1\nD,0,0\n";
+    let same = |name, text: &str| rewritten(name, text, text);
+    vec![
+        same("zero", &under_toc("0")),
+        same("toc_2000", &under_toc("2000")),
+        same("negative", "REF,1,ORP\nA,-1\n"),
+        same("rows_256", &rows(256)),
+        same("tag_twice", "REF,2,PH,PH\nA,1,2\n"),
+        same("label_of_12_bytes", "REF,1,PH\nABCDEFGHIJ-9,1\n"),
+        same("label_ref", "REF,1,PH\nREF,1\n"),
+        same("label_no", "REF,2,PH,TC\nA,3,1\nNO,13,0\n"),
+        rewritten("below_1", &under_toc("<1"), &under_toc("0")),
+        rewritten("below_2000", &under_toc("<2000"), &under_toc("0")),
+        rewritten(
+            "below_among_values",
+            mixed,
+            "REF,2,TOC,CND\nA,0,7\nB,7,0\nC,0,0\nD,0,0\n",
+        ),
+        rewritten("ends_of_every_range", &ends, &ends_plain),
+        longest_rewriting(),
+    ]
+}
+
+/// The longest reference text that is written: 38 bytes of heading, and 61 for each row.
+fn longest_rewriting() -> KnownInput {
+    let row = |number: usize| format!("POINT-{number:06}{}\n", ",-2000".repeat(8));
+    let heading = format!("REF,8{}\n", ",ORP".repeat(8));
+    let text = heading + &(0..256).map(row).collect::<String>();
+    assert_eq!(text.len(), 15_654);
+    rewritten("longest", &text, &text)
 }
 
 /// Halves away from zero, on the panel.
@@ -511,6 +558,7 @@ pub fn large() -> Vec<KnownInput> {
 pub fn all() -> Vec<KnownInput> {
     [
         examples(),
+        rewritings(),
         halves(),
         reference_refusals(),
         reference_empty_lines(),

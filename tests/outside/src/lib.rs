@@ -9,7 +9,7 @@
 //! - `fractions`: exact fractions, and the bits of the binary64 number that equals one.
 //! - `charts`: the mark of an envelope in a chart, what the panel shows, and the refusals of both.
 //! - `reference_writing`: writing the reference text of labelled rows, and its refusals.
-//! - `programs`: the four programs, each text by itself to output bytes.
+//! - `programs`: the five programs, each text by itself to output bytes.
 //! - `random`: a seeded source of numbers.
 //! - `sets`: reference sets of many shapes and sizes, whole and damaged.
 //! - `cases`: arguments of the two calls, with budgets and weights of many kinds.
@@ -42,6 +42,7 @@
 //! - `known_reference_writings`: the labelled rows that document 02 and the list of bad input name.
 //! - `known_programs`: texts of the programs with what these print.
 //! - `program_inputs`: seeded texts of the programs, whole and with each text changed.
+//! - `stored_programs`: the stored cases of the programs.
 //! - `chart_figures`: figures for charts and the panel, and channels within the limits and outside.
 //! - `projections`: what the radius of a mark says of the rows, tested in whole numbers.
 //! - `known_charts`: the charts and panels that document 01 and the list of bad input name.
@@ -84,6 +85,7 @@ pub mod reference_writing_faults;
 pub mod rules;
 pub mod sets;
 pub mod stored;
+pub mod stored_programs;
 pub mod stored_texts;
 pub mod sweeps;
 pub mod texts;

@@ -7,7 +7,8 @@ use outside::program_inputs::{self, Source};
 use outside::programs::{self, PROGRAMS, Program, Texts};
 use outside::random::Random;
 use outside::reading_texts;
-use outside::reference::TEXT_LIMIT;
+use outside::reference::{self, TEXT_LIMIT};
+use outside::reference_writing::LabelledRows;
 use outside::rules::ROW_LIMIT;
 use std::collections::BTreeSet;
 
@@ -48,6 +49,41 @@ fn known_inputs_reach_every_refusal() {
             .collect();
         assert!(reached.iter().eq(program.refusals()), "{reached:?}");
     }
+}
+
+/// Values below detection are written as the numbers that they read as.
+#[test]
+fn a_text_with_values_below_detection() {
+    let reference = b"REF,2,TOC,CND\nA,<3,<1\nBC,6,<4000\n";
+    let plain = b"REF,2,TOC,CND\nA,0,0\nBC,6,0\n";
+    assert_eq!(programs::plain(reference), plain);
+    assert_eq!(programs::plain(plain), plain);
+}
+
+/// `plain` prints a text without `<` as it is, and of any text one with the same rows, types and labels,
+/// which it prints as it is.
+#[test]
+fn plain_texts_read_as_the_same_rows() {
+    let random = &mut Random::new(78);
+    let (mut own, mut other, mut refused) = (0, 0, 0);
+    for _ in 0..20_000 {
+        let (texts, _) = Source::new(random).changed(random, Program::Plain);
+        let output = programs::plain(&texts[0]);
+        let Ok(read) = reference::read(&texts[0]) else {
+            assert_eq!(output, programs::draw(&texts[0]));
+            refused += 1;
+            continue;
+        };
+        let again = reference::read(&output).expect("a written text");
+        let rows = LabelledRows::read(&read, &texts[0]);
+        assert_eq!(LabelledRows::read(&again, &output), rows);
+        assert_eq!(programs::plain(&output), output);
+        assert_eq!(output == texts[0], !texts[0].contains(&b'<'));
+        own += u32::from(output == texts[0]);
+        other += u32::from(output != texts[0]);
+    }
+    let least = [own, other, refused].into_iter().min();
+    assert!(least > Some(500), "{own}, {other}, {refused}");
 }
 
 /// Whole texts are accepted, but for single readings.

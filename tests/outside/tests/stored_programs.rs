@@ -3,19 +3,16 @@
 
 use outside::programs::{PROGRAMS, Program, Texts, refusals_in};
 use outside::reference::TEXT_LIMIT;
+use outside::stored_programs::{KINDS, OUTPUT, texts};
 use std::collections::BTreeSet;
 use std::fs;
 use std::path::{Path, PathBuf};
 
-/// How the files of the texts end, in the order in which a program takes them.
-const KINDS: [&str; 3] = ["ref", "env", "readings"];
-const OUTPUT: &str = "out";
 const LEAST_CASES: usize = 45;
 
 fn folder(program: Program) -> PathBuf {
-    let name = format!("{program:?}").to_lowercase();
     let stored = Path::new(env!("CARGO_MANIFEST_DIR")).join("../programs/stored");
-    stored.join(name)
+    stored.join(program.name())
 }
 
 fn files(program: Program) -> BTreeSet<PathBuf> {
@@ -41,10 +38,7 @@ fn cases(program: Program) -> Vec<Case> {
     let outputs = outputs.filter(|path| path.extension().is_some_and(|kind| kind == OUTPUT));
     let case = |output: PathBuf| Case {
         name: output.display().to_string(),
-        texts: KINDS[..program.texts()]
-            .iter()
-            .map(|kind| content(&output.with_extension(kind)))
-            .collect(),
+        texts: texts(program, &output).expect("the texts of a case"),
         output: content(&output),
     };
     outputs.map(case).collect()
