@@ -2,15 +2,16 @@
 //! implementation.
 
 use crate::lent::{self, Followed, Guarded, Room};
-use crate::product::{BEHIND_TYPES, LentFigures, given, owned, refused, written_in_numbers};
+use crate::product::{
+    BEHIND_PLACES, BEHIND_TYPES, LentFigures, given, owned, refused, written_in_numbers,
+};
 use outside::random::Random;
 use outside::records::{self, Envelope, TypedRows};
 use outside::rules::{CHANNEL_LIMIT, ROW_LIMIT, Refusal};
 
 /// What follows the lent slices in memory. A product that read past an end would take it for the
-/// text's byte 10 and one more line, for rows within their limits, or for a weight past m.
+/// text's byte 10 and one more line, or for a weight past m.
 const BEHIND_TEXT: &[u8] = b"\nW,256,1\n";
-const BEHIND_PLACES: [i32; 9] = [0; 9];
 const BEHIND_WEIGHTS: [u32; 9] = [1; 9];
 
 /// Rows and types lent to be read.

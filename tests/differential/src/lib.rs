@@ -5,6 +5,7 @@
 //! - `compare_reading`: one reading through both, in the same way.
 //! - `compare_measured`: one measured reading through both, in the same way.
 //! - `compare_record`: one record read and one envelope written through both, in the same way.
+//! - `compare_reference_writing`: one reference text written through both, in the same way.
 //! - `compare_chart`: one chart and one panel through both, in the same way.
 //! - `compare_program`: one run of a program through both, in the same way.
 //! - `product`: the figures of an envelope, refusals and answers, as the product takes and gives them.
@@ -20,6 +21,7 @@ pub mod compare_measured;
 pub mod compare_program;
 pub mod compare_reading;
 pub mod compare_record;
+pub mod compare_reference_writing;
 pub mod compare_text;
 pub mod lent;
 pub mod named;

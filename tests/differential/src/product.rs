@@ -4,8 +4,9 @@ use crate::lent::Followed;
 use outside::readings::{EnvelopeFigures, Verdict};
 use outside::rules::Refusal;
 
-/// What follows the lent slices in memory: a product that read past an end would take it for types
+/// What follows the lent slices in memory: a product that read past an end would take it for rows, types
 /// and X within their limits.
+pub const BEHIND_PLACES: [i32; 9] = [0; 9];
 pub const BEHIND_TYPES: [u8; 9] = [1; 9];
 const BEHIND_CENTRE: [i64; 9] = [0; 9];
 
