@@ -77,6 +77,7 @@ fn in_product(program: Program, texts: &[Followed<u8>]) -> Call<'_> {
         (Program::Draw, &[reference]) => Call::Draw { reference },
         (Program::Verify, &[reference, record]) => Call::Verify { reference, record },
         (Program::Panel, &[reference, record]) => Call::Panel { reference, record },
+        (Program::Plain, &[reference]) => Call::Plain { reference },
         (Program::Judge, &[reference, record, readings]) => Call::Judge {
             reference,
             record,
@@ -91,6 +92,7 @@ fn own_output(call: Call) -> Vec<u8> {
         Call::Draw { reference } => product::draw(reference),
         Call::Verify { reference, record } => product::verify(reference, record),
         Call::Panel { reference, record } => product::panel(reference, record),
+        Call::Plain { reference } => product::plain(reference),
         Call::Judge {
             reference,
             record,
@@ -104,6 +106,7 @@ fn lent_output(call: Call, output: &mut [u8]) -> Result<usize, Refusal> {
         Call::Draw { reference } => product::draw_into(reference, output),
         Call::Verify { reference, record } => product::verify_into(reference, record, output),
         Call::Panel { reference, record } => product::panel_into(reference, record, output),
+        Call::Plain { reference } => product::plain_into(reference, output),
         Call::Judge {
             reference,
             record,

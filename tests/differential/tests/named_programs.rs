@@ -38,7 +38,12 @@ fn holds(list: Vec<KnownInput>, name: &str) {
 
 named!(examples, outside::known_programs::examples:
     draw_record draw_rows_0_10 draw_one_row draw_rows_5_5 verify_record verify_budget_1
-    verify_one_row panel_record panel_budget_1 panel_one_row judge_record
+    verify_one_row panel_record panel_budget_1 panel_one_row judge_record plain_record plain_below_5
+);
+
+named!(rewritings, outside::known_programs::rewritings:
+    zero toc_2000 negative rows_256 tag_twice label_of_12_bytes label_ref label_no below_1 below_2000
+    below_among_values ends_of_every_range longest
 );
 
 named!(halves, outside::known_programs::halves:
@@ -232,6 +237,7 @@ fn texts_beside_each_other() {
     assert_eq!(product::verify(reference, record), b"OK\n");
     assert_eq!(product::panel(reference, record), b"TOC,3\nCND,4\n");
     assert_eq!(product::judge(reference, record, readings), b"QUIET\n");
+    assert_eq!(product::plain(reference), REFERENCE.as_bytes());
 }
 
 /// The same memory lent for several texts.
@@ -268,6 +274,20 @@ fn what_follows_the_limit_changes_nothing() {
         }
     }
     assert!(cut.iter().all(|&count| count >= 4), "{cut:?}");
+}
+
+/// The longest text that `plain` prints fits exactly into the room that is said to be enough for it.
+#[test]
+fn the_longest_text_written_anew() {
+    let known = known_programs::rewritings().into_iter();
+    let longest = known.max_by_key(|known| known.output.len());
+    let longest = longest.expect("a known input");
+    assert_eq!(longest.output.len(), cundarivo::REFERENCE_BYTES);
+    let (program, texts) = &longest.runs[0];
+    let run = Run::new(*program, texts);
+    let random = &mut Random::new(87);
+    assert_eq!(run.compare(random, cundarivo::REFERENCE_BYTES), 0);
+    assert_eq!(run.compare(random, cundarivo::REFERENCE_BYTES - 1), 13);
 }
 
 /// The longest output fits into the room that is said to be enough.

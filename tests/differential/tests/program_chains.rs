@@ -1,6 +1,6 @@
 //! The calls of the product in a chain, each fed with what the one before it gave: a reference text is
-//! drawn, its record verified, its rows judged, its panel shown, its record read, written again,
-//! altered and turned back. CUNDARIVO_SEED and CUNDARIVO_CHAINS in the environment give another
+//! written anew and drawn, its record verified, its rows judged, its panel shown, its record read,
+//! written again, altered and turned back. CUNDARIVO_SEED and CUNDARIVO_CHAINS in the environment give another
 //! seed and a larger number of chains.
 
 use cundarivo::{Envelope, programs};
@@ -35,6 +35,7 @@ fn compare_all(mut random: Random, chains: u64) {
         chain.verified();
         chain.judged();
         chain.shown();
+        reached.count(chain.rewritten());
         let envelope = chain.read_and_written();
         reached.count(format!("ending: {:?}", envelope.figures.ending));
         reached.count(chain.turned_back(random));
@@ -45,7 +46,14 @@ fn compare_all(mut random: Random, chains: u64) {
     }
     println!("chains: {chains}");
     reached.print();
-    for name in ["ending: Settled", "altered: 11", "altered: 12"] {
+    let outcomes = [
+        "ending: Settled",
+        "altered: 11",
+        "altered: 12",
+        "plain: as it was",
+        "plain: other",
+    ];
+    for name in outcomes {
         reached.require(name, chains / SHARE);
     }
     for name in ["ending: Budget", "256 rows of 8 channels"] {
@@ -120,6 +128,32 @@ impl Chain {
         let written = cundarivo::write_record(&envelope, &rows, m);
         assert_eq!(written.as_ref(), Ok(&self.record), "{}", self.shown_texts());
         envelope
+    }
+
+    /// What `plain` prints is what is written of the rows, types and labels that are read; it has the same
+    /// record, and is printed as it is.
+    fn rewritten(&self) -> String {
+        let output = programs::plain(&self.text);
+        let (mut rows, mut types) = ([0; ROW_LIMIT * CHANNEL_LIMIT], [0; CHANNEL_LIMIT]);
+        let counts = cundarivo::read_reference(&self.text, &mut rows, &mut types)
+            .expect("a reference text within the rules");
+        let labels: Vec<&Vec<u8>> = self.reference.rows.iter().map(|row| &row[0]).collect();
+        let written = cundarivo::write_reference(&rows, counts.m, counts.n, &types, &labels);
+        assert_eq!(written.as_ref(), Ok(&output), "{}", self.shown_texts());
+        assert_eq!(programs::plain(&output), output, "{}", self.shown_texts());
+        assert_eq!(
+            programs::draw(&output),
+            self.record,
+            "{}",
+            self.shown_texts()
+        );
+        let own = output == self.text;
+        assert_eq!(own, !self.text.contains(&b'<'), "{}", self.shown_texts());
+        String::from(if own {
+            "plain: as it was"
+        } else {
+            "plain: other"
+        })
     }
 
     /// An altered record is refused by 11 at its first faulty line, or by 12.

@@ -1,4 +1,4 @@
-//! The product compared with the outside implementation on seeded inputs of the four programs, whole
+//! The product compared with the outside implementation on seeded inputs of the five programs, whole
 //! and changed, with buffers of every kind of length, and on full sweeps. CUNDARIVO_SEED and
 //! CUNDARIVO_INPUTS in the environment give another seed and a larger number of inputs of each program.
 
@@ -70,6 +70,18 @@ impl Comparison {
         }
         for answer in answers(program, &texts, &run.output) {
             self.reached.count(answer_name(program, &answer));
+        }
+        if program == Program::Plain && run.output != texts[0] {
+            self.compare_again(&run.output);
+        }
+    }
+
+    /// What `plain` prints of a text that it accepts, it prints as it is.
+    fn compare_again(&mut self, output: &[u8]) {
+        if !output.starts_with(b"NO,") {
+            let again = self.compare(Program::Plain, &[output.to_vec()]);
+            assert_eq!(again.output, output, "{}", again.shown());
+            self.reached.count(answer_name(Program::Plain, AGAIN));
         }
     }
 
@@ -154,6 +166,7 @@ fn answers(program: Program, texts: &[Vec<u8>], output: &[u8]) -> BTreeSet<Strin
         Program::Draw if output.contains(",S\n") => [String::from("Settled")].into(),
         Program::Draw => [String::from("Budget")].into(),
         Program::Panel => lines.map(sign).collect(),
+        Program::Plain => [String::from(as_it_was(&texts[0], output))].into(),
         _ => lines.map(without_excess).collect(),
     }
 }
@@ -170,6 +183,18 @@ fn refused_text(texts: &[Vec<u8>], number: &str) -> usize {
 
 fn refusal_name(text: usize, number: impl Display) -> String {
     format!("{} refused by {number}", TEXTS[text])
+}
+
+/// What `plain` says of an accepted text.
+const AS_IT_WAS: &str = "as it was";
+const PLAINLY: &str = "below detection written plainly";
+/// Of its own output.
+const AGAIN: &str = "as it is, again";
+
+fn as_it_was(text: &[u8], output: &str) -> &'static str {
+    let own = text == output.as_bytes();
+    assert_eq!(own, !text.contains(&b'<'), "{output}");
+    if own { AS_IT_WAS } else { PLAINLY }
 }
 
 /// The sign of the step in a line of the panel.
@@ -213,6 +238,7 @@ fn sayings(program: Program) -> &'static [&'static str] {
         Program::Verify => &["OK"],
         Program::Judge => &["QUIET", "ALARM", "NO,3,1", "NO,4,1", "NO,10,1"],
         Program::Panel => &["step above 0", "step 0", "step below 0"],
+        Program::Plain => &[AS_IT_WAS, PLAINLY, AGAIN],
     }
 }
 
