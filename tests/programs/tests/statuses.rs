@@ -126,6 +126,7 @@ fn name(program: Program) -> &'static str {
         Program::Verify => "verify",
         Program::Judge => "judge",
         Program::Panel => "panel",
+        Program::Plain => "plain",
     }
 }
 

@@ -1,6 +1,7 @@
 //! The stored texts: each program and its command print the stored output, byte for byte, whether the last
 //! text comes whole or in pieces.
 
+use outside::programs::{plain, refusals_in};
 use outside::random::Random;
 use programs::call::{WAYS, run_in_pieces};
 use programs::folder::Folder;
@@ -73,6 +74,7 @@ fn of_example(name: &str, point: &str) -> Case {
             "draw" => example(point, "env"),
             "verify" => b"OK\n".to_vec(),
             "panel" => example(point, "panel"),
+            "plain" => plain(&example(point, "ref")),
             _ => example(point, "verdicts"),
         },
     }
@@ -118,7 +120,7 @@ fn in_pieces() {
 /// The numbers of the refusals that a program can print.
 fn refusals(name: &str) -> &'static [u32] {
     match name {
-        "draw" => &[1, 2, 3, 4, 5, 6],
+        "draw" | "plain" => &[1, 2, 3, 4, 5, 6],
         "judge" => &[1, 2, 3, 4, 5, 6, 10, 11, 12],
         _ => &[1, 2, 3, 4, 5, 6, 11, 12],
     }
@@ -129,15 +131,8 @@ fn every_refusal_is_stored() {
     for name in PROGRAMS {
         let met: BTreeSet<u32> = stored(name)
             .iter()
-            .flat_map(|case| numbers(&case.output))
+            .flat_map(|case| refusals_in(&case.output))
             .collect();
         assert!(met.iter().eq(refusals(name)), "{name}: {met:?}");
     }
-}
-
-/// The numbers behind `NO` in an output.
-fn numbers(output: &[u8]) -> Vec<u32> {
-    let text = std::str::from_utf8(output).expect("output in ASCII");
-    let number = |line: &str| line.strip_prefix("NO,")?.split(',').next()?.parse().ok();
-    text.lines().filter_map(number).collect()
 }
