@@ -8,7 +8,7 @@
 --     plain-read                    what is printed is accepted as a text of the same codes, table and labels
 --     plain-again                   what is printed is itself printed as it is
 use Prim.Native.Nat.{ℕ, _≤_}
-use mathlib.Core.Path.{_≡_, sym, ap, ap₂, _∙_}
+use mathlib.Core.Path.{_≡_, sym, ap, _∙_}
 use mathlib.Core.Bool.{true}
 use mathlib.Core.List.{List}
 use Rattle.text.specs.Parts.{free}
@@ -22,12 +22,11 @@ use Rattle.reference.specs.Reference.{content}
 use Rattle.reference.specs.Printing.{printText, Within}
 use Rattle.reference.specs.ReferenceLaws.{accepted-printed}
 use Rattle.reference.specs.PrintedLaws.{text-short}
-use Rattle.reference_write.specs.Labels.{labelsFrom}
 use Rattle.reference_write.specs.Writing.{lentText}
 use Rattle.reference_write.specs.Held.{Holds, lentOf}
 use Rattle.reference_write.specs.LabelsLaws.{lent-labels}
 use Rattle.reference_write.specs.PlainLaws.{plain-free}
-use Rattle.reference_write.specs.HeldLaws.{text-within, text-plain, text-read, own-holds, read-text, own-text}
+use Rattle.reference_write.specs.HeldLaws.{text-labels, text-within, text-plain, text-read, own-holds, read-text, own-text}
 use Rattle.program_lines.specs.Lines.{printRefusal}
 use Rattle.program_plain.specs.Output.{lentOutput, contentOutput, plainOutput}
 
@@ -80,11 +79,13 @@ module _ (limit : ℕ) (types : Types) (reference : List ℕ) where
             × (codesOf plain ≡ codesOf found) × (tableOf plain ≡ tableOf found) × (labelsOf plain ≡ labelsOf found)
         plain-read =
             let plain = lent-text .0 in
-            let holds = lent-text .2 in
-            let labels : labelsOf plain ≡ labelsOf found =
-            sym (lent-labels (labelsOf plain)) ∙ ap₂ (λ (bytes ends : List ℕ). labelsFrom bytes 0 ends) (holds .labels) (holds .ends)
-            ∙ lent-labels (labelsOf found) in
-            (plain, printed-read, holds .codes ∙ sym (own .codes), holds .table ∙ sym (own .table), labels)
+            let holds = lent-text .2 in (
+              plain,
+              printed-read,
+              holds .codes ∙ sym (own .codes),
+              holds .table ∙ sym (own .table),
+              text-labels limit types (lentOf found) plain (lent-text .1) ∙ lent-labels (labelsOf found),
+            )
 
 module _ (limit : ℕ) (types : Types) (reference : List ℕ) (found : ReferenceText) (is : content limit types reference ≡ sound found)
     (types-sound : SoundTypes types) (short : ShortTags types) (most : limit ≤ 1024) where

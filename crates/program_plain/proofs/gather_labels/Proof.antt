@@ -62,7 +62,11 @@ loop-again c =
     let at-put-bytes = c .before .before in
     let at-field-end = at-put-bytes .before .before .before in
     let in-loop = at-field-end .before .before in
-    (omega arith, gathering-next (in-loop .before .loop .inv .1) (omega (arith, in-loop .loop-test .taken, start-of (in-loop .before) .pre .1 .1 .0)) (short in-loop) (put-as (at-put-bytes .put-bytes .ensures) (part-is at-field-end) refl))
+    let room = start-of (in-loop .before) .pre .1 .1 .0 in (
+      omega arith,
+      gathering-next (in-loop .before .loop .inv .1) (omega (arith, in-loop .loop-test .taken, room)) (short in-loop)
+          (put-as (at-put-bytes .put-bytes .ensures) (part-is at-field-end) refl),
+    )
 
 returns : tie.Need-returns Inv-loop μ-loop
 returns c =
