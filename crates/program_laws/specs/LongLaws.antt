@@ -5,7 +5,7 @@
 --     within-read                 what refuses a text above the limit gives the same for the bytes read
 --     content-read                a reference text
 --     against-read                a reference text and a record
---     draw-long, verify-long, panel-long, judge-long     the programs
+--     draw-long, verify-long, panel-long, judge-long, plain-long     the programs
 use Prim.Native.Nat.{ℕ, _+_, _<_}
 use mathlib.Core.Path.{_≡_, refl, sym, ap, _∙_}
 use mathlib.Core.Bool.{Bool, true, false}
@@ -38,6 +38,8 @@ use Rattle.program_verdicts.specs.Output.{readingsOutput}
 use Rattle.program_panel.specs.Output.{shownOutput, panelOutput}
 use Rattle.program_record.specs.Against.{unlessRefused, contentAgainst, recordAgainst, ofFigures}
 use Rattle.program_verify.specs.Output.{verifyOutput}
+use Rattle.program_plain.specs.Output.{plainOutput}
+use Rattle.program_plain.specs.OutputLaws.{plain-faulty}
 
 abbrev pub readLimit : ℕ
 readLimit = textLimit + 1
@@ -119,3 +121,8 @@ module _ (D limit : ℕ) (types : Types) where
           let read = recordAgainst D limit types (bytesRead reference) (bytesRead text) in
           ap (λ (output : List ℕ). unlessRefused (read .outcome) (λ _. output)) (readings-read (read .envelope .figures) readings)
           ∙ figures-read (λ f. readingsOutput D types f readings)
+
+pub plain-long : (limit : ℕ) (types : Types) (reference : List ℕ) → plainOutput limit types (bytesRead reference) ≡ plainOutput limit types reference
+plain-long limit types =
+    within-read (plainOutput limit types) (printRefusal text-length 0)
+    (λ text h. plain-faulty limit types text text-length 0 (refuses-long limit types text h))

@@ -11,7 +11,7 @@
 --     refusesTexts output         the test: the first line is a `NO`, and none that a single reading meets
 --     isFaulty, isRefused         a reference text is refused; a reference text or a record is
 -- For a sound table of types and a total above 0, the output passes the test exactly where
---     draw-told                   draw refuses the reference text
+--     draw-told, plain-told       draw or plain refuses the reference text
 --     verify-told, panel-told     verify refuses one of its texts, or panel, where no tag starts as a refusal does
 --     judge-told                  judge refuses the reference text, the record or the readings together
 use Prim.Native.Nat.{ℕ, _≤_, _<_}
@@ -43,9 +43,10 @@ use Rattle.channel.specs.Channel.{Types, tagOf}
 use Rattle.channel.specs.ChannelLaws.{SoundTypes}
 use Rattle.channel.specs.ContractLaws.{TagsApart}
 use Rattle.heading.specs.Heading.{printHeading}
-use Rattle.reference_rows.specs.ReferenceText.{codesOf, channelCount, rowCount, tableOf}
+use Rattle.reference_rows.specs.ReferenceText.{ReferenceText, codesOf, channelCount, rowCount, tableOf}
 use Rattle.reference_rows.specs.Rows.{Content, faulty, sound}
 use Rattle.reference.specs.Reference.{content}
+use Rattle.reference.specs.Printing.{printText}
 use Rattle.reference.specs.RefusalLaws.{each-refusal}
 use Rattle.envelope.specs.Figures.{channelCodes, figuresKnown}
 use Rattle.envelope.specs.declared.Figures.{Figures}
@@ -63,12 +64,14 @@ use Rattle.panel_steps.specs.Panel.{panelShown}
 use Rattle.text.specs.EndedLines.{withEnds, linesWithEnds}
 use Rattle.program_lines.specs.Lines.{refusalWord, printRefusal, printAccepted, printVerdict, printVerdicts, printSteps}
 use Rattle.program_draw.specs.Output.{drawOutput}
+use Rattle.program_plain.specs.Output.{plainOutput}
 use Rattle.program_judge.specs.Output.{judgeOutput}
 use Rattle.program_verdicts.specs.Output.{readingsOutput}
 use Rattle.program_panel.specs.Output.{shownOutput, panelOutput}
 use Rattle.program_record.specs.Against.{unlessRefused, contentAgainst, recordAgainst, ofFigures}
 use Rattle.program_verify.specs.Output.{verifyOutput}
 use Rattle.program_draw.specs.OutputLaws.{draw-faulty, draw-record}
+use Rattle.program_plain.specs.OutputLaws.{plain-faulty, plain-sound, plain-accepted}
 use Rattle.program_verdicts.specs.OutputLaws.{readings-refused, readings-judged}
 use Rattle.program_panel.specs.OutputLaws.{panel-accepted}
 use Rattle.program_record.specs.AgainstLaws.{against-within}
@@ -279,7 +282,7 @@ other-told b l h = go (eqb b lineEnd) (cut lineEnd l)
     go false [] = rw h
     go false (part ∷ parts) = rw h
 
--- ---- draw
+-- ---- draw and plain
 
 abbrev pub isFaulty : Content → Bool
 isFaulty (faulty number line) = true
@@ -290,15 +293,35 @@ module _ (types : Types) where
   unfolding recordText printRecord printLines printHeading join
   record-told e = other-told (byte "E") _ refl
 
+  -- what is printed of a reference text, by what is printed of an accepted one
+  reference-told : (limit : ℕ) (reference output : List ℕ)
+      → ((number line : ℕ) → content limit types reference ≡ faulty number line → output ≡ printRefusal number line)
+      → ((found : ReferenceText) → content limit types reference ≡ sound found → refusesTexts output ≡ false)
+      → refusesTexts output ≡ isFaulty (content limit types reference)
+  reference-told limit reference output refused accepted = go (content limit types reference) refl
+    where
+      go : (c : Content) → content limit types reference ≡ c → refusesTexts output ≡ isFaulty c
+      go (faulty number line) is =
+          ap refusesTexts (refused number line is) ∙ only-told number line ∙ ap not (content-told limit types reference number line is)
+      go (sound found) is = accepted found is
+
   pub draw-told : SoundTypes types → (D limit : ℕ) (reference : List ℕ)
       → refusesTexts (drawOutput D limit types reference) ≡ isFaulty (content limit types reference)
-  draw-told types-sound D limit reference = go (content limit types reference) refl
-    where
-      go : (c : Content) → content limit types reference ≡ c → refusesTexts (drawOutput D limit types reference) ≡ isFaulty c
-      go (faulty number line) is =
-          ap refusesTexts (draw-faulty D limit types reference number line is) ∙ only-told number line
-          ∙ ap not (content-told limit types reference number line is)
-      go (sound found) is = ap refusesTexts (draw-record D limit types reference found is types-sound) ∙ record-told _
+  draw-told types-sound D limit reference =
+      reference-told limit reference (drawOutput D limit types reference) (draw-faulty D limit types reference)
+      (λ found is. ap refusesTexts (draw-record D limit types reference found is types-sound) ∙ record-told _)
+
+  text-told : (found : ReferenceText) → refusesTexts (printText types found) ≡ false
+  unfolding printText printLines printHeading join
+  text-told found = other-told (byte "R") _ refl
+
+  pub plain-told : SoundTypes types → (limit : ℕ) (reference : List ℕ)
+      → refusesTexts (plainOutput limit types reference) ≡ isFaulty (content limit types reference)
+  plain-told types-sound limit reference =
+      reference-told limit reference (plainOutput limit types reference) (plain-faulty limit types reference)
+      (λ found is.
+      let plain = plain-accepted limit types reference found is types-sound in
+      ap refusesTexts (plain-sound limit types reference found is (plain .0) (plain .1)) ∙ text-told (plain .0))
 
 -- ---- verify, panel and judge
 
