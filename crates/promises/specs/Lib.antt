@@ -23,6 +23,7 @@ pub mod RefusedTexts
 pub mod RefusedPrograms
 pub mod RefusedExports
 pub mod Refusals
+pub mod ReadingTags
 -- ---- demand 2: exactly the published moves, exactly the written form
 pub mod Moves
 pub mod Drawings

@@ -2,15 +2,14 @@
 -- stand in the order of its tests; each asks that the tests before it are passed.
 --     DrawingRefused, CheckRefused, RecordRefused, WritingRefused, ChartRefused, PanelRefused     the order of one call
 --     promise-1-4     the order of refusals, call by call (`RefusalOrder`)
---     promise-1-5     a reading's tags are compared before any value meets its range (`TagsFirst`)
 use Prim.Native.Nat.{_<_, _≤_, ℕ}
 use mathlib.Core.Path.{_∙_, _≡_}
 use mathlib.Core.Bool.{_&&_, false, true}
-use mathlib.Core.List.{List, map}
+use mathlib.Core.List.{List}
 use mathlib.Core.Option.{none, some}
 use lib.IntN.{ℤ}
 use lib.ListN.{length, take}
-use Rattle.refusal.specs.Number.{budget-too-large, buffer-short, disagreement, outside-limits, record-form, tag-differs, text-length, value-range}
+use Rattle.refusal.specs.Number.{budget-too-large, buffer-short, disagreement, outside-limits, record-form, text-length}
 use Rattle.refusal.specs.Outcome.{refused, refusedAt}
 use Rattle.refusal.specs.declared.Outcome.the-variants.{Accepted}
 use Rattle.limits.specs.Limits.{budgetLimit, rowLimit, total}
@@ -25,15 +24,11 @@ use Rattle.checking.specs.CheckLaws.{checking-checked, checking-limits, checkin
 use Rattle.drawing.specs.Draw.{drawing, drawn, notDrawn, runFrom, start}
 use Rattle.drawing.specs.DrawLaws.{drawing-budget, drawing-drawn, drawing-limits}
 use Rattle.text.specs.Parts.{same, textWithin}
-use Rattle.channel.specs.Channel.{channelTypes, tagOf}
-use Rattle.reading_line.specs.Reading.{Reading, printReading, readingOf}
-use Rattle.reading_line.specs.ReadingLaws.{InForm}
-use Rattle.envelope.specs.Figures.{channelCodes, figuresKnown}
+use Rattle.channel.specs.Channel.{channelTypes}
+use Rattle.envelope.specs.Figures.{figuresKnown}
 use Rattle.envelope.specs.declared.Envelope.{Envelope}
 use Rattle.envelope.specs.declared.Figures.{Figures}
 use Rattle.agreement.specs.Agreement.{agrees}
-use Rattle.reading.specs.Verdict.{judged, refusedVerdict, verdictNumber}
-use Rattle.reading.specs.VerdictLaws.{range-after-tags, tags-before-range}
 use Rattle.record_form.specs.Record.{Record, faulty, sound}
 use Rattle.record_form.specs.Weights.{weightsOf}
 use Rattle.record_print.specs.Printed.{recordText}
@@ -52,8 +47,6 @@ use Rattle.promises.specs.RefusedExports.{ExportsRefused, exports-refuse
 use Rattle.promises.specs.MeasureAnswers.{GivenMeasured, MeasureRefused, given-measured, measures-refused}
 use Rattle.promises.specs.RefusedPrograms.{ProgramsRefused, programs-refused}
 use Rattle.promises.specs.RefusedTexts.{ReadingRefused, ReferenceRefused, reading-refused, reference-refused}
-
--- ---- 1.4
 
 -- drawing: 8, 9
 pub record DrawingRefused (rows : List ℤ) (m n budget : ℕ) : Type 0 where
@@ -179,24 +172,4 @@ promise-1-4 =
       of-panel = λ f. record { figures-8 = panel-refuses total channelTypes f; else-shown = panel-shows total channelTypes f };
       of-programs = programs-refused;
       for-C-and-Rust = exports-refused;
-    }
-
--- ---- 1.5
-
-pub record TagsFirst (f : Figures) : Type 0 where
-  -- an answer 4 says that every tag was the envelope's
-  pub range-after-tags : (text : List ℕ) → verdictNumber (judged total channelTypes f text) ≡ value-range
-      → (reading : Reading) × (readingOf (f .n) text ≡ some reading) × (reading .tags ≡ map (tagOf channelTypes) (channelCodes f))
-  -- a reading in form with another tag answers 10, whatever its values
-  pub tags-before-range : (reading : Reading) → figuresKnown total channelTypes f ≡ true → InForm (f .n) reading → textWithin (printReading reading) ≡ true
-      → (reading .tags ≡ map (tagOf channelTypes) (channelCodes f) → ⊥) → judged total channelTypes f (printReading reading) ≡ refusedVerdict tag-differs 1
-  -- and a reading that is measured has the same verdict and refusals, however many places are lent
-  pub measured-alike : (text : List ℕ) (places : ℕ) → MeasureRefused f text places
-
-pub promise-1-5 : (f : Figures) → TagsFirst f
-promise-1-5 f =
-    record {
-      range-after-tags = range-after-tags total channelTypes f;
-      tags-before-range = tags-before-range total channelTypes f;
-      measured-alike = measures-refused f;
     }
