@@ -17,6 +17,9 @@ pub mod Lent
 pub mod LentExports
 pub mod MeasureCalls
 pub mod MeasureAnswers
+pub mod WriterCalls
+pub mod WriterAnswers
+pub mod WriterRefusals
 pub mod Results
 pub mod RefusalValues
 pub mod RefusedTexts
@@ -34,3 +37,6 @@ pub mod RoundTrips
 pub mod Tight
 pub mod Shown
 pub mod Limited
+-- ---- requests
+pub mod WrittenTexts
+pub mod WrittenReferences

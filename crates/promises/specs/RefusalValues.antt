@@ -20,6 +20,7 @@ use Rattle.drawing.specs.Draw.{notDrawn}
 use Rattle.printing.specs.Contracts.{printNumbers}
 use Rattle.reference.specs.Contracts.{refusedReference}
 use Rattle.reference_label.specs.Contracts.{noPart}
+use Rattle.reference_write.specs.Writing.{Lent}
 use Rattle.envelope.specs.Figures.{emptyEnvelope, emptyFigures, envelopeOf, figuresOf}
 use Rattle.reading.specs.Verdict.{refusedVerdict, verdictExcess, verdictLine, verdictNumber}
 use Rattle.reading.specs.declared.Verdict.{Verdict}
@@ -40,6 +41,7 @@ use Rattle.promises.specs.ListedAnswers.{AnswersListed, answers-listed}
 use Rattle.promises.specs.ListedExports.{ExportsListed, exports-listed}
 use Rattle.promises.specs.MeasureAnswers.{MeasuresListed, measures-listed}
 use Rattle.promises.specs.ToldRefusals.{RefusalsTold, refusals-told}
+use Rattle.promises.specs.WriterAnswers.{WriterListed, writer-listed}
 
 -- ---- 1.3
 
@@ -56,6 +58,8 @@ pub record RefusalValues : Type 0 where
   pub listed : AnswersListed
   pub listed-in-numbers : ExportsListed
   pub measures-listed : MeasuresListed
+  -- of a reference text that is written: 8 and 13, and 3, 4 and 5 at a line from 2
+  pub writer-listed : (lent : Lent) (places : ℕ) → WriterListed lent places
   -- in a refusal every other figure and array is 0
   pub ball : emptyBall ≡ filledBall (replicate channelLimit (pos 0)) 0 0 false
   pub drawing : (o : Outcome) → notDrawn rowLimit o ≡ record { outcome = o; ball = emptyBall; weights = replicate rowLimit 0; moves = 0 }
@@ -118,6 +122,7 @@ promise-1-3 =
       listed = answers-listed;
       listed-in-numbers = exports-listed;
       measures-listed = measures-listed;
+      writer-listed = writer-listed;
       ball = refl;
       drawing = λ o. refl;
       check = λ o. refl;

@@ -35,6 +35,7 @@ use Rattle.record_print.specs.Printed.{recordText}
 use Rattle.record_read.specs.Contracts.{ballOfRecord, notRead, recordRead}
 use Rattle.typed_rows.specs.Given.{givenWithin}
 use Rattle.record_read.specs.ReadLaws.{read-faulty, read-length, read-limits, read-sound}
+use Rattle.reference_write.specs.Writing.{Lent}
 use Rattle.record_write.specs.Contracts.{recordWritten}
 use Rattle.record_write.specs.WriteLaws.{Writing, outside-figures, outside-rows, refused-writing, short-writing, writing-written}
 use Rattle.chart.specs.Mark.{channelWithin, chartMark, markNumber, refusedMark}
@@ -46,6 +47,7 @@ use Rattle.promises.specs.House.{textForm}
 use Rattle.promises.specs.RefusedExports.{ExportsRefused, exports-refused}
 use Rattle.promises.specs.MeasureAnswers.{GivenMeasured, MeasureRefused, given-measured, measures-refused}
 use Rattle.promises.specs.RefusedPrograms.{ProgramsRefused, programs-refused}
+use Rattle.promises.specs.WriterRefusals.{WriterRefused, writer-refused}
 use Rattle.promises.specs.RefusedTexts.{ReadingRefused, ReferenceRefused, reading-refused, reference-refused}
 
 -- drawing: 8, 9
@@ -119,6 +121,8 @@ pub record RefusalOrder : Type 0 where
   pub of-given-measure : (given : FiguresGiven) (codes : List ℕ) (X : List ℤ) (text : List ℕ) (places : ℕ) → GivenMeasured given codes X text places
   pub of-record : (rows : List ℤ) (m n : ℕ) (codes text : List ℕ) → RecordRefused rows m n codes text
   pub of-writing : (rows : List ℤ) (m : ℕ) (e : Envelope) (places : ℕ) → WritingRefused rows m e places
+  -- reference text written: 8, then row by row 3, 4, 5, then 13
+  pub of-reference-writing : (lent : Lent) (places : ℕ) → WriterRefused lent places
   pub of-chart : (f : Figures) (h v : ℕ) → ChartRefused f h v
   pub of-panel : (f : Figures) → PanelRefused f
   pub of-programs : (reference : List ℕ) → ProgramsRefused reference
@@ -161,6 +165,7 @@ promise-1-4 =
             buffer-13 = short-writing total rowLimit channelTypes rows m e places;
             else-written = writing-written total rowLimit channelTypes rows m e places;
           };
+      of-reference-writing = writer-refused;
       of-chart = λ f h v.
           record {
             figures-8 = refuses-figures total channelTypes f h v;

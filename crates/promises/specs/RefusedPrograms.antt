@@ -22,6 +22,8 @@ use Rattle.channel.specs.Channel.{channelTypes}
 use Rattle.channel.specs.ChannelLaws.{house-sound}
 use Rattle.reference_rows.specs.ReferenceText.{ReferenceText, channelCount, codesOf, rowCount, tableOf}
 use Rattle.reference_rows.specs.Rows.{faulty, sound}
+use Rattle.reference.specs.Printing.{printText}
+use Rattle.reference_write.specs.Held.{lentOf}
 use Rattle.envelope.specs.Figures.{channelCodes, figuresKnown, drawnEnvelope}
 use Rattle.envelope.specs.declared.Figures.{Figures}
 use Rattle.record_print.specs.Printed.{recordText}
@@ -35,15 +37,18 @@ use Rattle.program_verify.specs.Output.{verifyOutput}
 use Rattle.program_verify.specs.OutputLaws.{verify-by}
 use Rattle.program_panel.specs.Output.{panelOutput}
 use Rattle.program_panel.specs.OutputLaws.{panel-accepted, panel-by}
+use Rattle.program_plain.specs.Output.{plainOutput}
+use Rattle.program_plain.specs.OutputLaws.{plain-accepted, plain-faulty, plain-sound}
 use Rattle.program_verdicts.specs.Output.{readingsOutput}
 use Rattle.program_verdicts.specs.OutputLaws.{readings-judged, readings-refused}
 use Rattle.program_judge.specs.Output.{judgeOutput}
 use Rattle.program_judge.specs.OutputLaws.{judge-by}
-use Rattle.promises.specs.House.{against, textContent}
+use Rattle.promises.specs.House.{against, lentContent, textContent}
 
 pub record ProgramsRefused (reference : List ℕ) : Type 0 where
   -- a refused reference text first
   pub draw-reference : (number line : ℕ) → textContent reference ≡ faulty number line → drawOutput total rowLimit channelTypes reference ≡ printRefusal number line
+  pub plain-reference : (number line : ℕ) → textContent reference ≡ faulty number line → plainOutput rowLimit channelTypes reference ≡ printRefusal number line
   pub record-reference : (number line : ℕ) → textContent reference ≡ faulty number line → (text : List ℕ)
       → against reference text ≡ notRead rowLimit (refusedAt number line)
   -- then the record against the text's rows and codes
@@ -66,6 +71,8 @@ pub record ProgramsRefused (reference : List ℕ) : Type 0 where
       ≡ recordText channelTypes
       (drawnEnvelope (channelCount found) (padded channelLimit (codesOf found))
       (drawing total rowLimit (tableOf found) (rowCount found) (channelCount found) drawBudget))
+  pub plain-else : (found : ReferenceText) → textContent reference ≡ sound found
+      → (plain : ReferenceText) × (lentContent (lentOf found) ≡ sound plain) × (plainOutput rowLimit channelTypes reference ≡ printText channelTypes plain)
   pub others-refused : (text : List ℕ) (r : Refusal) → against reference text .outcome ≡ Refused r
       → (verifyOutput total rowLimit channelTypes reference text ≡ printRefusal (r .number) (r .line))
       × (panelOutput total rowLimit channelTypes reference text ≡ printRefusal (r .number) (r .line))
@@ -85,6 +92,7 @@ pub programs-refused : (reference : List ℕ) → ProgramsRefused reference
 programs-refused reference =
     record {
       draw-reference = draw-faulty total rowLimit channelTypes reference;
+      plain-reference = plain-faulty rowLimit channelTypes reference;
       record-reference = against-faulty total rowLimit channelTypes reference;
       record-text = against-sound total rowLimit channelTypes reference;
       readings-1 = readings-refused total channelTypes;
@@ -93,6 +101,9 @@ programs-refused reference =
       figures-within = against-within total rowLimit channelTypes house-sound (omega arith) reference;
       panel-shown = panel-accepted total rowLimit channelTypes house-sound (omega arith) reference;
       draw-else = λ found is. draw-record total rowLimit channelTypes reference found is house-sound;
+      plain-else = λ found is.
+          let plain = plain-accepted rowLimit channelTypes reference found is house-sound in
+          (plain .0, plain .1, plain-sound rowLimit channelTypes reference found is (plain .0) (plain .1));
       others-refused = λ text r is.
           let read = against reference text in (
             sym (verify-by total rowLimit channelTypes reference text read refl (Refused r) is),

@@ -20,13 +20,15 @@ use Rattle.program_lines.specs.Lines.{printRefusal}
 use Rattle.program_draw.specs.Output.{drawOutput}
 use Rattle.program_verify.specs.Output.{verifyOutput}
 use Rattle.program_panel.specs.Output.{panelOutput}
+use Rattle.program_plain.specs.Output.{plainOutput}
 use Rattle.program_judge.specs.Output.{judgeOutput}
-use Rattle.program_laws.specs.ToldLaws.{draw-told, isFaulty, isRefused, judge-told, ofReading, panel-told, refusal-injective, refusal-of-reading, refusal-of-texts, refusesTexts, verify-told}
+use Rattle.program_laws.specs.ToldLaws.{draw-told, isFaulty, isRefused, judge-told, ofReading, panel-told, plain-told, refusal-injective, refusal-of-reading, refusal-of-texts, refusesTexts, verify-told}
 use Rattle.promises.specs.House.{against, textContent}
 
 -- `refusesTexts output`: the first line is a refusal, and none of those that a reading meets
 pub record RefusalsTold : Type 0 where
   pub draw : (reference : List ℕ) → refusesTexts (drawOutput total rowLimit channelTypes reference) ≡ isFaulty (textContent reference)
+  pub plain : (reference : List ℕ) → refusesTexts (plainOutput rowLimit channelTypes reference) ≡ isFaulty (textContent reference)
   pub verify : (reference text : List ℕ)
       → refusesTexts (verifyOutput total rowLimit channelTypes reference text) ≡ isRefused (against reference text .outcome)
   pub panel : (reference text : List ℕ)
@@ -45,6 +47,7 @@ pub refusals-told : RefusalsTold
 refusals-told =
     record {
       draw = draw-told channelTypes house-sound total rowLimit;
+      plain = plain-told channelTypes house-sound rowLimit;
       verify = verify-told total rowLimit channelTypes;
       panel = λ reference text. panel-told total rowLimit channelTypes reference text house-sound (omega arith) house-apart;
       judge = λ reference text. judge-told total rowLimit channelTypes reference text house-sound (omega arith);
