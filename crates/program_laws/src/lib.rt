@@ -1,1 +1,1 @@
-// Proof-only: what holds of the four programs, each by itself and together.
+// Proof-only: what holds of the programs, each by itself and together.
