@@ -138,7 +138,7 @@ extern "C" {
 #define CUNDARIVO_RECORD_BYTES (38 + 90 + 52 + 12 * CUNDARIVO_ROWS)
 
 /*
- * 38 for the heading and 61 for each row: `reference-most` in crates/reference_write/specs. A reference text
+ * 38 for the heading and 61 for each row: `text-most` in crates/reference/specs/PrintedLaws.antt. A reference text
  * that is written of m rows has at most 38 + 61 * m.
  */
 #define CUNDARIVO_REFERENCE_BYTES (38 + 61 * CUNDARIVO_ROWS)

@@ -3,7 +3,8 @@
 use crate::{ROWS, Refusal, WrittenAnswer, accepted};
 
 /// Bytes that are enough for every reference text that is written: at most 38 for the heading, and 61
-/// for each of 256 rows. This is proved (`reference-most` in `crates/reference_write/specs`).
+/// for each of 256 rows. This is proved (`text-most` in
+/// `crates/reference/specs/PrintedLaws.antt`).
 pub const REFERENCE_BYTES: usize = 38 + 61 * ROWS;
 
 /// The most bytes of a label.
