@@ -8,7 +8,7 @@ use mathlib.Core.List.{List}
 use native.Mathlib.Omega.{arith}
 use lib.ListN.{length}
 use Rattle.refusal.specs.declared.Outcome.the-variants.{Accepted}
-use Rattle.limits.specs.Limits.{rowLimit}
+use Rattle.limits.specs.Limits.{total, rowLimit}
 use Rattle.lent.specs.Contracts.{written}
 use Rattle.text.specs.Parts.{free}
 use Rattle.channel.specs.Channel.{channelTypes}
@@ -23,8 +23,11 @@ use Rattle.reference_write.specs.Labels.{endsFrom, labelsFrom, labelsJoined}
 use Rattle.reference_write.specs.LabelsLaws.{lent-labels}
 use Rattle.reference_write.specs.Writing.{Lent}
 use Rattle.program_lines.specs.Lines.{printRefusal}
+use Rattle.program_record.specs.Against.{recordAgainst}
+use Rattle.program_draw.specs.Output.{drawOutput}
 use Rattle.program_plain.specs.Output.{plainOutput}
 use Rattle.program_plain.specs.OutputLaws.{plain-accepted, plain-again, plain-faulty, plain-own, plain-read, plain-sound, plain-values}
+use Rattle.program_laws.specs.PlainLaws.{plain-against, plain-drawn}
 use Rattle.promises.specs.House.{textContent}
 use Rattle.promises.specs.WriterAnswers.{WriterListed, writer-listed, writing}
 use Rattle.promises.specs.WriterCalls.{WriterCalls, writer-calls}
@@ -44,7 +47,11 @@ pub record PlainPrinted (reference : List ℕ) (found : ReferenceText) : Type 0 
   -- no `<` stands in it, and it is itself printed as it is
   pub plain-values : free lessThan (plainOutput rowLimit channelTypes reference) ≡ true
   pub again : plainOutput rowLimit channelTypes (plainOutput rowLimit channelTypes reference) ≡ plainOutput rowLimit channelTypes reference
-  -- as every text is in which none stands
+  -- the other programs make the same of it as of the text: draw, and verify, panel and judge by the record that they are given
+  pub drawn : drawOutput total rowLimit channelTypes (plainOutput rowLimit channelTypes reference) ≡ drawOutput total rowLimit channelTypes reference
+  pub against : (record-text : List ℕ) → recordAgainst total rowLimit channelTypes (plainOutput rowLimit channelTypes reference) record-text
+      ≡ recordAgainst total rowLimit channelTypes reference record-text
+  -- a text in which no `<` stands is printed as it is
   pub own : free lessThan reference ≡ true → plainOutput rowLimit channelTypes reference ≡ reference
 
 plain-printed : (reference : List ℕ) (found : ReferenceText) → textContent reference ≡ sound found → PlainPrinted reference found
@@ -55,6 +62,8 @@ plain-printed reference found is =
       read = plain-read rowLimit channelTypes reference found is house-sound house-short (omega arith);
       plain-values = plain-values rowLimit channelTypes reference found is house-sound;
       again = plain-again rowLimit channelTypes reference found is house-sound house-short (omega arith);
+      drawn = plain-drawn total rowLimit channelTypes house-sound house-short (omega arith) reference found is;
+      against = plain-against total rowLimit channelTypes house-sound house-short (omega arith) reference found is;
       own = plain-own rowLimit channelTypes reference found is house-sound;
     }
 
