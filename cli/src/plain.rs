@@ -34,7 +34,8 @@ fn states_same(one: &Reference<'_>, other: &Reference<'_>) -> bool {
         && labels(one).eq(labels(other))
 }
 
-/// What stands before the first comma of each row's line.
+/// What stands before the first comma of each row's line, which in an accepted text is its label. The
+/// library's own call for a label reads the whole text for each row.
 fn labels<'r>(reference: &'r Reference<'_>) -> impl Iterator<Item = Option<&'r [u8]>> {
     let rows = reference.text.lines().skip(1);
     rows.map(|line| line.split(|&byte| byte == b',').next())

@@ -132,7 +132,8 @@ fn label(random: &mut Random, row: usize) -> Vec<u8> {
 fn slices_are_answered_as_lent_labels() {
     let seed = std::env::var("CUNDARIVO_SEED").map_or(SEED, |seed| seed.parse().expect("a seed"));
     println!("seed {seed}");
-    let mut random = Random(seed);
+    // A state of 0 stays 0.
+    let mut random = Random(seed.max(1));
     let mut reached = BTreeMap::new();
     for place in 0..TABLES {
         let table = Table::new(&mut random);

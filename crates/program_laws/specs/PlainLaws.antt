@@ -1,6 +1,6 @@
 -- What the other programs make of what plain prints of a reference text, for any total D, row limit up to 1,024 and sound table of types.
---     plain-drawn       draw prints the same of both
---     plain-against     and a record is the same against both, so that verify, panel and judge print the same too
+--     plain-drawn, plain-verified,      draw, verify, panel and judge print the same of both
+--     plain-shown, plain-judged
 use Prim.Native.Nat.{ℕ, _≤_}
 use mathlib.Core.Path.{_≡_, sym, ap, ap₂, _∙_}
 use mathlib.Core.List.{List}
@@ -15,10 +15,16 @@ use Rattle.reference_rows.specs.ReferenceText.{ReferenceText, codesOf, rowsOf, 
 use Rattle.reference_rows.specs.Rows.{sound}
 use Rattle.reference.specs.Reference.{content}
 use Rattle.record_read.specs.Contracts.{recordRead}
-use Rattle.program_record.specs.Against.{recordAgainst}
+use Rattle.record_read.specs.declared.EnvelopeRead.{EnvelopeRead}
+use Rattle.program_lines.specs.Lines.{printAccepted}
+use Rattle.program_record.specs.Against.{recordAgainst, ofFigures}
 use Rattle.program_record.specs.AgainstLaws.{against-sound}
 use Rattle.program_draw.specs.Output.{drawBudget, drawnOutput, drawOutput}
 use Rattle.program_draw.specs.OutputLaws.{draw-sound}
+use Rattle.program_verify.specs.Output.{verifyOutput}
+use Rattle.program_panel.specs.Output.{shownOutput, panelOutput}
+use Rattle.program_verdicts.specs.Output.{readingsOutput}
+use Rattle.program_judge.specs.Output.{judgeOutput}
 use Rattle.program_plain.specs.Output.{plainOutput}
 use Rattle.program_plain.specs.OutputLaws.{plain-read}
 
@@ -47,8 +53,22 @@ module _ (D limit : ℕ) (types : Types) (types-sound : SoundTypes types) (short
       ∙ alike (λ codes table m. drawnOutput types codes (drawing D limit table m (length codes) drawBudget))
       ∙ sym (draw-sound D limit types reference found is)
 
-  pub plain-against : (text : List ℕ) → recordAgainst D limit types output text ≡ recordAgainst D limit types reference text
+  -- a record is the same against both
+  plain-against : (text : List ℕ) → recordAgainst D limit types output text ≡ recordAgainst D limit types reference text
   plain-against text =
       against-sound D limit types output (read .0) (read .1) text
       ∙ alike (λ codes table m. recordRead D limit types table m (length codes) codes text)
       ∙ sym (against-sound D limit types reference found is text)
+
+  module _ (text : List ℕ) where
+    pub plain-verified : verifyOutput D limit types output text ≡ verifyOutput D limit types reference text
+    unfolding verifyOutput
+    plain-verified = ap (λ (r : EnvelopeRead). ofFigures r (λ f. printAccepted)) (plain-against text)
+
+    pub plain-shown : panelOutput D limit types output text ≡ panelOutput D limit types reference text
+    unfolding panelOutput
+    plain-shown = ap (λ (r : EnvelopeRead). ofFigures r (shownOutput D types)) (plain-against text)
+
+    pub plain-judged : (readings : List ℕ) → judgeOutput D limit types output text readings ≡ judgeOutput D limit types reference text readings
+    unfolding judgeOutput
+    plain-judged readings = ap (λ (r : EnvelopeRead). ofFigures r (λ f. readingsOutput D types f readings)) (plain-against text)

@@ -23,11 +23,13 @@ use Rattle.reference_write.specs.Labels.{endsFrom, labelsFrom, labelsJoined}
 use Rattle.reference_write.specs.LabelsLaws.{lent-labels}
 use Rattle.reference_write.specs.Writing.{Lent}
 use Rattle.program_lines.specs.Lines.{printRefusal}
-use Rattle.program_record.specs.Against.{recordAgainst}
 use Rattle.program_draw.specs.Output.{drawOutput}
+use Rattle.program_verify.specs.Output.{verifyOutput}
+use Rattle.program_panel.specs.Output.{panelOutput}
+use Rattle.program_judge.specs.Output.{judgeOutput}
 use Rattle.program_plain.specs.Output.{plainOutput}
 use Rattle.program_plain.specs.OutputLaws.{plain-accepted, plain-again, plain-faulty, plain-own, plain-read, plain-sound, plain-values}
-use Rattle.program_laws.specs.PlainLaws.{plain-against, plain-drawn}
+use Rattle.program_laws.specs.PlainLaws.{plain-drawn, plain-judged, plain-shown, plain-verified}
 use Rattle.promises.specs.House.{textContent}
 use Rattle.promises.specs.WriterAnswers.{WriterListed, writer-listed, writing}
 use Rattle.promises.specs.WriterCalls.{WriterCalls, writer-calls}
@@ -47,10 +49,14 @@ pub record PlainPrinted (reference : List ℕ) (found : ReferenceText) : Type 0 
   -- no `<` stands in it, and it is itself printed as it is
   pub plain-values : free lessThan (plainOutput rowLimit channelTypes reference) ≡ true
   pub again : plainOutput rowLimit channelTypes (plainOutput rowLimit channelTypes reference) ≡ plainOutput rowLimit channelTypes reference
-  -- the other programs make the same of it as of the text: draw, and verify, panel and judge by the record that they are given
+  -- draw, verify, panel and judge print the same of it as of the text
   pub drawn : drawOutput total rowLimit channelTypes (plainOutput rowLimit channelTypes reference) ≡ drawOutput total rowLimit channelTypes reference
-  pub against : (record-text : List ℕ) → recordAgainst total rowLimit channelTypes (plainOutput rowLimit channelTypes reference) record-text
-      ≡ recordAgainst total rowLimit channelTypes reference record-text
+  pub verified : (record-text : List ℕ) → verifyOutput total rowLimit channelTypes (plainOutput rowLimit channelTypes reference) record-text
+      ≡ verifyOutput total rowLimit channelTypes reference record-text
+  pub shown : (record-text : List ℕ) → panelOutput total rowLimit channelTypes (plainOutput rowLimit channelTypes reference) record-text
+      ≡ panelOutput total rowLimit channelTypes reference record-text
+  pub judged : (record-text readings : List ℕ) → judgeOutput total rowLimit channelTypes (plainOutput rowLimit channelTypes reference) record-text readings
+      ≡ judgeOutput total rowLimit channelTypes reference record-text readings
   -- a text in which no `<` stands is printed as it is
   pub own : free lessThan reference ≡ true → plainOutput rowLimit channelTypes reference ≡ reference
 
@@ -63,7 +69,9 @@ plain-printed reference found is =
       plain-values = plain-values rowLimit channelTypes reference found is house-sound;
       again = plain-again rowLimit channelTypes reference found is house-sound house-short (omega arith);
       drawn = plain-drawn total rowLimit channelTypes house-sound house-short (omega arith) reference found is;
-      against = plain-against total rowLimit channelTypes house-sound house-short (omega arith) reference found is;
+      verified = plain-verified total rowLimit channelTypes house-sound house-short (omega arith) reference found is;
+      shown = plain-shown total rowLimit channelTypes house-sound house-short (omega arith) reference found is;
+      judged = plain-judged total rowLimit channelTypes house-sound house-short (omega arith) reference found is;
       own = plain-own rowLimit channelTypes reference found is house-sound;
     }
 

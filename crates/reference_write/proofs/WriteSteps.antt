@@ -20,7 +20,7 @@ use Rattle.lent.specs.declared.TextWritten.{TextWritten}
 use Rattle.channel.specs.Channel.{channelTypes}
 use Rattle.reference_rows.specs.Rows.{Content, faulty, sound}
 use Rattle.reference_write.specs.Writing.{Lent, lentWithin, lentText}
-use Rattle.reference_write.specs.Contracts.{writtenText, contentWritten, referenceWritten, textPut, TextPut}
+use Rattle.reference_write.specs.Contracts.{writtenText, contentWritten, referenceWritten, putAnswer, TextPut}
 use Rattle.reference_write.specs.FaultLaws.{outside}
 
 abbrev Written : Lent → List ℕ → TextWritten → List ℕ → Type 0
@@ -50,7 +50,7 @@ module _ (lent : Lent) (buffer : List ℕ) where
     unfolding referenceWritten
     refused-written {refusal} told = go content refl (put .is)
       where
-        go : (c : Content) → content ≡ c → p ≡ textPut channelTypes c → Written lent buffer p buffer
+        go : (c : Content) → content ≡ c → p ≡ putAnswer channelTypes c → Written lent buffer p buffer
         go (faulty number line) is e = (
           e ∙ ap (λ (c : Content). contentWritten channelTypes c (length buffer)) (sym is),
           nothing number
@@ -65,9 +65,9 @@ module _ (lent : Lent) (buffer : List ℕ) where
     unfolding referenceWritten
     handed-written told {w} {after} answer filling = go content refl (put .is) (put .text)
       where
-        go : (c : Content) → content ≡ c → p ≡ textPut channelTypes c → take (p .length) out ≡ writtenText channelTypes c → Written lent buffer w after
+        go : (c : Content) → content ≡ c → p ≡ putAnswer channelTypes c → take (p .length) out ≡ writtenText channelTypes c → Written lent buffer w after
         go (faulty number line) is e text =
-            let refusal : textPut channelTypes (faulty number line) .outcome ≡ Accepted = ap (λ (x : TextWritten). x .outcome) (sym e) ∙ told in
+            let refusal : putAnswer channelTypes (faulty number line) .outcome ≡ Accepted = ap (λ (x : TextWritten). x .outcome) (sym e) ∙ told in
             impossible cc
         go (sound found) is e text = (
           answer ∙ ap (λ (l : List ℕ). textWritten l (length buffer)) text ∙ ap (λ (c : Content). contentWritten channelTypes c (length buffer)) (sym is),

@@ -4,7 +4,7 @@
 --     referenceWritten limit types lent places       what `write` answers
 --     faultBy labelled within repeated               the refusal that a row meets, 0 where there is none
 --     RowRoom, textRoom, TextAsked                   what printing a row and a text asks for
---     textPut types content, TextPut                 what printing a text answers and leaves
+--     putAnswer types content, TextPut                 what printing a text answers and leaves
 use Prim.Native.Nat.{ℕ, _+_, _*_, _≤_, _<_}
 use mathlib.Core.Path.{_≡_}
 use mathlib.Core.Bool.{Bool, true, not}
@@ -58,12 +58,12 @@ pub record TextAsked (lent : Lent) (out : List ℕ) : Type 0 where
   pub within : lentWithin rowLimit channelTypes lent ≡ true
   pub room : textRoom ≤ length out
 
-abbrev pub textPut : Types → Content → TextWritten
-textPut types (faulty number line) = notWritten (refusedAt number line)
-textPut types (sound found) = written (length (printText types found))
+abbrev pub putAnswer : Types → Content → TextWritten
+putAnswer types (faulty number line) = notWritten (refusedAt number line)
+putAnswer types (sound found) = written (length (printText types found))
 
 -- the text stands in the first places
 pub record TextPut (content : Content) (out : List ℕ) (r : TextWritten) : Type 0 where
-  pub is : r ≡ textPut channelTypes content
+  pub is : r ≡ putAnswer channelTypes content
   pub within : r .length ≤ length out
   pub text : take (r .length) out ≡ writtenText channelTypes content

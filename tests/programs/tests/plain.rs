@@ -24,20 +24,6 @@ const BELOW: &str = "REF,2,TOC,CND\nA,<5,<40\nB,6,<4000\nC,<2000,8\n";
 const NOTE: &str = "4 values below detection are printed as plain numbers, the first on line 2: \
                     value 1 (TOC), '<5', as 0";
 
-/// The text of the rows as the outside implementation reads them.
-fn written(text: &[u8], read: &Reference) -> Vec<u8> {
-    let heading = text.split_inclusive(|&byte| byte == b'\n').next();
-    let mut written = heading.expect("a heading").to_vec();
-    for row in &read.rows {
-        written.extend(&text[row.label.start..][..row.label.length]);
-        for value in &row.values {
-            written.extend(format!(",{value}").bytes());
-        }
-        written.push(b'\n');
-    }
-    written
-}
-
 /// What the command says of an accepted text with this name: nothing where no value is below detection.
 fn note(told: &str, text: &[u8], read: &Reference) -> String {
     let text = std::str::from_utf8(text).expect("an accepted text");
@@ -75,7 +61,7 @@ fn assert_plain(text: &[u8]) -> bool {
     let note = note(&told, text, &read);
     for way in WAYS {
         let ended = way.run("plain", &files);
-        assert!(ended.output == written(text, &read), "{way:?}");
+        assert!(ended.output == outside::programs::plain(text), "{way:?}");
         let messages = match way {
             Way::Program => "",
             Way::Command => &note,
@@ -227,8 +213,8 @@ fn seeded_texts() {
         println!("seed {seed}, input {input}");
         let source = Source::new(&mut random);
         let texts = match random.once_in(2) {
-            true => source.whole(&mut random, Program::Draw),
-            false => source.changed(&mut random, Program::Draw).0,
+            true => source.whole(&mut random, Program::Plain),
+            false => source.changed(&mut random, Program::Plain).0,
         };
         match reference::read(&texts[0]) {
             Err(_) => {
@@ -250,7 +236,7 @@ fn seeded_texts() {
 /// Asserts that a text is refused by both as by `draw`, and told alike.
 fn assert_refused(text: &[u8]) {
     let drawn = envelope(&["draw"], text);
-    let refusal = Program::Draw.run(&[text.to_vec()]);
+    let refusal = Program::Plain.run(&[text.to_vec()]);
     let plain = envelope(&["plain"], text);
     Way::Command.assert_answer(&plain, "plain", &refusal);
     assert_eq!(plain.messages, drawn.messages);

@@ -1,7 +1,7 @@
 //! The stored texts: each program and its command print the stored output, byte for byte, whether the last
 //! text comes whole or in pieces.
 
-use outside::programs::{plain, refusals_in};
+use outside::programs::refusals_in;
 use outside::random::Random;
 use programs::call::{WAYS, run_in_pieces};
 use programs::folder::Folder;
@@ -74,7 +74,7 @@ fn of_example(name: &str, point: &str) -> Case {
             "draw" => example(point, "env"),
             "verify" => b"OK\n".to_vec(),
             "panel" => example(point, "panel"),
-            "plain" => plain(&example(point, "ref")),
+            "plain" => example(point, "plain"),
             _ => example(point, "verdicts"),
         },
     }
