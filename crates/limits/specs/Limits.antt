@@ -1,12 +1,13 @@
--- Document 01's limits, each named once; only contracts fix the total, the row limit and the table of types.
+-- The limits of documents 01 and 02, each named once; only contracts fix the total, the row limit and the table of types.
 --     total, rowLimit, channelLimit, coordinateLimit, budgetLimit     D, and the most rows, channels, distance of a coordinate from 0, moves
 --     placeLimit                                                      the most places of a table
 --     centreLimit D, distanceLimit D                                  the limits on X, and on s, M and L, for a total D
 --     lengthLimit, separationLimit                                    the limits on a row's squared length and on d²
 --     differenceLimit D                                               the limit on g
 --     textLimit, labelLimit, tagLimit                                 the most bytes of a text, of a label and of a tag
+--     settingLimit, runLimit                                          the most settings of an alert that are tried at once, and the largest k and c
 --     recordDigits                                                    the most digits of a number in a record
---     channelDigits .. movesDigits                                    how many digits the largest number of a kind has
+--     channelDigits .. textDigits                                     how many digits the largest number of a kind has
 use Prim.Native.Nat.{ℕ, _*_}
 
 -- D
@@ -57,11 +58,19 @@ labelLimit = 12
 abbrev pub tagLimit : ℕ
 tagLimit = 3
 
+-- the most settings of an alert that are tried at once
+abbrev pub settingLimit : ℕ
+settingLimit = 20
+
+-- the largest k and c
+abbrev pub runLimit : ℕ
+runLimit = 99
+
 -- of a number in a record, whatever it stands for
 abbrev pub recordDigits : ℕ
 recordDigits = 19
 
--- of n, a row, a coordinate, a weight, a place of X, s, and the moves made
+-- of n, a row, a coordinate, a weight, a place of X, s, the moves made, k and c, and the bytes of a text
 abbrev pub channelDigits : ℕ
 channelDigits = 1
 
@@ -82,3 +91,9 @@ distanceDigits = 19
 
 abbrev pub movesDigits : ℕ
 movesDigits = 7
+
+abbrev pub runDigits : ℕ
+runDigits = 2
+
+abbrev pub textDigits : ℕ
+textDigits = 5

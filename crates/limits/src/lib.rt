@@ -1,4 +1,4 @@
-// Document 01's limits, each named once: a constant here, a definition in specs/. How many digits the largest number of a kind has
+// The limits of documents 01 and 02, each named once: a constant here, a definition in specs/. How many digits the largest number of a kind has
 // is among them, since the room for a printed text is computed from it.
 
 // D
@@ -34,7 +34,12 @@ pub const LABEL_MOST: usize = 12;
 
 pub const TAG_MOST: usize = 3;
 
-// how many digits have the largest n, row, coordinate, weight, place of X, s, and number of moves
+// the most settings of an alert that are tried at once, and the largest k and c
+pub const SETTINGS: usize = 20;
+
+pub const RUN_MOST: u32 = 99;
+
+// how many digits have the largest n, row, coordinate, weight, place of X, s, number of moves, k and c, and number of a text's bytes
 pub const CHANNEL_DIGITS: usize = 1;
 
 pub const ROW_DIGITS: usize = 3;
@@ -48,3 +53,7 @@ pub const CENTRE_DIGITS: usize = 9;
 pub const DISTANCE_DIGITS: usize = 19;
 
 pub const MOVES_DIGITS: usize = 7;
+
+pub const RUN_DIGITS: usize = 2;
+
+pub const TEXT_DIGITS: usize = 5;

@@ -8,21 +8,24 @@
 --     width-first, width-next                 how many digits a number has: one, and those of its tenth
 --     numbers-none, numbers-more              a line of a word alone, and of one number more
 --     numbers-after                           a line is its word and what follows it
+--     numbers-free                            a byte that stands in no number and is no comma does not stand in a line of numbers
 --     numbers-short                           how long a line of numbers below 10 ^ k is
 --     numbers-room                            how long one of numbers of 64 bits is
 --     put-ended                               what is printed, and byte 10 after it
 use Prim.Native.Nat.{ℕ, zero, suc, _+_, _-_, _*_, _/_, _%_, _^_, _≤_, _<_}
 use mathlib.Core.Path.{_≡_, refl, sym, _∙_, ap, ap₂}
+use mathlib.Core.Bool.{true, false, _&&_}
 use mathlib.Core.List.{List, [], _∷_, _++_, map, map-append, append-nil, append-assoc}
 use native.Mathlib.Numerals.{add-one}
 use native.Mathlib.Omega.{arith}
+use lib.Dec.{eqb}
 use lib.IntN.{ℤ, pos, natAbs}
 use lib.ListN.{length, getD, set, take, drop, length-append, length-set}
 use lib.Seq.{length-take-le, getD-take, append-snoc, set-split, take-suc, take-set-le, take-suc-set, take-add, drop-at}
-use Rattle.text.specs.Parts.{comma, lineEnd, join}
-use Rattle.text.specs.PartsLaws.{join-short, join-more}
-use Rattle.number.specs.Number.{digitZero, decimal, printMagnitude, print}
-use Rattle.number.specs.NumberLaws.{decimal-more, print-short}
+use Rattle.text.specs.Parts.{comma, lineEnd, join, free, allFree}
+use Rattle.text.specs.PartsLaws.{join-short, join-more, join-free}
+use Rattle.number.specs.Number.{hyphen, digitZero, isDigit, decimal, printMagnitude, print}
+use Rattle.number.specs.NumberLaws.{decimal-more, print-free, print-short}
 use Rattle.printing.specs.Contracts.{numberDigits, fieldRoom, numbersAfter, Put}
 
 pub put-none : (out : List ℕ) (at : ℕ) → Put [] out at out at
@@ -173,6 +176,16 @@ pub numbers-more : (word : List ℕ) (zs : List ℤ) (z : ℤ) → numbersAfter 
 unfolding numbersAfter
 numbers-more word zs z =
     ap (λ (ps : List (List ℕ)). join comma (word ∷ ps)) (map-append print zs (z ∷ [])) ∙ join-more comma word (print z) (map print zs)
+
+module _ (c : ℕ) (digit : isDigit c ≡ false) (sign : eqb c hyphen ≡ false) where
+  prints-free : (zs : List ℤ) → allFree c (map print zs) ≡ true
+  unfolding allFree
+  prints-free [] = refl
+  prints-free (z ∷ zs) = ap₂ _&&_ (print-free c digit sign z) (prints-free zs)
+
+  pub numbers-free : (comma ≡ c → ⊥) → (word : List ℕ) (zs : List ℤ) → free c word ≡ true → free c (numbersAfter word zs) ≡ true
+  unfolding numbersAfter allFree
+  numbers-free apart word zs h = join-free comma c (word ∷ map print zs) apart (ap₂ _&&_ h (prints-free zs))
 
 pub numbers-short : (k : ℕ) (word : List ℕ) (zs : List ℤ) → 1 ≤ k → ((j : ℕ) → j < length zs → natAbs (getD zs j (pos 0)) < 10 ^ k)
     → length (numbersAfter word zs) ≤ length word + (k + 2) * length zs

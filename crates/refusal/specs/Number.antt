@@ -1,4 +1,4 @@
--- Document 01, "Turned-back input": the thirteen numbers by name, in the table's order.
+-- Document 01, "Turned-back input": the thirteen numbers by name, in the table's order; then those that document 02 adds.
 use Prim.Native.Nat.{ℕ}
 
 -- text empty or above 65,536 bytes
@@ -53,3 +53,7 @@ disagreement = 12
 -- output buffer too short
 abbrev pub buffer-short : ℕ
 buffer-short = 13
+
+-- k or c outside 1 to 99, or 0 or over 20 settings, or a k without its c
+abbrev pub alert-settings : ℕ
+alert-settings = 14

@@ -1,4 +1,4 @@
-// The refusals of document 01's table "Turned-back input": each has a number and the line at fault, counted from 1, or 0
+// The refusals of document 01's table "Turned-back input", and after them those that document 02 adds: each has a number and the line at fault, counted from 1, or 0
 // where no line is at fault. Every public call answers an `Outcome`, alone or beside its figures.
 ghost use mathlib.Core.Path.{_≡_};
 ghost use Rattle.refusal.specs.Outcome.{numberOf, lineOf, refusedAt};
@@ -30,6 +30,8 @@ pub const RECORD_FORM: u32 = 11;
 pub const DISAGREEMENT: u32 = 12;
 // 13: output buffer too short
 pub const BUFFER_SHORT: u32 = 13;
+// 14: k or c outside 1 to 99, or 0 or over 20 settings, or a k without its c
+pub const ALERT_SETTINGS: u32 = 14;
 
 pub struct Refusal {
     pub number: u32,

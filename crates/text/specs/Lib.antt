@@ -8,3 +8,4 @@ pub mod Contracts
 pub mod PartsLaws
 pub mod LinesLaws
 pub mod EndedLinesLaws
+pub mod LineCountLaws

@@ -3,12 +3,14 @@
 --     printed-ended     it is cut into its lines and an empty part
 --     printed-some      a text of a line or more has a byte
 --     printed-more      a text with one line more
-use Prim.Native.Nat.{ℕ, _≤_}
+--     printed-short     the most bytes of a text of lines, none of which is longer than k
+use Prim.Native.Nat.{ℕ, suc, _*_, _≤_, _<_}
 use mathlib.Core.Path.{_≡_, refl, sym, _∙_, ap}
 use mathlib.Core.Bool.{true}
-use mathlib.Core.List.{List, [], _∷_, _++_, append-assoc}
+use mathlib.Core.List.{List, [], _∷_, _++_, map, append-assoc}
+use native.Mathlib.Nat.{mul-suc}
 use native.Mathlib.Omega.{arith}
-use lib.ListN.{length, length-append}
+use lib.ListN.{length, getD, length-append}
 use Rattle.integers.specs.Tests.{both}
 use Rattle.text.specs.Parts.{lineEnd, cut, join, free, allFree}
 use Rattle.text.specs.PartsLaws.{cut-join}
@@ -44,3 +46,16 @@ printed-more [] line = refl
 printed-more (first ∷ lines) line =
     ap (λ (l : List ℕ). first ++ (lineEnd ∷ l)) (printed-more lines line)
     ∙ sym (append-assoc first (lineEnd ∷ printLines lines) (line ++ (lineEnd ∷ [])))
+
+pub printed-short : {A : Type 0} (f : A → List ℕ) (d : A) (k : ℕ) (l : List A) → ((j : ℕ) → j < length l → length (f (getD l j d)) ≤ k)
+    → length (printLines (map f l)) ≤ suc k * length l
+unfolding printLines
+printed-short f d k [] h = omega arith
+printed-short f d k (x ∷ l) h =
+    omega (
+      arith,
+      length-append (f x) (lineEnd ∷ printLines (map f l)),
+      h 0 (omega arith),
+      printed-short f d k l (λ j b. h (suc j) (omega arith)),
+      mul-suc (suc k) (length l),
+    )
