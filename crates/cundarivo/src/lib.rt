@@ -1,4 +1,5 @@
 // The calls for C and Rust, on numbers, lent slices and small structs of numbers: each is the call of its area, exported by name.
+pub mod alert_trial_text;
 pub mod chart_numbers;
 pub mod programs;
 pub mod reading_text;

@@ -10,6 +10,7 @@ ghost use Rattle.program_draw.specs.Output.{drawOutput};
 ghost use Rattle.program_verify.specs.Output.{verifyOutput};
 ghost use Rattle.program_panel.specs.Output.{panelOutput};
 ghost use Rattle.program_judge.specs.Output.{judgeOutput};
+ghost use Rattle.program_alerts.specs.Output.{alertsOutput};
 ghost use Rattle.program_plain.specs.Output.{plainOutput};
 ghost use Rattle.export_answers.specs.Contracts.{writtenInNumbers};
 use export_answers::WrittenAnswer;
@@ -55,6 +56,31 @@ pub fn judge(
         (judgeOutput total rowLimit channelTypes (now (reference .entry)) (now («record_text» .entry)) (now (readings .entry))) (now (output .entry)) ⌝ }
 {
     written_in_numbers(program_judge::judge(reference, record_text, readings, output))
+}
+
+// The program `alerts`: settings tried on readings, against a record that agrees with a reference text. Output and refusal as for `draw`.
+pub fn alerts(
+    reference: &[u8],
+    record_text: &[u8],
+    settings_text: &[u8],
+    readings: &[u8],
+    output: &mut [u8],
+) -> WrittenAnswer
+    ensures answer { λ r.
+        ⌜ r ≡ writtenInNumbers (textWritten (alertsOutput total rowLimit channelTypes (now (reference .entry)) (now («record_text» .entry))
+        (now («settings_text» .entry)) (now (readings .entry))) (length (now (output .entry)))) ⌝ }
+    ensures output_filled { λ r.
+        ⌜ now (output .exit) ≡ filled (r .number) (r .length)
+        (alertsOutput total rowLimit channelTypes (now (reference .entry)) (now («record_text» .entry)) (now («settings_text» .entry))
+        (now (readings .entry))) (now (output .entry)) ⌝ }
+{
+    written_in_numbers(program_alerts::alerts(
+        reference,
+        record_text,
+        settings_text,
+        readings,
+        output,
+    ))
 }
 
 // The program `panel`: the centre of a record that agrees with a reference text, in whole steps. Output and refusal as for `draw`.

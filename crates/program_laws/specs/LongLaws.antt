@@ -5,11 +5,14 @@
 --     within-read                 what refuses a text above the limit gives the same for the bytes read
 --     content-read                a reference text
 --     against-read                a reference text and a record
---     draw-long, verify-long, panel-long, judge-long, plain-long     the programs
+--     settings-read               a settings text, which is not longer than the limit on texts where it is accepted
+--     trial-read                  readings on which settings are tried
+--     draw-long, verify-long, panel-long, judge-long, alerts-long, plain-long     the programs
 use Prim.Native.Nat.{ℕ, _+_, _<_}
 use mathlib.Core.Path.{_≡_, refl, sym, ap, _∙_}
 use mathlib.Core.Bool.{Bool, true, false}
 use mathlib.Core.List.{List}
+use mathlib.Core.Option.{Option, none, some}
 use native.Mathlib.Omega.{arith}
 use borrow.Author.Tests.{leb-true, leb-false}
 use lib.Dec.{leb}
@@ -17,8 +20,8 @@ use lib.IntN.{ℤ}
 use lib.ListN.{length, take}
 use lib.Seq.{take-all, length-take-le}
 use Rattle.integers.specs.Tests.{range-over}
-use Rattle.refusal.specs.Number.{text-length}
-use Rattle.refusal.specs.Outcome.{refused}
+use Rattle.refusal.specs.Number.{text-length, outside-limits, alert-settings}
+use Rattle.refusal.specs.Outcome.{refused, require}
 use Rattle.text.specs.Parts.{textWithin}
 use Rattle.limits.specs.Limits.{textLimit}
 use Rattle.channel.specs.Channel.{Types}
@@ -26,7 +29,12 @@ use Rattle.reference_rows.specs.ReferenceText.{codesOf, channelCount, rowCount,
 use Rattle.reference_rows.specs.Rows.{Content, faulty, sound}
 use Rattle.reference.specs.Reference.{content}
 use Rattle.reference.specs.RefusalLaws.{refuses-long}
+use Rattle.envelope.specs.Figures.{figuresKnown}
 use Rattle.envelope.specs.declared.Figures.{Figures}
+use Rattle.alert_settings.specs.Settings.{settingsWithin}
+use Rattle.alert_trial.specs.Trial.{faulty as untried, trialOf}
+use Rattle.settings_text.specs.SettingsText.{settingsText}
+use Rattle.settings_text.specs.SettingsTextLaws.{refuses-long as refuses-long-settings}
 use Rattle.record_read.specs.Contracts.{notRead, recordRead}
 use Rattle.typed_rows.specs.Given.{givenWithin}
 use Rattle.record_read.specs.ReadLaws.{read-limits, read-length}
@@ -38,6 +46,7 @@ use Rattle.program_verdicts.specs.Output.{readingsOutput}
 use Rattle.program_panel.specs.Output.{shownOutput, panelOutput}
 use Rattle.program_record.specs.Against.{unlessRefused, contentAgainst, recordAgainst, ofFigures}
 use Rattle.program_verify.specs.Output.{verifyOutput}
+use Rattle.program_alerts.specs.Output.{trialOutput, settingsOutput, alertsOutput}
 use Rattle.program_plain.specs.Output.{plainOutput}
 use Rattle.program_plain.specs.OutputLaws.{plain-faulty}
 
@@ -64,6 +73,9 @@ module _ {A : Type 0} (given : List ℕ → A) (refusal : A) (refuses : (text : 
           refuses (take readLimit text) (omega (arith, length-take-le readLimit text (omega arith)))
           ∙ sym (refuses text (omega arith))
 
+pub settings-read : (settings : List ℕ) → settingsText (bytesRead settings) ≡ settingsText settings
+settings-read = within-read settingsText none (λ settings h. refuses-long-settings settings (omega arith))
+
 module _ (D limit : ℕ) (types : Types) where
   pub content-read : (reference : List ℕ) → content limit types (bytesRead reference) ≡ content limit types reference
   content-read = within-read (content limit types) (faulty text-length 0) (refuses-long limit types)
@@ -83,6 +95,23 @@ module _ (D limit : ℕ) (types : Types) where
   readings-read : (f : Figures) (readings : List ℕ) → readingsOutput D types f (bytesRead readings) ≡ readingsOutput D types f readings
   unfolding readingsOutput
   readings-read f = within-read (readingsOutput D types f) (printRefusal text-length 0) (λ readings h. rw (within-long readings h))
+
+  -- long readings are refused, unless the figures or the settings are before them
+  pub trial-read : (f : Figures) (numbers readings : List ℕ) → trialOf D types f numbers (bytesRead readings) ≡ trialOf D types f numbers readings
+  unfolding trialOf
+  trial-read f numbers =
+      within-read (trialOf D types f numbers)
+      (require (figuresKnown D types f) (untried outside-limits) (λ _. require (settingsWithin numbers) (untried alert-settings) (λ _. untried text-length)))
+      (λ readings h. rw (within-long readings h))
+
+  settings-tried : (f : Figures) (settings readings : List ℕ)
+      → settingsOutput D types f (settingsText (bytesRead settings)) (bytesRead readings) ≡ settingsOutput D types f (settingsText settings) readings
+  settings-tried f settings readings =
+      ap (λ (numbers : Option (List ℕ)). settingsOutput D types f numbers (bytesRead readings)) (settings-read settings) ∙ go (settingsText settings)
+    where
+      go : (numbers : Option (List ℕ)) → settingsOutput D types f numbers (bytesRead readings) ≡ settingsOutput D types f numbers readings
+      go none = refl
+      go (some numbers) = ap trialOutput (trial-read f numbers readings)
 
   pub against-read : (reference text : List ℕ) → recordAgainst D limit types (bytesRead reference) (bytesRead text) ≡ recordAgainst D limit types reference text
   unfolding recordAgainst
@@ -121,6 +150,15 @@ module _ (D limit : ℕ) (types : Types) where
           let read = recordAgainst D limit types (bytesRead reference) (bytesRead text) in
           ap (λ (output : List ℕ). unlessRefused (read .outcome) (λ _. output)) (readings-read (read .envelope .figures) readings)
           ∙ figures-read (λ f. readingsOutput D types f readings)
+
+      pub alerts-long : (settings readings : List ℕ)
+          → alertsOutput D limit types (bytesRead reference) (bytesRead text) (bytesRead settings) (bytesRead readings)
+          ≡ alertsOutput D limit types reference text settings readings
+      unfolding alertsOutput
+      alerts-long settings readings =
+          let read = recordAgainst D limit types (bytesRead reference) (bytesRead text) in
+          ap (λ (output : List ℕ). unlessRefused (read .outcome) (λ _. output)) (settings-tried (read .envelope .figures) settings readings)
+          ∙ figures-read (λ f. settingsOutput D types f (settingsText settings) readings)
 
 pub plain-long : (limit : ℕ) (types : Types) (reference : List ℕ) → plainOutput limit types (bytesRead reference) ≡ plainOutput limit types reference
 plain-long limit types =

@@ -14,11 +14,12 @@
 --     draw-told, plain-told       draw or plain refuses the reference text
 --     verify-told, panel-told     verify refuses one of its texts, or panel, where no tag starts as a refusal does
 --     judge-told                  judge refuses the reference text, the record or the readings together
+--     alerts-told                 alerts refuses the reference text, the record, the settings text (`isMissing`) or the readings
 use Prim.Native.Nat.{ℕ, _≤_, _<_}
 use mathlib.Core.Path.{_≡_, refl, sym, ap, ap₂, subst, _∙_}
 use mathlib.Core.Bool.{Bool, true, false, not, cond, _&&_, _||_, and-false, or-false}
 use mathlib.Core.List.{List, [], _∷_, _++_, append-nil, append-assoc}
-use mathlib.Core.Option.{some}
+use mathlib.Core.Option.{Option, none, some}
 use native.Mathlib.Omega.{arith}
 use borrow.Author.Tests.{eqb-true, eq-eqb, ne-eqb}
 use lib.Dec.{eqb}
@@ -26,7 +27,7 @@ use lib.IntN.{ℤ, pos}
 use lib.ListN.{length, getD, take, length-append}
 use Rattle.integers.specs.Tests.{both, clash, test-same, range-in}
 use Rattle.lists.specs.Each.{Each, each-cons}
-use Rattle.refusal.specs.Number.{text-length, line-form, value-range, tag-differs}
+use Rattle.refusal.specs.Number.{text-length, line-form, value-range, tag-differs, alert-settings}
 use Rattle.refusal.specs.Outcome.{numberOf, lineOf}
 use Rattle.refusal.specs.declared.Refusal.{Refusal}
 use Rattle.refusal.specs.declared.Outcome.{Outcome}
@@ -35,7 +36,7 @@ use Rattle.limits.specs.Limits.{textLimit}
 use Rattle.text.specs.Ascii.{byte}
 use Rattle.text.specs.Lines.{printLines}
 use Rattle.number.specs.Number.{hyphen, isDigit, plain, print}
-use Rattle.number.specs.NumberLaws.{plain-print, print-free}
+use Rattle.number.specs.NumberLaws.{plain-print, print-free, print-led}
 use Rattle.text.specs.Parts.{comma, lineEnd, textWithin, same, extend, cut, join, free, allFree}
 use Rattle.text.specs.PartsLaws.{text-within, same-refl, same-eq, join-cut, cut-join, join-length, join-free}
 use Rattle.printing.specs.Contracts.{numbersAfter}
@@ -56,6 +57,12 @@ use Rattle.reading.specs.Verdict.{judged}
 use Rattle.reading.specs.VerdictLaws.{quiet-or-alarm, each-verdict}
 use Rattle.reading.specs.declared.Verdict.{Verdict}
 use Rattle.reading.specs.declared.Verdict.the-variants.{Quiet, Alarm, Refused as RefusedReading}
+use Rattle.alert.specs.Alert.{Setting}
+use Rattle.alert_settings.specs.Settings.{settingsWithin, settingsOf}
+use Rattle.alert_trial.specs.Trial.{verdictsOn, fourNumbers, trialLines, Trial, trialOf}
+use Rattle.alert_trial.specs.TrialLaws.{trial-length, trial-sound}
+use Rattle.settings_text.specs.SettingsText.{settingsText}
+use Rattle.settings_text.specs.SettingsTextLaws.{text-printed}
 use Rattle.record_form.specs.Record.{printRecord}
 use Rattle.record_print.specs.Printed.{recordText}
 use Rattle.record_read.specs.ReadLaws.{each-read}
@@ -67,6 +74,7 @@ use Rattle.program_draw.specs.Output.{drawOutput}
 use Rattle.program_plain.specs.Output.{plainOutput}
 use Rattle.program_judge.specs.Output.{judgeOutput}
 use Rattle.program_verdicts.specs.Output.{readingsOutput}
+use Rattle.program_alerts.specs.Output.{trialOutput, settingsOutput, alertsOutput}
 use Rattle.program_panel.specs.Output.{shownOutput, panelOutput}
 use Rattle.program_record.specs.Against.{unlessRefused, contentAgainst, recordAgainst, ofFigures}
 use Rattle.program_verify.specs.Output.{verifyOutput}
@@ -379,6 +387,44 @@ module _ (D : ℕ) (types : Types) (f : Figures) (within : figuresKnown D types 
           ∙ lines-told (linesWithEnds readings) (readings-some readings e) (readings-within readings e)
       go false e = ap refusesTexts (readings-refused D types f readings e) ∙ only-told text-length 0
 
+-- ---- alerts
+
+abbrev pub isMissing : Option (List ℕ) → Bool
+isMissing none = true
+isMissing (some numbers) = false
+
+-- a line of numbers starts with a digit
+number-told : (a : ℕ) (more : List ℕ) → refusesTexts (print (pos a) ++ more) ≡ false
+unfolding print
+number-told a more =
+    let led = print-led a in
+    ap (λ (l : List ℕ). refusesTexts (l ++ more)) (led .is) ∙ other-told (led .first) _ (ne-eqb (led .first) refusalByte (λ e. omega (arith, led .high)))
+
+four-told : (a b c d : ℕ) (more : List ℕ) → refusesTexts (fourNumbers a b c d ++ more) ≡ false
+unfolding numbersAfter join
+four-told a b c d more = ap refusesTexts (append-assoc (print (pos a)) _ more) ∙ number-told a _
+
+trial-told : (settings : List Setting) (vs : List Verdict) → refusesTexts (printLines (trialLines settings vs)) ≡ false
+unfolding printLines
+trial-told [] vs = four-told _ _ _ _ _
+trial-told (s ∷ settings) vs = four-told _ _ _ _ _
+
+module _ (D : ℕ) (types : Types) (f : Figures) (within : figuresKnown D types f ≡ true) where
+  settings-told : (settings readings : List ℕ)
+      → refusesTexts (settingsOutput D types f (settingsText settings) readings) ≡ (isMissing (settingsText settings) || not (textWithin readings))
+  settings-told settings readings = go (settingsText settings) refl
+    where
+      tried : (numbers : List ℕ) → settingsWithin numbers ≡ true → (t : Bool) → textWithin readings ≡ t
+          → refusesTexts (trialOutput (trialOf D types f numbers readings)) ≡ not t
+      tried numbers known true e =
+          ap (λ (t : Trial). refusesTexts (trialOutput t)) (trial-sound D types f numbers readings within known e) ∙ trial-told (settingsOf numbers) (verdictsOn D types f readings)
+      tried numbers known false e =
+          ap (λ (t : Trial). refusesTexts (trialOutput t)) (trial-length D types f numbers readings within known e) ∙ only-told text-length 0
+
+      go : (o : Option (List ℕ)) → settingsText settings ≡ o → refusesTexts (settingsOutput D types f o readings) ≡ (isMissing o || not (textWithin readings))
+      go none e = only-told alert-settings 0
+      go (some numbers) e = tried numbers (text-printed settings numbers e .1) (textWithin readings) refl
+
 module _ (D limit : ℕ) (types : Types) (reference text : List ℕ) where
   -- the record, read against the reference text
   abbrev read : EnvelopeRead
@@ -407,3 +453,12 @@ module _ (D limit : ℕ) (types : Types) (reference text : List ℕ) where
     judge-told readings =
         figures-told read (λ f. readingsOutput D types f readings) (not (textWithin readings)) (texts-told D limit types reference text)
         (λ is. readings-told D types (read .envelope .figures) (against-within D limit types types-sound positive reference text is) readings)
+
+    pub alerts-told : (settings readings : List ℕ)
+        → refusesTexts (alertsOutput D limit types reference text settings readings)
+        ≡ (isRefused (read .outcome) || (isMissing (settingsText settings) || not (textWithin readings)))
+    unfolding alertsOutput
+    alerts-told settings readings =
+        figures-told read (λ f. settingsOutput D types f (settingsText settings) readings) (isMissing (settingsText settings) || not (textWithin readings))
+        (texts-told D limit types reference text)
+        (λ is. settings-told D types (read .envelope .figures) (against-within D limit types types-sound positive reference text is) settings readings)

@@ -1,5 +1,5 @@
 -- Demand 1, what the code of each call for C and Rust is proved to answer in numbers, and to leave in what it is lent.
---     Exports, exports     the calls but those of MeasureCalls and WriterCalls, each by the definition that gives its answer
+--     Exports, exports     the calls but those of MeasureCalls, WriterCalls and AlertCalls, each by the definition that gives its answer
 -- Before each field stands the signature by which its arguments are counted.
 use Prim.Native.Nat.{_*_}
 use mathlib.Core.Path.{_≡_}

@@ -20,6 +20,9 @@ pub mod MeasureAnswers
 pub mod WriterCalls
 pub mod WriterAnswers
 pub mod WriterRefusals
+pub mod AlertCalls
+pub mod AlertAnswers
+pub mod AlertTexts
 pub mod Results
 pub mod RefusalValues
 pub mod RefusedTexts
@@ -40,3 +43,4 @@ pub mod Limited
 -- ---- requests
 pub mod WrittenTexts
 pub mod WrittenReferences
+pub mod AlertTrials

@@ -1,6 +1,6 @@
 -- Demand 1, what it is that an answer is accepted or a listed refusal; said of each call in ListedAnswers and ListedExports.
---     withoutLine number, withLine number     the numbers of document 01's table for which no line is at fault, and those for which one is
---     isRefusalAt number line                 one of these thirteen, with line 0 where no line is at fault, else with a line from 1
+--     withoutLine number, withLine number     the numbers of document 01's table, and 14, for which no line is at fault, and those for which one is
+--     isRefusalAt number line                 one of these fourteen, with line 0 where no line is at fault, else with a line from 1
 --     Listed outcome                          accepted, or refused so
 --     Answered outcome refusal answer         an answer with this outcome is accepted, or the refusal that its number and line make
 --     listed-zero, apart                      a listed refusal has not the number 0, and is no acceptance
@@ -17,7 +17,7 @@ use native.Mathlib.Omega.{arith}
 use borrow.Author.Tests.{le-leb}
 use lib.Dec.{eqb, leb}
 use Rattle.integers.specs.Tests.{clash, impossible}
-use Rattle.refusal.specs.Number.{budget-too-large, buffer-short, disagreement, heading, label-repeated, line-form, outside-limits, record-form, row-count, table-short, tag-differs, text-length, value-range}
+use Rattle.refusal.specs.Number.{alert-settings, budget-too-large, buffer-short, disagreement, heading, label-repeated, line-form, outside-limits, record-form, row-count, table-short, tag-differs, text-length, value-range}
 use Rattle.refusal.specs.Outcome.{numberOf}
 use Rattle.refusal.specs.declared.Outcome.{Outcome}
 use Rattle.refusal.specs.declared.Outcome.the-variants.{Accepted, Refused}
@@ -25,11 +25,11 @@ use Rattle.refusal.specs.declared.Refusal.{Refusal}
 use Rattle.lent.specs.Contracts.{withRoom}
 use Rattle.lent.specs.Filled.{filled, filled-refused}
 
--- 1, 7, 8, 9, 12, 13
+-- 1, 7, 8, 9, 12, 13, 14
 abbrev pub withoutLine : ℕ → Bool
 withoutLine number =
     eqb number text-length || (eqb number table-short || (eqb number outside-limits || (eqb number budget-too-large
-    || (eqb number disagreement || eqb number buffer-short))))
+    || (eqb number disagreement || (eqb number buffer-short || eqb number alert-settings)))))
 
 -- 2, 3, 4, 5, 6, 10, 11
 abbrev pub withLine : ℕ → Bool
@@ -52,7 +52,7 @@ pub record Answered {A : Type 0} (outcome : A → Outcome) (refusal : Refusal �
   -- a refusal's number and line make the whole answer
   pub whole : (r : Refusal) → outcome answer ≡ Refused r → answer ≡ refusal r
 
--- 0 is none of the thirteen
+-- 0 is none of the fourteen
 pub listed-zero : (o : Outcome) → Listed o → numberOf o ≡ 0 → o ≡ Accepted
 listed-zero Accepted listed z = refl
 listed-zero (Refused r) listed z = clash listed (ap (λ (number : ℕ). isRefusalAt number (r .line)) z)

@@ -1,5 +1,5 @@
 -- Demand 1, what it is that an answer in numbers is accepted or a listed refusal; said of each call for C and Rust in ListedExports.
---     ListedNumber number line, listed-number     0 and line 0, or one of the thirteen with its line; a listed outcome has such a number and line
+--     ListedNumber number line, listed-number     0 and line 0, or one of the fourteen with its line; a listed outcome has such a number and line
 --     EnvelopeNumbers, envelope-numbers           such an answer to a drawing or to a record: where the number is not 0 every other figure is 0
 --     CheckNumbers, check-numbers                 to a check
 --     ReferenceNumbers, reference-numbers         to a reference text

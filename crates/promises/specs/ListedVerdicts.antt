@@ -39,7 +39,7 @@ pub record VerdictAnswered (v : Verdict) : Type 0 where
   pub zero : verdictNumber v ≡ 0 → (v ≡ Quiet) ⊎ ((excess : ℕ) × (v ≡ Alarm excess))
   pub quiet : v ≡ Quiet → verdictNumber v ≡ 0
   pub alarm : (excess : ℕ) → v ≡ Alarm excess → verdictNumber v ≡ 0
-  -- else it is one of the thirteen with its line, the line at fault is 1, and the excess is 0
+  -- else it is one of the fourteen with its line, the line at fault is 1, and the excess is 0
   pub refused : (r : Refusal) → v ≡ RefusedReading r
       → (isRefusalAt (verdictNumber v) (verdictLine v) ≡ true) × (withLine (verdictNumber v) ≡ true → verdictLine v ≡ 1) × (verdictExcess v ≡ 0)
 
@@ -81,7 +81,7 @@ pub record MarkAnswered (mark : Mark) : Type 0 where
   pub zero : markNumber mark ≡ 0 → ((p : Point) × (mark ≡ Dot p)) ⊎ ((p : Point) × (x : Float) × (mark ≡ Disc p x))
   pub dot : (p : Point) → mark ≡ Dot p → markNumber mark ≡ 0
   pub disc : (p : Point) (x : Float) → mark ≡ Disc p x → markNumber mark ≡ 0
-  -- else it is one of the thirteen with its line, and the coordinates and the radius are 0
+  -- else it is one of the fourteen with its line, and the coordinates and the radius are 0
   pub refused : (r : Refusal) → mark ≡ RefusedMark r
       → (isRefusalAt (markNumber mark) (markLine mark) ≡ true) × (markPoint mark ≡ record { horizontal = positiveZero; vertical = positiveZero })
       × (markRadius mark ≡ positiveZero)

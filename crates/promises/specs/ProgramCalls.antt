@@ -1,5 +1,5 @@
 -- Demand 1, what the code of each program's call is proved to answer, and to leave in the slice for its output.
---     ProgramCalls, programCalls         the programs but plain (WriterCalls), from their texts, each its own slice, to the whole output
+--     ProgramCalls, programCalls         the programs but plain (WriterCalls) and alerts (AlertCalls), from their texts, each its own slice, to the whole output
 --     ProgramReaders, programReaders     what the programs' readers ask of a program and give it
 -- Before each field stands the signature by which its arguments are counted.
 use Prim.Native.Nat.{_<_, _≤_}

@@ -17,7 +17,8 @@ use Rattle.program_verify.specs.Output.{verifyOutput}
 use Rattle.program_panel.specs.Output.{panelOutput}
 use Rattle.program_plain.specs.Output.{plainOutput}
 use Rattle.program_judge.specs.Output.{judgeOutput}
-use Rattle.program_laws.specs.LongLaws.{bytesRead, draw-long, judge-long, panel-long, plain-long, verify-long}
+use Rattle.program_alerts.specs.Output.{alertsOutput}
+use Rattle.program_laws.specs.LongLaws.{alerts-long, bytesRead, draw-long, judge-long, panel-long, plain-long, verify-long}
 use Rattle.text.specs.Ascii.{ascii, byte}
 use Rattle.file_name.specs.Name.{escaped, escapedByte, escapedName, escapedStart}
 use Rattle.message.specs.Message.{excessMessage, fileMessage, missingMessage, namedArgument, streamMessage}
@@ -35,6 +36,9 @@ pub record ProgramTexts : Type 0 where
   pub judge-long : (reference text readings : List ℕ)
       → judgeOutput total rowLimit channelTypes (bytesRead reference) (bytesRead text) (bytesRead readings)
       ≡ judgeOutput total rowLimit channelTypes reference text readings
+  pub alerts-long : (reference text settings readings : List ℕ)
+      → alertsOutput total rowLimit channelTypes (bytesRead reference) (bytesRead text) (bytesRead settings) (bytesRead readings)
+      ≡ alertsOutput total rowLimit channelTypes reference text settings readings
   pub plain-long : (reference : List ℕ) → plainOutput rowLimit channelTypes (bytesRead reference) ≡ plainOutput rowLimit channelTypes reference
   -- a read that failed, answering below 0, is no end; 0 is the end; above 0 so many bytes more were read
   pub read-failed : (k at : ℕ) → afterRead (negsuc k) at ≡ Done (textRead false 0)
@@ -62,6 +66,7 @@ programTexts =
       verify-long = verify-long total rowLimit channelTypes;
       panel-long = panel-long total rowLimit channelTypes;
       judge-long = judge-long total rowLimit channelTypes;
+      alerts-long = alerts-long total rowLimit channelTypes;
       plain-long = plain-long rowLimit channelTypes;
       read-failed = λ k at. refl;
       read-ended = λ at. refl;

@@ -8,7 +8,7 @@ use lib.Ieee.{Float}
 use lib.IntN.{pos}
 use lib.ListN.{replicate}
 use Rattle.lists.specs.Padded.{padded}
-use Rattle.refusal.specs.Number.{budget-too-large, buffer-short, disagreement, heading, label-repeated, line-form, outside-limits, record-form, row-count, table-short, tag-differs, text-length, value-range}
+use Rattle.refusal.specs.Number.{alert-settings, budget-too-large, buffer-short, disagreement, heading, label-repeated, line-form, outside-limits, record-form, row-count, table-short, tag-differs, text-length, value-range}
 use Rattle.refusal.specs.Outcome.{lineOf, numberOf, refused, refusedAt}
 use Rattle.refusal.specs.declared.Outcome.{Outcome}
 use Rattle.refusal.specs.declared.Outcome.the-variants.{Accepted}
@@ -37,6 +37,7 @@ use Rattle.measured_reading.specs.Measured.{notMeasured}
 use Rattle.measured_reading.specs.declared.Measured.{Measured}
 use Rattle.export_reading.specs.Contracts.{measuredInNumbers, verdictCode, verdictInNumbers}
 use Rattle.export_chart.specs.Contracts.{markCode, markInNumbers}
+use Rattle.promises.specs.AlertAnswers.{TrialsListed, trials-listed}
 use Rattle.promises.specs.ListedAnswers.{AnswersListed, answers-listed}
 use Rattle.promises.specs.ListedExports.{ExportsListed, exports-listed}
 use Rattle.promises.specs.MeasureAnswers.{MeasuresListed, measures-listed}
@@ -46,20 +47,23 @@ use Rattle.promises.specs.WriterAnswers.{WriterListed, writer-listed}
 -- ---- 1.3
 
 pub record RefusalValues : Type 0 where
-  -- the thirteen numbers of document 01's table
+  -- the thirteen numbers of document 01's table, and that of alert settings
   pub numbers : text-length ∷ heading ∷ line-form ∷ value-range ∷ label-repeated ∷ row-count ∷ table-short ∷ outside-limits ∷ budget-too-large
-      ∷ tag-differs ∷ record-form ∷ disagreement ∷ buffer-short ∷ [] ≡ 1 ∷ 2 ∷ 3 ∷ 4 ∷ 5 ∷ 6 ∷ 7 ∷ 8 ∷ 9 ∷ 10 ∷ 11 ∷ 12 ∷ 13 ∷ []
+      ∷ tag-differs ∷ record-form ∷ disagreement ∷ buffer-short ∷ alert-settings ∷ []
+      ≡ 1 ∷ 2 ∷ 3 ∷ 4 ∷ 5 ∷ 6 ∷ 7 ∷ 8 ∷ 9 ∷ 10 ∷ 11 ∷ 12 ∷ 13 ∷ 14 ∷ []
   -- number and line of an outcome; line 0 where no line is at fault
   pub of-accepted : (numberOf Accepted ≡ 0) × (lineOf Accepted ≡ 0)
   pub of-refused : (number line : ℕ) → (numberOf (refusedAt number line) ≡ number) × (lineOf (refusedAt number line) ≡ line)
   pub no-line : (number : ℕ) → lineOf (refused number) ≡ 0
-  -- each answer of a call is accepted, with the number 0, or refused with one of the thirteen and its line (0 for 1, 7, 8, 9, 12, 13, else
+  -- each answer of a call is accepted, with the number 0, or refused with one of the fourteen and its line (0 for 1, 7, 8, 9, 12, 13, 14, else
   -- from 1, and 1 in a reading), and then it is the refusal below
   pub listed : AnswersListed
   pub listed-in-numbers : ExportsListed
   pub measures-listed : MeasuresListed
   -- of a reference text that is written: 8 and 13, and 3, 4 and 5 at a line from 2
   pub writer-listed : (lent : Lent) (places : ℕ) → WriterListed lent places
+  -- of alert settings that are tried: 8, 14, 1 and 13
+  pub trials-listed : TrialsListed
   -- in a refusal every other figure and array is 0
   pub ball : emptyBall ≡ filledBall (replicate channelLimit (pos 0)) 0 0 false
   pub drawing : (o : Outcome) → notDrawn rowLimit o ≡ record { outcome = o; ball = emptyBall; weights = replicate rowLimit 0; moves = 0 }
@@ -123,6 +127,7 @@ promise-1-3 =
       listed-in-numbers = exports-listed;
       measures-listed = measures-listed;
       writer-listed = writer-listed;
+      trials-listed = trials-listed;
       ball = refl;
       drawing = λ o. refl;
       check = λ o. refl;

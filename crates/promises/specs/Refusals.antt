@@ -43,6 +43,8 @@ use Rattle.chart.specs.MarkLaws.{accepted, accepts, refuses-figures, refuses-ho
 use Rattle.panel_steps.specs.Panel.{panelOf, panelShown, refusedPanel}
 use Rattle.panel_steps.specs.PanelLaws.{panel-refuses, panel-shows}
 use Rattle.export_figures.specs.declared.FiguresGiven.{FiguresGiven}
+use Rattle.promises.specs.AlertAnswers.{GivenTried, TrialRefused, given-tried, trials-refused}
+use Rattle.promises.specs.AlertTexts.{AlertsPrinted, alerts-printed}
 use Rattle.promises.specs.House.{textForm}
 use Rattle.promises.specs.RefusedExports.{ExportsRefused, exports-refused}
 use Rattle.promises.specs.MeasureAnswers.{GivenMeasured, MeasureRefused, given-measured, measures-refused}
@@ -123,9 +125,15 @@ pub record RefusalOrder : Type 0 where
   pub of-writing : (rows : List ℤ) (m : ℕ) (e : Envelope) (places : ℕ) → WritingRefused rows m e places
   -- reference text written: 8, then row by row 3, 4, 5, then 13
   pub of-reference-writing : (lent : Lent) (places : ℕ) → WriterRefused lent places
+  -- alert settings tried: 8, 14, 1, then 13; for C and Rust 8 for the ending before them
+  pub of-trial : (f : Figures) (settings readings : List ℕ) (places : ℕ) → TrialRefused f settings readings places
+  pub of-given-trial : (given : FiguresGiven) (codes : List ℕ) (X : List ℤ) (settings readings : List ℕ) (places : ℕ)
+      → GivenTried given codes X settings readings places
   pub of-chart : (f : Figures) (h v : ℕ) → ChartRefused f h v
   pub of-panel : (f : Figures) → PanelRefused f
   pub of-programs : (reference : List ℕ) → ProgramsRefused reference
+  -- alerts: the reference text, the record, then 14 for the settings text, then 1 for the readings
+  pub of-alerts : (reference text settings readings : List ℕ) → AlertsPrinted reference text settings readings
   pub for-C-and-Rust : ExportsRefused
 
 pub promise-1-4 : RefusalOrder
@@ -166,6 +174,8 @@ promise-1-4 =
             else-written = writing-written total rowLimit channelTypes rows m e places;
           };
       of-reference-writing = writer-refused;
+      of-trial = trials-refused;
+      of-given-trial = given-tried;
       of-chart = λ f h v.
           record {
             figures-8 = refuses-figures total channelTypes f h v;
@@ -176,5 +186,6 @@ promise-1-4 =
           };
       of-panel = λ f. record { figures-8 = panel-refuses total channelTypes f; else-shown = panel-shows total channelTypes f };
       of-programs = programs-refused;
+      of-alerts = alerts-printed;
       for-C-and-Rust = exports-refused;
     }

@@ -1,6 +1,7 @@
 -- Demand 1, which refusal the texts of a program meet, for the total, the row limit and the types of the calls; part of promise 1.4 in
 -- Refusals.
---     ProgramsRefused, programs-refused     the reference text, then the record, then the readings together; last 13; what is printed else
+--     ProgramsRefused, programs-refused     the reference text, then the record, then the readings together; last 13; what is printed else; alerts is in
+--                                           AlertTexts
 use Prim.Native.Nat.{_<_, _≤_, ℕ}
 use mathlib.Core.Path.{_∙_, _≡_, refl, sym}
 use mathlib.Core.Bool.{false, true}

@@ -14,7 +14,10 @@ use Rattle.reference.specs.Contracts.{referenceRead}
 use Rattle.reference_write.specs.Contracts.{referenceWritten, writtenText}
 use Rattle.reference_write.specs.Writing.{Lent, lentText}
 use Rattle.envelope.specs.declared.Envelope.{Envelope}
+use Rattle.envelope.specs.declared.Figures.{Figures}
 use Rattle.record_write.specs.Contracts.{recordWritten}
+use Rattle.promises.specs.AlertAnswers.{TrialCounts, trial-counts, trial-kept, trying}
+use Rattle.promises.specs.AlertCalls.{AlertCalls, alert-calls}
 use Rattle.promises.specs.Calls.{Calls, calls}
 use Rattle.promises.specs.Exports.{Exports, exports}
 use Rattle.promises.specs.Lent.{CountWithin, CountsWithin, FilledPlaces, counts-within, filled-places}
@@ -42,6 +45,7 @@ module _ {M : Type 1} (𝓤 : URA M) (H : Heap 𝓤) (𝓜 : Model 𝓤 H) (𝓖
     pub for-C-and-Rust : Exports 𝓤 H 𝓜 𝓖 𝓡
     pub of-measure : MeasureCalls 𝓤 H 𝓜 𝓖 𝓡
     pub of-writer : WriterCalls 𝓤 H 𝓜 𝓖 𝓡
+    pub of-alerts : AlertCalls 𝓤 H 𝓜 𝓖 𝓡
     pub texts-of-programs : ProgramTexts
     -- no public calls: what the two by which the programs read ask of a program, and what they give it
     pub readers : ProgramReaders 𝓤 H 𝓜 𝓖 𝓡
@@ -54,6 +58,7 @@ module _ {M : Type 1} (𝓤 : URA M) (H : Heap 𝓤) (𝓜 : Model 𝓤 H) (𝓖
         for-C-and-Rust = exports 𝓤 H 𝓜 𝓖 𝓡;
         of-measure = measure-calls 𝓤 H 𝓜 𝓖 𝓡;
         of-writer = writer-calls 𝓤 H 𝓜 𝓖 𝓡;
+        of-alerts = alert-calls 𝓤 H 𝓜 𝓖 𝓡;
         texts-of-programs = programTexts;
         readers = programReaders 𝓤 H 𝓜 𝓖 𝓡;
       }
@@ -73,6 +78,7 @@ module _ {M : Type 1} (𝓤 : URA M) (H : Heap 𝓤) (𝓜 : Model 𝓤 H) (𝓖
     -- of a reference text that is written, for C and Rust too, where the answer has the same length
     pub count-of-writer : (lent : Lent) (places : ℕ)
         → CountWithin (referenceWritten rowLimit channelTypes lent places .length) (writtenText channelTypes (lentText rowLimit channelTypes lent)) places
+    pub counts-of-trial : TrialCounts
     -- refused, every place is as at entry: by the number, as the calls for C and Rust and those that measure say it, and by the outcome, as the
     -- others do
     pub refused-kept : {A : Type 0} (number count : ℕ) (source lent : List A) → (number ≡ 0 → ⊥) → filled number count source lent ≡ lent
@@ -80,6 +86,7 @@ module _ {M : Type 1} (𝓤 : URA M) (H : Heap 𝓤) (𝓜 : Model 𝓤 H) (𝓖
     pub writing-kept : (rows : List ℤ) (m : ℕ) (e : Envelope) (places : ℕ)
         → KeptWhereRefused (recordWritten total rowLimit channelTypes rows m e places .outcome)
     pub reference-writing-kept : (lent : Lent) (places : ℕ) → KeptWhereRefused (referenceWritten rowLimit channelTypes lent places .outcome)
+    pub trial-kept : (f : Figures) (settings readings : List ℕ) (places : ℕ) → KeptWhereRefused (trying f settings readings places .outcome)
     pub output-kept : (output : List ℕ) (places : ℕ) → KeptWhereRefused (textWritten output places .outcome)
 
   pub promise-1-2 : LentMemory
@@ -93,6 +100,7 @@ module _ {M : Type 1} (𝓤 : URA M) (H : Heap 𝓤) (𝓜 : Model 𝓤 H) (𝓖
         counts-for-C-and-Rust = export-counts;
         counts-of-measure = measure-counts;
         count-of-writer = writer-count;
+        counts-of-trial = trial-counts;
         refused-kept = λ number count source lent refusal. sym (filled-refused number count source lent refusal);
         reference-kept = λ text places.
             refused-keeps (referenceRead rowLimit channelTypes text places .outcome) (answers-listed .of-reference text places .listed);
@@ -100,5 +108,6 @@ module _ {M : Type 1} (𝓤 : URA M) (H : Heap 𝓤) (𝓜 : Model 𝓤 H) (𝓖
             refused-keeps (recordWritten total rowLimit channelTypes rows m e places .outcome) (answers-listed .of-writing rows m e places .listed);
         reference-writing-kept = λ lent places.
             refused-keeps (referenceWritten rowLimit channelTypes lent places .outcome) (writer-listed lent places .answered .listed);
+        trial-kept = trial-kept;
         output-kept = λ output places. refused-keeps (textWritten output places .outcome) (answers-listed .of-output output places .listed);
       }

@@ -16,13 +16,15 @@ use Rattle.channel.specs.ContractLaws.{house-apart}
 use Rattle.envelope.specs.Figures.{figuresKnown}
 use Rattle.envelope.specs.declared.Figures.{Figures}
 use Rattle.reading.specs.Verdict.{judged, refusedVerdict}
+use Rattle.settings_text.specs.SettingsText.{settingsText}
 use Rattle.program_lines.specs.Lines.{printRefusal}
 use Rattle.program_draw.specs.Output.{drawOutput}
 use Rattle.program_verify.specs.Output.{verifyOutput}
 use Rattle.program_panel.specs.Output.{panelOutput}
 use Rattle.program_plain.specs.Output.{plainOutput}
 use Rattle.program_judge.specs.Output.{judgeOutput}
-use Rattle.program_laws.specs.ToldLaws.{draw-told, isFaulty, isRefused, judge-told, ofReading, panel-told, plain-told, refusal-injective, refusal-of-reading, refusal-of-texts, refusesTexts, verify-told}
+use Rattle.program_alerts.specs.Output.{alertsOutput}
+use Rattle.program_laws.specs.ToldLaws.{alerts-told, draw-told, isFaulty, isMissing, isRefused, judge-told, ofReading, panel-told, plain-told, refusal-injective, refusal-of-reading, refusal-of-texts, refusesTexts, verify-told}
 use Rattle.promises.specs.House.{against, textContent}
 
 -- `refusesTexts output`: the first line is a refusal, and none of those that a reading meets
@@ -35,6 +37,10 @@ pub record RefusalsTold : Type 0 where
       → refusesTexts (panelOutput total rowLimit channelTypes reference text) ≡ isRefused (against reference text .outcome)
   pub judge : (reference text readings : List ℕ)
       → refusesTexts (judgeOutput total rowLimit channelTypes reference text readings) ≡ (isRefused (against reference text .outcome) || not (textWithin readings))
+  -- or the settings text, which is then no such text (`isMissing`)
+  pub alerts : (reference text settings readings : List ℕ)
+      → refusesTexts (alertsOutput total rowLimit channelTypes reference text settings readings)
+      ≡ (isRefused (against reference text .outcome) || (isMissing (settingsText settings) || not (textWithin readings)))
   -- number and line tell which: those that a reading meets are 3, 10 and 4 at line 1, which no refusal of the texts has
   pub of-texts : (reference text : List ℕ) (r : Refusal) → against reference text .outcome ≡ Refused r → ofReading (r .number) (r .line) ≡ false
   pub of-reading : (f : Figures) → figuresKnown total channelTypes f ≡ true → (text : List ℕ) → textWithin text ≡ true
@@ -51,6 +57,7 @@ refusals-told =
       verify = verify-told total rowLimit channelTypes;
       panel = λ reference text. panel-told total rowLimit channelTypes reference text house-sound (omega arith) house-apart;
       judge = λ reference text. judge-told total rowLimit channelTypes reference text house-sound (omega arith);
+      alerts = λ reference text. alerts-told total rowLimit channelTypes reference text house-sound (omega arith);
       of-texts = refusal-of-texts total rowLimit channelTypes;
       of-reading = λ f within text some-text number line.
           refusal-of-reading total channelTypes f within text some-text (record { number = number; line = line });

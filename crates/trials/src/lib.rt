@@ -1,1 +1,2 @@
-// Proof-only: the starred trial figures of document 01 and the range of TOC, computed from the definitions. The table is in specs/.
+// Proof-only: the starred trial figures of document 01, the range of TOC and alert settings on a few verdicts, computed from the
+// definitions. The tables are in specs/.

@@ -1,0 +1,2 @@
+-- What the proofs of settings use.
+pub mod SplitSteps

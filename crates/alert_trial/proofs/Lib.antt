@@ -1,0 +1,3 @@
+-- What the proofs of counting use.
+pub mod CountSteps
+pub mod WalkSteps

@@ -1,0 +1,2 @@
+-- What the exported trial of alert settings answers.
+pub mod Contracts

@@ -1,0 +1,2 @@
+-- What is printed of a trial.
+pub mod TrialSteps

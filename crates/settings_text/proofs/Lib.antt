@@ -1,0 +1,2 @@
+-- How the code reads a settings text: a field, a line, and line by line.
+pub mod ReadSteps

@@ -1,0 +1,3 @@
+-- What the proofs of trials use.
+pub mod LineSteps
+pub mod TrialSteps
