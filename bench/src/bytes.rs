@@ -11,4 +11,10 @@ impl Bytes<'_> {
         self.rest = rest;
         Some(byte)
     }
+
+    /// Takes the bytes up to the next line.
+    pub fn skip_line(&mut self) {
+        let end = self.rest.iter().position(|&byte| byte == b'\n');
+        self.rest = end.map_or(&[], |end| &self.rest[end + 1..]);
+    }
 }

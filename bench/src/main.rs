@@ -22,6 +22,8 @@ mod reference_fields;
 mod reference_pass;
 mod references;
 mod texts;
+mod trial;
+mod trials;
 mod verdict;
 
 use measure::{measure, print_header};
@@ -58,6 +60,7 @@ fn main() {
     charts::measure_charts(&mut random);
     redraw::measure_redraw(&mut random);
     references::measure_references(&mut random);
+    trials::measure_trials(&mut random);
     memory::measure_memory();
 }
 

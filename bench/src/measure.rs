@@ -10,9 +10,14 @@ const ROUND_SECONDS: f64 = 0.02;
 
 /// Prints the names of the columns; the last one is how much work there is.
 pub fn print_header(amount: &str) {
+    print_header_of("proved ms", "plain ms", amount);
+}
+
+/// The same, where others than proved and plain are timed.
+pub fn print_header_of(first: &str, second: &str, amount: &str) {
     println!(
-        "{:<24}{:>12}{:>12}{:>10}{:>10}{:>10}",
-        "name", "proved ms", "plain ms", "medians", "minima", amount
+        "{:<24}{first:>12}{second:>12}{:>10}{:>10}{amount:>10}",
+        "name", "medians", "minima"
     );
 }
 

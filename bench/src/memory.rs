@@ -22,6 +22,7 @@ pub fn measure_memory() {
     let rows: String = (0..256).map(row).collect();
     let largest = format!("REF,8{heading}\n{rows}");
     let line_ends = "\n".repeat(TEXT_LIMIT);
+    let settings = "99,99\n".repeat(cundarivo::SETTINGS);
     let record = String::from_utf8(cundarivo::programs::draw(largest.as_bytes()));
     let verified = [largest.as_str(), &record.expect("a record in ASCII")];
     for (name, texts) in [
@@ -30,6 +31,7 @@ pub fn measure_memory() {
         ("verify", &verified),
         ("panel", &verified),
         ("judge", &[REFERENCE, RECORD, &line_ends]),
+        ("alerts", &[REFERENCE, RECORD, &settings, &line_ends]),
     ] {
         let (peak, bytes) = (peak_kibibytes(name, texts), texts.concat().len());
         println!("{name:<24}{peak:>12}{bytes:>12}");

@@ -71,18 +71,30 @@ fn drawn(random: &mut Random, n: usize) -> (Figures, Vec<Vec<u8>>) {
     let mut rows = Vec::with_capacity(READINGS * n);
     let mut texts = Vec::with_capacity(READINGS);
     for row in 0..READINGS {
-        let more = "ABCDEFGHI".get(..random.below(10)).unwrap_or_default();
-        let mut text = format!("{row:02X}{more}");
-        for channel in &TAGS[..n] {
-            let (field, reads) = value(random, *channel);
-            text += &format!(",{},{field}", channel.0);
-            rows.push(reads);
-        }
-        texts.push((text + "\n").into_bytes());
+        let (text, values) = reading(random, row, &TAGS[..n]);
+        texts.push(text.into_bytes());
+        rows.extend(values);
     }
     let drawing = cundarivo::draw(&rows, READINGS, n, BUDGET).expect("within limits");
     let codes: Vec<u8> = (1..=n as u8).collect();
     (drawing.figures(&codes), texts)
+}
+
+/// A reading with values anywhere in these ranges, its number in the label, and what its values read as.
+pub fn reading(
+    random: &mut Random,
+    number: usize,
+    channels: &[(&str, i32, i32)],
+) -> (String, Vec<i32>) {
+    let more = "ABCDEFGHI".get(..random.below(10)).unwrap_or_default();
+    let mut text = format!("{number:02X}{more}");
+    let mut values = Vec::with_capacity(channels.len());
+    for channel in channels {
+        let (field, reads) = value(random, *channel);
+        text += &format!(",{},{field}", channel.0);
+        values.push(reads);
+    }
+    (text + "\n", values)
 }
 
 fn proved(work: &Work<'_>) -> Outcome {

@@ -126,10 +126,7 @@ impl AsRef<[u8]> for Text {
 
 /// The text of an envelope within the limits.
 pub fn print(envelope: &Envelope<'_>) -> Text {
-    let mut text = Text {
-        bytes: [0; MOST_BYTES],
-        length: 0,
-    };
+    let mut text = Text::new();
     let figures = &envelope.figures;
     let n = figures.n;
     text.add(b"ENV,");
@@ -167,12 +164,19 @@ pub fn print(envelope: &Envelope<'_>) -> Text {
 }
 
 impl Text {
-    fn add(&mut self, bytes: &[u8]) {
+    pub fn new() -> Text {
+        Text {
+            bytes: [0; MOST_BYTES],
+            length: 0,
+        }
+    }
+
+    pub fn add(&mut self, bytes: &[u8]) {
         self.bytes[self.length..self.length + bytes.len()].copy_from_slice(bytes);
         self.length += bytes.len();
     }
 
-    fn add_number(&mut self, number: u64) {
+    pub fn add_number(&mut self, number: u64) {
         let digits = number.checked_ilog10().unwrap_or(0) as usize + 1;
         let mut rest = number;
         for place in self.bytes[self.length..self.length + digits]

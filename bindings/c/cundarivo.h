@@ -53,14 +53,21 @@
  *   Reading: one line of a label, then tag and value n times.
  *   Record: the line ENV, n and n tags; the line C and X; the line R, M, L, moves and S for Settled or B for
  *   Budget; then for each weight above 0 a line W, row and weight, rows counted from 1 and rising.
+ *   Settings: 1 to 20 lines k and c, each a plain number from 1 to 99.
+ *
+ * Alerts
+ *
+ *   A setting is two numbers, k and c: an alert is raised after k Alarm verdicts running and cleared after c
+ *   Quiet verdicts running. The reading that raises it passes while it stands, the one that clears it does not.
+ *   A reading that is turned back breaks no run and is not among those that pass while an alert stands.
  *
  * Answers and refusals
  *
  *   Every call but cundarivo_label answers with a number and a line. The number is 0 where the call is
  *   accepted, else that of the refusal (enum cundarivo_refusal); where several apply it is the first in
  *   the order stated at the call. The line is the one at fault, counted from 1 in its text, and 0 where no
- *   line is at fault (refusals 1, 7, 8, 9, 12 and 13) and where the call is accepted. Of a reference text that
- *   is to be written it is the line that the row at fault would have.
+ *   line is at fault (refusals 1, 7, 8, 9, 12, 13 and 14) and where the call is accepted. Of a reference text
+ *   that is to be written it is the line that the row at fault would have.
  *   On a refusal every lent place is as it was before the call, and every other member of the answer is 0.
  *   Where a call is accepted it fills the first places of what is lent for writing, as many as it says, and
  *   leaves every other place as it was.
@@ -125,10 +132,16 @@ extern "C" {
 /* The most bytes of a text. */
 #define CUNDARIVO_TEXT_BYTES 65536
 
+/* The most settings of an alert that are tried at once. */
+#define CUNDARIVO_SETTINGS 20
+
+/* The largest k and c of a setting. */
+#define CUNDARIVO_RUN_MOST 99
+
 /*
- * Bytes that are proved to be enough for every record, for every reference text that is written and for every
- * output of a program, whatever the texts are. Where fewer are lent than the output has the call is refused
- * by 13.
+ * Bytes that are proved to be enough for every record, for every reference text that is written, for every
+ * trial of alert settings and for every output of a program, whatever the texts are. Where fewer are lent than
+ * the output has the call is refused by 13.
  */
 
 /*
@@ -142,6 +155,9 @@ extern "C" {
  * that is written of m rows has at most 38 + 61 * m.
  */
 #define CUNDARIVO_REFERENCE_BYTES (38 + 61 * CUNDARIVO_ROWS)
+
+/* 18 for each setting and 24 for the last line: `output_room` in crates/try_settings/src/lib.rt. */
+#define CUNDARIVO_TRIAL_BYTES (18 * CUNDARIVO_SETTINGS + 24)
 
 /* A record, or the line of a refusal: `output_room` in crates/program_draw/src/lib.rt. */
 #define CUNDARIVO_PROGRAM_DRAW_BYTES CUNDARIVO_RECORD_BYTES
@@ -161,6 +177,9 @@ extern "C" {
 
 /* 64 for the line of a refusal and 25 for each channel: `output_room` in crates/program_panel/src/lib.rt. */
 #define CUNDARIVO_PROGRAM_PANEL_BYTES (64 + 25 * CUNDARIVO_CHANNELS)
+
+/* A trial, or the line of a refusal: `output_room` in crates/program_alerts/src/lib.rt. */
+#define CUNDARIVO_PROGRAM_ALERTS_BYTES CUNDARIVO_TRIAL_BYTES
 
 /* ---- numbers that stand for something */
 
@@ -193,7 +212,10 @@ enum cundarivo_refusal {
     /* The weights do not sum to 65,536, or a record or an envelope disagrees with the rows. */
     CUNDARIVO_REFUSED_DISAGREEMENT = 12,
     /* Memory that is lent for writing, the table of a reference text excepted, has too few places. */
-    CUNDARIVO_REFUSED_BUFFER_SHORT = 13
+    CUNDARIVO_REFUSED_BUFFER_SHORT = 13,
+    /* A k or c is outside 1 to 99, there is no setting, a 21st or a k without its c, or a text of settings is
+     * not in form. */
+    CUNDARIVO_REFUSED_ALERT_SETTINGS = 14
 };
 
 /* The codes of the channel types. */
@@ -287,7 +309,10 @@ typedef struct {
     uint64_t scaled_squared_distance; /* s */
 } cundarivo_measured_answer;
 
-/* The answer to the writing of a record or reference text, and of each program: how many bytes are written. */
+/*
+ * The answer to the writing of a record or reference text, to a trial of settings, and of each program: how
+ * many bytes are written.
+ */
 typedef struct {
     uint32_t number;
     uint32_t line;
@@ -420,6 +445,30 @@ cundarivo_measured_answer cundarivo_measure(
     const uint8_t *text, size_t text_length,
     int32_t *values, size_t values_length);
 
+/*
+ * Tries settings of an alert on recorded readings, against the figures of an envelope, and answers with the
+ * length of what it writes. It fills the first `length` places of `output`. `settings` has two places for each
+ * setting, k and then c; the same setting may stand there twice. Each line of `readings` is a reading, an empty
+ * line and a last line without byte 10 too, and is judged as by cundarivo_judge: one that is refused there is
+ * turned back. Of `codes` and `scaled_centre` the first n places count.
+ *
+ * For each setting, in order, it writes a line: k, c, the alerts raised, and the readings that passed while an
+ * alert stood. A last line has the number of readings, of Alarm and of Quiet verdicts, and of readings turned
+ * back. The numbers are parted by commas, and each line ends in byte 10. CUNDARIVO_TRIAL_BYTES places are
+ * enough for every trial.
+ *
+ * Refused, each at line 0: 8 as for cundarivo_judge; 14 for `settings` of no place, of an odd number of places
+ * or of more than 40, or for a k or c outside 1 to 99; 1 for `readings` that are empty or have more than 65,536
+ * bytes; then 13 for `output` of fewer places than are written.
+ */
+cundarivo_written_answer cundarivo_try_settings(
+    cundarivo_figures_given figures,
+    const uint8_t *codes, size_t codes_length,
+    const int64_t *scaled_centre, size_t scaled_centre_length,
+    const uint32_t *settings, size_t settings_length,
+    const uint8_t *readings, size_t readings_length,
+    uint8_t *output, size_t output_length);
+
 /* ---- the record */
 
 /*
@@ -491,10 +540,11 @@ cundarivo_panel_answer cundarivo_panel(
 /* ---- the programs */
 
 /*
- * Each call below is one of the programs draw, plain, verify, judge and panel: it is lent the texts that the
- * program reads, and fills the first `length` places of `output` with what the program prints. Each text is
- * lent by itself and is never joined with another, since whoever writes the first of joined texts decides
- * where the second begins. A text may have any length: above 65,536 bytes it is turned back by 1.
+ * Each call below is one of the programs draw, plain, verify, judge, panel and alerts: it is lent the texts
+ * that the program reads, and fills the first `length` places of `output` with what the program prints. Each
+ * text is lent by itself and is never joined with another, since whoever writes the first of joined texts
+ * decides where the second begins. A text may have any length: above 65,536 bytes it is turned back by 1, a
+ * text of settings by 14.
  *
  * The only refusal of a call is 13, for `output` of fewer places than are printed; CUNDARIVO_PROGRAM_..._BYTES
  * are always enough. What the program itself turns back is printed: the line NO, number and line, parted by
@@ -549,6 +599,19 @@ cundarivo_written_answer cundarivo_program_judge(
 cundarivo_written_answer cundarivo_program_panel(
     const uint8_t *reference, size_t reference_length,
     const uint8_t *record, size_t record_length,
+    uint8_t *output, size_t output_length);
+
+/*
+ * Prints what cundarivo_try_settings writes for the settings of a text and for readings, against a record that
+ * is accepted against the rows of a reference text.
+ * NO: as for verify; then 14 at line 0 for every fault of the text of settings, also where it is empty or above
+ * 65,536 bytes; then 1 where the readings together are empty or have more than 65,536 bytes.
+ */
+cundarivo_written_answer cundarivo_program_alerts(
+    const uint8_t *reference, size_t reference_length,
+    const uint8_t *record, size_t record_length,
+    const uint8_t *settings, size_t settings_length,
+    const uint8_t *readings, size_t readings_length,
     uint8_t *output, size_t output_length);
 
 #ifdef __cplusplus

@@ -1,7 +1,7 @@
 /*
  * An envelope from C: the reference text is read and written back, its ball drawn and checked, the record
- * written and read back, readings judged and measured, the chart and the panel made; at last the five programs
- * do the same from the texts.
+ * written and read back, readings judged and measured, alert settings tried on recorded readings, the chart and
+ * the panel made; at last the six programs do the same from the texts.
  *
  * Every answer is looked at. A call that has to be accepted here ends the example with a message and status 1
  * where it is refused; refusals that belong to the example are printed with number, line and reason.
@@ -32,6 +32,23 @@ static const char *const READINGS[] = {
 };
 
 #define READING_COUNT (sizeof READINGS / sizeof READINGS[0])
+
+/* Two Alarms with an empty line between them, a Quiet, an Alarm, two Quiet, and a line without byte 10. */
+static const char RECORDED[] =
+    "LOOP-1,TOC,7,CND,0\n"
+    "\n"
+    "LOOP-1,TOC,3,CND,10\n"
+    "LOOP-1,TOC,3,CND,9\n"
+    "LOOP-1,TOC,7,CND,0\n"
+    "LOOP-1,TOC,3,CND,9\n"
+    "LOOP-1,TOC,3,CND,9\n"
+    "LOOP-1,TOC,3,CND,10";
+
+/* The same settings as a text and as numbers: k and c of each. */
+static const char SETTINGS_TEXT[] = "2,2\n1,1\n4,99\n";
+static const uint32_t SETTINGS[] = {2, 2, 1, 1, 4, 99};
+
+#define SETTINGS_LENGTH (sizeof SETTINGS / sizeof SETTINGS[0])
 
 /* An envelope with the rows that it is drawn from. */
 struct envelope {
@@ -73,6 +90,7 @@ static const char *reason(uint32_t number)
     case CUNDARIVO_REFUSED_RECORD_FORM: return "record not in form";
     case CUNDARIVO_REFUSED_DISAGREEMENT: return "disagreement with the rows";
     case CUNDARIVO_REFUSED_BUFFER_SHORT: return "lent memory too short";
+    case CUNDARIVO_REFUSED_ALERT_SETTINGS: return "alert settings outside the limits or not in form";
     default: return "unknown number";
     }
 }
@@ -372,6 +390,43 @@ static void measure(const struct envelope *envelope, const char *reading, size_t
     printf("\n");
 }
 
+/* Tries settings on the first bytes of the recorded readings, where so many places are lent for the output. */
+static cundarivo_written_answer try_settings(
+    const struct envelope *envelope, const uint32_t *settings, size_t settings_length, size_t readings_length,
+    uint8_t *output, size_t output_length)
+{
+    size_t n = envelope->figures.n;
+    return cundarivo_try_settings(
+        envelope->figures, envelope->codes, n, envelope->centre, n,
+        settings, settings_length,
+        bytes_of(RECORDED), readings_length,
+        output, output_length);
+}
+
+static void try_alerts(const struct envelope *envelope, struct text *trial)
+{
+    static const uint32_t above[] = {2, 100};
+    size_t length = strlen(RECORDED);
+    cundarivo_written_answer answer = try_settings(
+        envelope, SETTINGS, SETTINGS_LENGTH, length, trial->bytes, CUNDARIVO_TRIAL_BYTES);
+    require("trial of settings", answer.number, answer.line);
+    trial->length = answer.length;
+    printf("trial of settings:\n");
+    print_bytes(trial->bytes, trial->length);
+
+    uint8_t output[CUNDARIVO_TRIAL_BYTES];
+    answer = try_settings(envelope, above, 2, length, output, sizeof output);
+    print_not_written("trial of a c of 100", answer);
+    answer = try_settings(envelope, SETTINGS, SETTINGS_LENGTH - 1, length, output, sizeof output);
+    print_not_written("trial of a k without its c", answer);
+    answer = try_settings(envelope, SETTINGS, 0, 0, output, sizeof output);
+    print_not_written("trial of no setting on no reading", answer);
+    answer = try_settings(envelope, SETTINGS, SETTINGS_LENGTH, 0, output, 0);
+    print_not_written("trial on no reading", answer);
+    answer = try_settings(envelope, SETTINGS, SETTINGS_LENGTH, length, output, trial->length - 1);
+    print_not_written("trial in one byte fewer", answer);
+}
+
 static void chart_and_panel(const struct envelope *envelope)
 {
     size_t n = envelope->figures.n;
@@ -417,6 +472,28 @@ static void run_plain(void)
     print_output("program plain of a text without its last byte", answer, output);
     answer = cundarivo_program_plain(bytes_of(text), strlen(text), output, 2);
     print_not_written("program plain in 2 bytes", answer);
+}
+
+/* The settings are a text here; the record is that of the envelope. */
+static void run_alerts(const struct text *record, const struct text *trial)
+{
+    static const char faulty[] = "2,2\n01,1\n";
+    uint8_t output[CUNDARIVO_PROGRAM_ALERTS_BYTES];
+    cundarivo_written_answer answer = cundarivo_program_alerts(
+        bytes_of(REFERENCE), strlen(REFERENCE), record->bytes, record->length,
+        bytes_of(SETTINGS_TEXT), strlen(SETTINGS_TEXT), bytes_of(RECORDED), strlen(RECORDED),
+        output, sizeof output);
+    require("program alerts", answer.number, answer.line);
+    if (answer.length != trial->length || memcmp(output, trial->bytes, trial->length) != 0) {
+        fail("program alerts prints another trial");
+    }
+    printf("program alerts: the same trial\n");
+
+    answer = cundarivo_program_alerts(
+        bytes_of(REFERENCE), strlen(REFERENCE), record->bytes, record->length,
+        bytes_of(faulty), strlen(faulty), bytes_of(RECORDED), strlen(RECORDED),
+        output, sizeof output);
+    print_output("program alerts of a setting with a leading zero", answer, output);
 }
 
 /* The other four programs on the texts of the example, each lent by itself. */
@@ -481,6 +558,7 @@ int main(void)
 {
     static struct envelope envelope;
     static struct text record;
+    static struct text trial;
     read_reference(&envelope);
     read_faulty_reference();
     write_reference_back(&envelope);
@@ -495,9 +573,11 @@ int main(void)
     measure(&envelope, READINGS[2], CUNDARIVO_CHANNELS);
     measure(&envelope, READINGS[2], 1);
     measure(&envelope, READINGS[4], 1);
+    try_alerts(&envelope, &trial);
     chart_and_panel(&envelope);
     run_plain();
     run_programs(&record);
+    run_alerts(&record, &trial);
     run_programs_on_faults(&record);
     if (fflush(stdout) != 0 || ferror(stdout)) {
         fail("standard output cannot be written");

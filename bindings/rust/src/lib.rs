@@ -1,7 +1,7 @@
 //! Safe calls of the proved library: reference texts read into rows and written of them, a tight ball
 //! round the rows drawn in whole numbers, the check of weights that anybody has chosen, the verdict on
-//! a reading, the records of envelopes written and read, and the figures of charts and of the panel.
-//! [`programs`] has the same as whole programs, text to text.
+//! a reading, settings of an alert tried on recorded readings, the records of envelopes written and read,
+//! and the figures of charts and of the panel. [`programs`] has the same as whole programs, text to text.
 //!
 //! There are m rows (1 to 256) of n channels (1 to 8); each coordinate is a whole number from
 //! -4,000 to 4,000, counted in steps of its channel. Rows are lent as one list, row by row: the first
@@ -87,6 +87,23 @@
 //! # Ok::<(), cundarivo::Refusal>(())
 //! ```
 //!
+//! A *setting* of an alert is two numbers, k and c, from 1 to [`RUN_MOST`]: an alert is raised after k Alarm
+//! verdicts running and cleared after c Quiet verdicts running. [`try_settings`] tries up to [`SETTINGS`] of
+//! them on recorded readings, a line each, and gives for each the alerts raised and the readings that
+//! passed while an alert stood; [`try_settings_into`] is the library's own call.
+//!
+//! ```
+//! use cundarivo::AlertSetting;
+//!
+//! let figures = cundarivo::draw(&[0, 0, 6, 0, 0, 8], 3, 2, 10_000)?.figures(&[1, 4]);
+//! let readings = b"LOOP-1,TOC,3,CND,9\nLOOP-1,TOC,3,CND,10\nLOOP-1,TOC,3,CND,11\n";
+//! let settings = [AlertSetting { k: 1, c: 1 }, AlertSetting { k: 2, c: 3 }];
+//! let trial = cundarivo::try_settings(&figures, &settings, readings)?;
+//! // k, c, raised and passed; at last the readings, Alarm, Quiet and turned back.
+//! assert_eq!(trial, b"1,1,1,2\n2,3,1,1\n3,2,1,0\n");
+//! # Ok::<(), cundarivo::Refusal>(())
+//! ```
+//!
 //! A *record* is the text of an envelope: `ENV`, n and the tags; `C` and X; `R`, M, L, the moves and
 //! `S` for Settled or `B` for Budget; then `W`, row and weight, for each weight above 0, rows
 //! counted from 1 and rising.
@@ -163,12 +180,17 @@
 //! The package links `target/staticlib/libcundarivo.a` of the repository, which `rt staticlib cundarivo`
 //! writes, for x86-64.
 
+mod alerts;
 mod chart;
 mod measured;
 pub mod programs;
 mod record;
 mod reference;
 
+pub use alerts::{
+    AlertSetting, PROGRAM_ALERTS_BYTES, RUN_MOST, SETTINGS, TRIAL_BYTES, try_settings,
+    try_settings_into,
+};
 pub use chart::{Mark, MarkAnswer, PanelAnswer, Point, chart, chart_given, panel, panel_into};
 pub use measured::{Measured, MeasuredAnswer, measure, measure_into};
 pub use record::{
@@ -190,7 +212,7 @@ pub const CHANNELS: usize = 8;
 pub const TOTAL: u32 = 65_536;
 
 /// Input that was turned back: its number in the table of refusals, and the line at fault, counted
-/// from 1, or 0 where no line is at fault, as for 1, 7, 8, 9, 12 and 13. Of a reference text that is to
+/// from 1, or 0 where no line is at fault, as for 1, 7, 8, 9, 12, 13 and 14. Of a reference text that is to
 /// be written it is the line that the row at fault would have.
 ///
 /// | number | when |
@@ -208,9 +230,10 @@ pub const TOTAL: u32 = 65_536;
 /// | 11 | a record that is not in form |
 /// | 12 | weights whose sum is not [`TOTAL`], or a record or an envelope that disagrees with the rows |
 /// | 13 | a lent slice too short for what is to be written |
+/// | 14 | a k or c outside 1 to [`RUN_MOST`], no setting or more than [`SETTINGS`], a k without its c, or a text of settings that is not in form |
 #[derive(Clone, Copy, Debug, PartialEq, Eq, Hash)]
 pub struct Refusal {
-    /// The number in the table above, 1 to 13.
+    /// The number in the table above, 1 to 14.
     pub number: u32,
     /// The line at fault in its text, read or to be written, counted from 1, or 0.
     pub line: u32,
@@ -234,6 +257,7 @@ impl fmt::Display for Refusal {
             11 => "record not in form",
             12 => "weights, record or envelope that disagree with the rows",
             13 => "a lent slice too short",
+            14 => "alert settings outside the limits or not in form",
             _ => "input turned back",
         };
         write!(
@@ -286,8 +310,8 @@ pub struct Checked {
 }
 
 /// The figures of an envelope, which a reading is judged against, and of which charts and the panel
-/// are made. Whoever made them, [`judge`], [`measure`], [`chart`] and [`panel`] refuse by 8 those
-/// outside their limits; [`Drawing::figures`] and, with moves of at most 1,000,000,
+/// are made. Whoever made them, [`judge`], [`measure`], [`try_settings`], [`chart`] and [`panel`] refuse
+/// by 8 those outside their limits; [`Drawing::figures`] and, with moves of at most 1,000,000,
 /// [`Checked::figures`] give figures that are within them, for rows and codes of a reference text.
 #[derive(Clone, Debug, PartialEq, Eq, Hash)]
 pub struct Figures {
@@ -441,7 +465,8 @@ pub struct LabelAnswer {
 }
 
 /// The figures of an envelope as they are given to the library, but for its codes and X; see
-/// [`judge_given`], [`measure_into`], [`write_record_into`], [`chart_given`] and [`panel_into`].
+/// [`judge_given`], [`measure_into`], [`try_settings_into`], [`write_record_into`], [`chart_given`] and
+/// [`panel_into`].
 #[repr(C)]
 #[derive(Clone, Copy, Debug, PartialEq, Eq, Hash)]
 pub struct FiguresGiven {

@@ -1,4 +1,4 @@
-//! The five programs as calls: their texts, each by itself, to the bytes of standard output.
+//! The six programs as calls: their texts, each by itself, to the bytes of standard output.
 //!
 //! | program | texts | output where none is refused |
 //! |---|---|---|
@@ -7,9 +7,11 @@
 //! | [`verify`] | reference text, record | `OK` |
 //! | [`judge`] | reference text, record, readings | a line for each reading: `QUIET`, or `ALARM` and s - M, or its refusal |
 //! | [`panel`] | reference text, record | a line for each channel: tag and centre to the nearest whole step |
+//! | [`alerts`] | reference text, record, settings, readings | a line for each setting: k, c, alerts raised, readings passed while one stood; then the number of readings, Alarm, Quiet and turned back |
 //!
 //! Of the first refused text the output is `NO`, number and line in that text, alone: see [`Refusal`].
-//! Readings together are one text of at most 65,536 bytes.
+//! Readings together are one text of at most 65,536 bytes. Settings are 1 to 20 lines of k and c; every
+//! fault of them is refused by 14, with line 0.
 //!
 //! Texts are not joined: each is a slice of its own, and an empty line parts nothing. Of texts joined
 //! into one input, whoever writes the first decides where it ends, and could bring a record of a wider
@@ -28,6 +30,8 @@
 //! let readings = b"LOOP-1,TOC,3,CND,9\nLOOP-1,TOC,3,CND,10\nLOOP-1,TOC,3,PH,9\n";
 //! let verdicts = programs::judge(reference, &record, readings);
 //! assert_eq!(verdicts, b"QUIET\nALARM,47244640256\nNO,10,1\n");
+//! let trial = programs::alerts(reference, &record, b"1,1\n2,1\n", readings);
+//! assert_eq!(trial, b"1,1,1,1\n2,1,0,0\n3,1,1,1\n");
 //!
 //! // No record: an empty text is refused by 1. The reference text comes first.
 //! assert_eq!(programs::verify(reference, b""), b"NO,1,0\n");
@@ -38,7 +42,9 @@
 //! assert_eq!(programs::judge(&embedding, &record, readings), b"NO,3,5\n");
 //! ```
 
-use crate::{RECORD_BYTES, REFERENCE_BYTES, Refusal, WrittenAnswer, accepted};
+use crate::{
+    PROGRAM_ALERTS_BYTES, RECORD_BYTES, REFERENCE_BYTES, Refusal, WrittenAnswer, accepted,
+};
 
 /// The most bytes of readings that are judged, and of what is written for each.
 const READING_BYTES: usize = 65_536;
@@ -87,6 +93,17 @@ pub enum Call<'t> {
         /// The record.
         record: &'t [u8],
     },
+    /// See [`alerts`].
+    Alerts {
+        /// The reference text.
+        reference: &'t [u8],
+        /// The record.
+        record: &'t [u8],
+        /// The settings, a line each.
+        settings: &'t [u8],
+        /// The readings, a line each.
+        readings: &'t [u8],
+    },
 }
 
 unsafe extern "C" {
@@ -129,6 +146,19 @@ unsafe extern "C" {
         reference_len: usize,
         record: *const u8,
         record_len: usize,
+        output: *mut u8,
+        output_len: usize,
+    ) -> WrittenAnswer;
+
+    fn cundarivo_program_alerts(
+        reference: *const u8,
+        reference_len: usize,
+        record: *const u8,
+        record_len: usize,
+        settings: *const u8,
+        settings_len: usize,
+        readings: *const u8,
+        readings_len: usize,
         output: *mut u8,
         output_len: usize,
     ) -> WrittenAnswer;
@@ -202,20 +232,41 @@ impl Call<'_> {
                     count,
                 )
             },
+            // SAFETY: as for `Draw`.
+            Call::Alerts {
+                reference,
+                record,
+                settings,
+                readings,
+            } => unsafe {
+                cundarivo_program_alerts(
+                    reference.as_ptr(),
+                    reference.len(),
+                    record.as_ptr(),
+                    record.len(),
+                    settings.as_ptr(),
+                    settings.len(),
+                    readings.as_ptr(),
+                    readings.len(),
+                    places,
+                    count,
+                )
+            },
         }
     }
 
     /// Bytes that are proved to be enough for the output: for `judge` as many as these readings ask
     /// for (`readings_room` in `crates/program_judge/src/lib.rt`), for `plain` as many as a reference
-    /// text has that is written (`output_room` in `crates/program_plain/src/lib.rt`), for `draw` as
-    /// many as a record has, and fewer for `verify` and `panel` (`output_room` in
-    /// `crates/program_verify/src/lib.rt` and `crates/program_panel/src/lib.rt`).
+    /// text has that is written (`output_room` in `crates/program_plain/src/lib.rt`), for `alerts` as
+    /// many as a trial has, for `draw` as many as a record has, and fewer for `verify` and `panel`
+    /// (`output_room` in `crates/program_verify/src/lib.rt` and `crates/program_panel/src/lib.rt`).
     fn room(self) -> usize {
         match self {
             Call::Judge { readings, .. } => {
                 OUTPUT_PER_READING_BYTE * readings.len().min(READING_BYTES) + REFUSAL_BYTES
             }
             Call::Plain { .. } => REFERENCE_BYTES,
+            Call::Alerts { .. } => PROGRAM_ALERTS_BYTES,
             _ => RECORD_BYTES,
         }
     }
@@ -325,6 +376,33 @@ pub fn panel(reference: &[u8], record: &[u8]) -> Vec<u8> {
     Call::Panel { reference, record }.run()
 }
 
+/// What [`try_settings`](crate::try_settings) gives of the settings of a text and of readings, or the one
+/// refusal of the texts: of the reference text, the record, the settings, then the readings. Each line of
+/// the settings is a k and a c, parted by a comma.
+///
+/// ```
+/// let (reference, record) = (b"REF,1,TOC\nA,5\n", b"ENV,1,TOC\nC,327680\nR,0,0,0,S\nW,1,65536\n");
+/// let alerts = |settings: &[u8], readings: &[u8]| {
+///     cundarivo::programs::alerts(reference, record, settings, readings)
+/// };
+/// let readings = b"A,TOC,6\nA,TOC,6\nA,TOC,5\nA,TOC,6\nA,TOC,5\nA,TOC,5\n";
+/// assert_eq!(alerts(b"2,2\n1,1\n", readings), b"2,2,1,4\n1,1,2,3\n6,3,3,0\n");
+///
+/// // Every fault of the settings is 14, and comes before 1 of the readings.
+/// assert_eq!(alerts(b"01,1\n", readings), b"NO,14,0\n");
+/// assert_eq!(alerts(b"", b""), b"NO,14,0\n");
+/// assert_eq!(alerts(b"1,1\n", b""), b"NO,1,0\n");
+/// ```
+pub fn alerts(reference: &[u8], record: &[u8], settings: &[u8], readings: &[u8]) -> Vec<u8> {
+    Call::Alerts {
+        reference,
+        record,
+        settings,
+        readings,
+    }
+    .run()
+}
+
 /// As [`draw`], into a lent buffer; gives the length of the output.
 ///
 /// # Errors
@@ -399,4 +477,26 @@ pub fn judge_into(
 /// Refusal 13, where the buffer is too short; then nothing is changed.
 pub fn panel_into(reference: &[u8], record: &[u8], output: &mut [u8]) -> Result<usize, Refusal> {
     Call::Panel { reference, record }.run_into(output)
+}
+
+/// As [`alerts`], into a lent buffer; gives the length of the output.
+///
+/// # Errors
+///
+/// Refusal 13, where the buffer is too short; then nothing is changed.
+/// [`PROGRAM_ALERTS_BYTES`] are always enough.
+pub fn alerts_into(
+    reference: &[u8],
+    record: &[u8],
+    settings: &[u8],
+    readings: &[u8],
+    output: &mut [u8],
+) -> Result<usize, Refusal> {
+    Call::Alerts {
+        reference,
+        record,
+        settings,
+        readings,
+    }
+    .run_into(output)
 }

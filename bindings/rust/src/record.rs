@@ -19,10 +19,10 @@ pub struct Envelope {
     pub weights: Vec<u32>,
 }
 
-/// What the library answers to the writing of a record, of a reference text or of what a program
-/// prints, in numbers; see [`write_record_into`],
-/// [`write_reference_into`](crate::write_reference_into) and
-/// [`Call::answer`](crate::programs::Call::answer).
+/// What the library answers to the writing of a record, of a reference text, of a trial of settings or
+/// of what a program prints, in numbers; see [`write_record_into`],
+/// [`write_reference_into`](crate::write_reference_into),
+/// [`try_settings_into`](crate::try_settings_into) and [`Call::answer`](crate::programs::Call::answer).
 #[repr(C)]
 #[derive(Clone, Copy, Debug, PartialEq, Eq, Hash)]
 pub struct WrittenAnswer {

@@ -2,8 +2,8 @@
 //! with the same numbers in bindings/c/layout.c.
 
 use cundarivo::{
-    CheckAnswer, EnvelopeAnswer, FiguresGiven, LabelAnswer, MarkAnswer, MeasuredAnswer,
-    PanelAnswer, ReferenceAnswer, VerdictAnswer, WrittenAnswer,
+    AlertSetting, CheckAnswer, EnvelopeAnswer, FiguresGiven, LabelAnswer, MarkAnswer,
+    MeasuredAnswer, PanelAnswer, ReferenceAnswer, VerdictAnswer, WrittenAnswer,
 };
 use std::mem::offset_of;
 
@@ -32,4 +32,25 @@ fn structs_have_the_layout_of_the_header() {
     assert_layout!(WrittenAnswer, 16, number 0, line 4, length 8);
     assert_layout!(MarkAnswer, 40, number 0, line 4, mark 8, horizontal 16, vertical 24, radius 32);
     assert_layout!(PanelAnswer, 8, number 0, line 4);
+}
+
+/// The header has no struct of a setting: settings are lent as a list of numbers.
+#[test]
+fn a_setting_is_two_numbers() {
+    assert_layout!(AlertSetting, 8, k 0, c 4);
+    assert_eq!(align_of::<AlertSetting>(), align_of::<u32>());
+    let settings: Vec<AlertSetting> = (0..30).map(|k| AlertSetting { k, c: 100 + k }).collect();
+    for count in [0, 1, 2, 20, 21, 30] {
+        let numbers = AlertSetting::numbers(&settings[..count]);
+        assert_eq!(numbers.as_ptr(), settings.as_ptr().cast());
+        assert_eq!(numbers.len(), 2 * count);
+        let pairs: Vec<AlertSetting> = numbers
+            .chunks_exact(2)
+            .map(|pair| AlertSetting {
+                k: pair[0],
+                c: pair[1],
+            })
+            .collect();
+        assert_eq!(pairs, settings[..count]);
+    }
 }

@@ -1,7 +1,7 @@
 //! The stack that is said to be enough: each call runs on its largest input in a thread that has no
 //! more. A call that needed more would end the process.
 
-use cundarivo::{CHANNELS, ROWS, Refusal, programs};
+use cundarivo::{AlertSetting, CHANNELS, ROWS, Refusal, SETTINGS, programs};
 use std::thread;
 
 const KIBIBYTE: usize = 1_024;
@@ -56,6 +56,11 @@ fn calls() -> Result<(), Refusal> {
     let figures = &envelope.figures;
     within(CALLS, || cundarivo::judge(figures, &reading))?;
     within(CALLS, || cundarivo::measure(figures, &reading))?;
+    let settings = [AlertSetting { k: 1, c: 1 }; SETTINGS];
+    let readings = reading.repeat(800);
+    within(CALLS, || {
+        cundarivo::try_settings(figures, &settings, &readings)
+    })?;
     within(CALLS, || cundarivo::chart(figures, 1, n))?;
     within(CALLS, || cundarivo::panel(figures))?;
     let record = within(CALLS, || cundarivo::write_record(&envelope, &table, m))?;
@@ -66,7 +71,7 @@ fn calls() -> Result<(), Refusal> {
 }
 
 #[test]
-fn draw_plain_verify_and_panel() {
+fn draw_plain_verify_panel_and_alerts() {
     let text = reference();
     assert_eq!(within(PROGRAMS, || programs::plain(&text)), text);
     let record = within(PROGRAMS, || programs::draw(&text));
@@ -75,6 +80,11 @@ fn draw_plain_verify_and_panel() {
     assert_eq!(verified, b"OK\n");
     let shown = within(PROGRAMS, || programs::panel(&text, &record));
     assert!(shown.starts_with(b"TOC,"));
+    let (settings, readings) = ("1,1\n".repeat(SETTINGS), reading().repeat(800));
+    let trial = within(PROGRAMS, || {
+        programs::alerts(&text, &record, settings.as_bytes(), &readings)
+    });
+    assert!(trial.ends_with(b"\n1,1,1,800\n800,800,0,0\n"));
 }
 
 #[test]
