@@ -1,16 +1,20 @@
 //! One run of a program through the product and through the outside implementation.
 
-use crate::lent::{self, Followed, Guarded};
-use crate::product::written_in_numbers;
+use crate::lent::{self, Followed};
+use crate::product::{compare_written, number};
 use cundarivo::Refusal;
 use cundarivo::programs::{self as product, Call};
-use outside::programs::Program;
+use outside::programs::{Program, TextKind};
 use outside::random::Random;
-use outside::records;
 
-/// What follows each text in memory. A product that read past an end would take it for the byte 10 of
+/// What follows a text in memory. A product that read past an end would take it for the byte 10 of
 /// the last line, for an empty line, for one more line, or for one more text.
-pub const BEHIND_TEXT: &[u8] = b"\nW,256,1\n\nA,TOC,1\n";
+pub fn behind(kind: TextKind) -> &'static [u8] {
+    match kind {
+        TextKind::Settings => b"\n2,2\n3,3\n",
+        _ => b"\nW,256,1\n\nA,TOC,1\n",
+    }
+}
 
 /// Texts in memory, each by itself, with what both must print of them.
 #[derive(Clone, Debug)]
@@ -23,10 +27,11 @@ pub struct Run {
 
 impl Run {
     pub fn new(program: Program, texts: &[Vec<u8>]) -> Run {
-        let followed = |text: &Vec<u8>| Followed::new(text, BEHIND_TEXT);
+        let kinds = program.kinds().iter();
+        let followed = |(text, &kind): (&Vec<u8>, _)| Followed::new(text, behind(kind));
         Run {
             program,
-            texts: texts.iter().map(followed).collect(),
+            texts: texts.iter().zip(kinds).map(followed).collect(),
             output: program.run(texts),
         }
     }
@@ -34,16 +39,11 @@ impl Run {
     /// Runs both into a buffer of this length, and stops the tests where they differ in any number or
     /// place. Gives the number on which both agree.
     pub fn compare(&self, random: &mut Random, length: usize) -> u32 {
-        let buffer = Guarded::new(length, || random.number() as u8);
-        let (mut written, mut owed) = (buffer.clone(), buffer);
         let texts = self.texts.clone();
-        let answer = in_product(self.program, &texts).answer(written.lent());
-        let expected = records::place_text(&self.output, owed.lent());
-        let shown = || format!("{length} places, {}", self.shown());
-        assert_eq!(answer, written_in_numbers(expected), "{}", shown());
-        assert!(written == owed, "a place differs, {}", shown());
-        assert!(texts == self.texts, "a text changed, {}", shown());
-        answer.number
+        let print = |buffer: &mut [u8]| in_product(self.program, &texts).answer(buffer);
+        let answer = compare_written(random, length, Ok(&self.output), print, || self.shown());
+        assert!(texts == self.texts, "a text changed, {}", self.shown());
+        number(answer)
     }
 
     /// The same through the wrapper, into an output of its own and into lent ones.
@@ -83,6 +83,12 @@ fn in_product(program: Program, texts: &[Followed<u8>]) -> Call<'_> {
             record,
             readings,
         },
+        (Program::Alerts, &[reference, record, settings, readings]) => Call::Alerts {
+            reference,
+            record,
+            settings,
+            readings,
+        },
         _ => panic!("{program:?} does not take {} texts", texts.len()),
     }
 }
@@ -98,6 +104,12 @@ fn own_output(call: Call) -> Vec<u8> {
             record,
             readings,
         } => product::judge(reference, record, readings),
+        Call::Alerts {
+            reference,
+            record,
+            settings,
+            readings,
+        } => product::alerts(reference, record, settings, readings),
     }
 }
 
@@ -112,5 +124,11 @@ fn lent_output(call: Call, output: &mut [u8]) -> Result<usize, Refusal> {
             record,
             readings,
         } => product::judge_into(reference, record, readings, output),
+        Call::Alerts {
+            reference,
+            record,
+            settings,
+            readings,
+        } => product::alerts_into(reference, record, settings, readings, output),
     }
 }

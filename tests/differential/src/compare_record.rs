@@ -3,7 +3,7 @@
 
 use crate::lent::{self, Followed, Guarded, Room};
 use crate::product::{
-    BEHIND_PLACES, BEHIND_TYPES, LentFigures, given, owned, refused, written_in_numbers,
+    BEHIND_PLACES, BEHIND_TYPES, LentFigures, compare_written, given, number, owned, refused,
 };
 use outside::random::Random;
 use outside::records::{self, Envelope, TypedRows};
@@ -175,30 +175,23 @@ impl Writing {
     /// Writes the record through both into a buffer of this length, and stops the tests where they
     /// differ in any number or place. Gives the number on which both agree.
     pub fn compare(&self, random: &mut Random, length: usize) -> u32 {
-        let buffer = Guarded::new(length, || random.number() as u8);
-        let (mut written, mut owed) = (buffer.clone(), buffer);
         let lent = self.lent.clone();
-        let answer = cundarivo::write_record_into(
-            given(&self.envelope.figures),
-            lent.figures.types.slice(),
-            lent.figures.centre.slice(),
-            lent.weights.slice(),
-            lent.places.slice(),
-            self.m,
-            written.lent(),
-        );
-        let expected = match &self.outcome {
-            Ok(text) => records::place_text(text, owed.lent()),
-            Err(refusal) => Err(*refusal),
+        let write = |buffer: &mut [u8]| {
+            cundarivo::write_record_into(
+                given(&self.envelope.figures),
+                lent.figures.types.slice(),
+                lent.figures.centre.slice(),
+                lent.weights.slice(),
+                lent.places.slice(),
+                self.m,
+                buffer,
+            )
         };
-        assert_eq!(answer, written_in_numbers(expected), "{}", self.shown());
-        assert_eq!(written, owed, "places, {}", self.shown());
-        assert!(
-            lent == self.lent,
-            "a place lent to be read, {}",
-            self.shown()
-        );
-        answer.number
+        let outcome = self.outcome.as_deref().map_err(|refusal| *refusal);
+        let answer = compare_written(random, length, outcome, write, || self.shown());
+        let unchanged = lent == self.lent;
+        assert!(unchanged, "a place lent to be read, {}", self.shown());
+        number(answer)
     }
 
     /// The same through the wrapper, which answers with a text of its own.

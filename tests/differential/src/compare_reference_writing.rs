@@ -1,9 +1,8 @@
 //! One reference text written through the product and through the outside implementation.
 
-use crate::lent::{self, Followed, Guarded};
-use crate::product::{BEHIND_PLACES, BEHIND_TYPES, refused, written_in_numbers};
+use crate::lent::{self, Followed};
+use crate::product::{BEHIND_PLACES, BEHIND_TYPES, compare_written, refused};
 use outside::random::Random;
-use outside::records;
 use outside::reference_writing::{self, LabelledRows, LentLabels};
 use outside::rules::{CHANNEL_LIMIT, ROW_LIMIT, Refusal};
 
@@ -62,27 +61,23 @@ impl ReferenceWriting {
     /// Writes the text through both into a buffer of this length, and stops the tests where they differ
     /// in any number or place. Gives the answer on which both agree.
     pub fn compare(&self, random: &mut Random, length: usize) -> Result<usize, Refusal> {
-        let buffer = Guarded::new(length, || random.number() as u8);
-        let (mut written, mut owed) = (buffer.clone(), buffer);
         let lent = self.lent.clone();
-        let answer = cundarivo::write_reference_into(
-            lent.places.slice(),
-            self.table.rows.set.m,
-            self.table.rows.set.n,
-            lent.codes.slice(),
-            lent.labels.slice(),
-            lent.ends.slice(),
-            written.lent(),
-        );
-        let expected = match &self.outcome {
-            Ok(text) => records::place_text(text, owed.lent()),
-            Err(refusal) => Err(*refusal),
+        let write = |buffer: &mut [u8]| {
+            cundarivo::write_reference_into(
+                lent.places.slice(),
+                self.table.rows.set.m,
+                self.table.rows.set.n,
+                lent.codes.slice(),
+                lent.labels.slice(),
+                lent.ends.slice(),
+                buffer,
+            )
         };
-        let shown = || format!("{length} places, {}", self.shown());
-        assert_eq!(answer, written_in_numbers(expected), "{}", shown());
-        assert!(written == owed, "a place differs, {}", shown());
-        assert!(lent == self.lent, "a place lent to be read, {}", shown());
-        expected
+        let outcome = self.outcome.as_deref().map_err(|refusal| *refusal);
+        let answer = compare_written(random, length, outcome, write, || self.shown());
+        let unchanged = lent == self.lent;
+        assert!(unchanged, "a place lent to be read, {}", self.shown());
+        answer
     }
 
     /// The same through the wrapper, which takes labels as slices and answers with a text of its own.

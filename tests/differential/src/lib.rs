@@ -6,6 +6,7 @@
 //! - `compare_measured`: one measured reading through both, in the same way.
 //! - `compare_record`: one record read and one envelope written through both, in the same way.
 //! - `compare_reference_writing`: one reference text written through both, in the same way.
+//! - `compare_trial`: one trial of alert settings through both, in the same way.
 //! - `compare_chart`: one chart and one panel through both, in the same way.
 //! - `compare_program`: one run of a program through both, in the same way.
 //! - `product`: the figures of an envelope, refusals and answers, as the product takes and gives them.
@@ -23,6 +24,7 @@ pub mod compare_reading;
 pub mod compare_record;
 pub mod compare_reference_writing;
 pub mod compare_text;
+pub mod compare_trial;
 pub mod lent;
 pub mod named;
 pub mod product;

@@ -1,7 +1,10 @@
-//! The figures of an envelope, refusals and answers, as the product takes and gives them.
+//! The figures of an envelope, refusals and answers, as the product takes and gives them, and a text
+//! written by it.
 
-use crate::lent::Followed;
+use crate::lent::{Followed, Guarded};
+use outside::random::Random;
 use outside::readings::{EnvelopeFigures, Verdict};
+use outside::records;
 use outside::rules::Refusal;
 
 /// What follows the lent slices in memory: a product that read past an end would take it for rows, types
@@ -86,8 +89,33 @@ pub fn narrow(distance: i128) -> u64 {
     u64::try_from(distance).expect("s is at most its limit")
 }
 
+/// Writes through the product into an output of this length, and stops the tests where a number or a place
+/// is not that of the answer by the rules, which comes before any output is too short. Gives the answer on
+/// which both agree.
+pub fn compare_written(
+    random: &mut Random,
+    length: usize,
+    outcome: Result<&[u8], Refusal>,
+    write: impl FnOnce(&mut [u8]) -> cundarivo::WrittenAnswer,
+    shown: impl Fn() -> String,
+) -> Result<usize, Refusal> {
+    let output = Guarded::new(length, || random.number() as u8);
+    let (mut written, mut owed) = (output.clone(), output);
+    let answer = write(written.lent());
+    let expected = outcome.and_then(|text| records::place_text(text, owed.lent()));
+    let shown = || format!("{length} places, {}", shown());
+    assert_eq!(answer, written_in_numbers(expected), "{}", shown());
+    assert!(written == owed, "a place differs, {}", shown());
+    expected
+}
+
+/// The number of an answer: 0 where it is accepted.
+pub fn number(answer: Result<usize, Refusal>) -> u32 {
+    answer.map_or_else(|refusal| refusal.number, |_| 0)
+}
+
 /// The answer to a writing of so many bytes, or its refusal.
-pub fn written_in_numbers(outcome: Result<usize, Refusal>) -> cundarivo::WrittenAnswer {
+fn written_in_numbers(outcome: Result<usize, Refusal>) -> cundarivo::WrittenAnswer {
     let (number, line, length) = match outcome {
         Ok(length) => (0, 0, length),
         Err(refusal) => (refusal.number, refusal.line, 0),

@@ -2,11 +2,12 @@
 //! place of another and of several megabytes, each by a test of its own.
 
 use cundarivo::programs::{self as product, Call};
-use differential::compare_program::{BEHIND_TEXT, Run};
+use differential::compare_program::{Run, behind};
 use differential::named;
+use outside::known_alerts;
 use outside::known_programs::{self, KnownInput, REFERENCE};
 use outside::known_records::RECORD;
-use outside::programs::{PROGRAMS, Program, Texts};
+use outside::programs::{PROGRAMS, Program, TextKind, Texts};
 use outside::random::Random;
 use outside::reference::TEXT_LIMIT;
 use outside::sets::{self, Shape};
@@ -39,6 +40,7 @@ fn holds(list: Vec<KnownInput>, name: &str) {
 named!(examples, outside::known_programs::examples:
     draw_record draw_rows_0_10 draw_one_row draw_rows_5_5 verify_record verify_budget_1
     verify_one_row panel_record panel_budget_1 panel_one_row judge_record plain_record plain_below_5
+    alerts_record
 );
 
 named!(rewritings, outside::known_programs::rewritings:
@@ -115,6 +117,33 @@ named!(large, outside::known_programs::large:
     reference reference_of_rows reference_of_empty_lines record record_of_empty_lines
     heading_before_record readings readings_of_empty_lines form_before_readings every_text
     reference_length_wrapped record_length_wrapped readings_length_wrapped
+);
+
+named!(alert_settings, outside::known_alerts::program_settings:
+    one_setting three_settings equal_settings settings_20 k_1 c_1 k_99 c_99 k_10
+);
+
+named!(alert_settings_refused, outside::known_alerts::program_settings_refused:
+    no_byte line_end_alone k_0 c_0 k_100 c_100 second_k_100 settings_21 leading_0 leading_0_of_c
+    three_numbers one_number comma_behind comma_alone without_end last_without_end carriage_return
+    blank_before blank_behind blank_within plus minus minus_of_c point semicolon letter byte_0
+    byte_order_mark empty_line_first empty_line_within empty_line_last in_8_bits in_16_bits in_32_bits
+    in_64_bits bytes_65536 bytes_65537 bytes_70000 megabytes length_wrapped
+);
+
+named!(alert_readings, outside::known_alerts::program_readings:
+    turned_back_between turned_back_under_an_alert empty_line_alone empty_lines without_end piece_alone
+    no_byte bytes_65536 bytes_65537 bytes_70000 whole_lines_65536 alternating_65536 empty_lines_65536
+    empty_lines_65537 megabytes
+);
+
+named!(alert_orders, outside::known_alerts::program_orders:
+    reference record no_record disagreement reference_and_record reference_and_settings
+    record_and_settings record_and_no_settings no_record_and_settings disagreement_and_settings
+    record_and_readings settings_and_no_readings settings_and_long_readings
+    no_settings_and_no_readings long_settings_and_no_readings every_text nothing_at_all
+    settings_and_readings_exchanged record_and_settings_exchanged settings_as_readings
+    readings_as_settings
 );
 
 /// An output that fits and one that does not, in numbers.
@@ -205,18 +234,24 @@ fn every_length_of_a_text() {
     assert!(compared > 10_000, "{compared}");
 }
 
-/// What lies behind each text in memory would change the output, however much of it were read.
+/// What lies behind each text in memory would change the output, however much of it were read; of
+/// settings, whose every fault is told alike, as many whole lines as were read.
 #[test]
 fn what_lies_behind_a_text_would_change_the_output() {
     let mut tried = 0;
     let examples = known_programs::examples().into_iter();
     for (program, texts) in examples.flat_map(|known| known.runs) {
         for (place, text) in texts.iter().enumerate() {
-            for end in [0, text.len() - 1, text.len()] {
+            let kind = program.kinds()[place];
+            let behind = behind(kind);
+            let settings = kind == TextKind::Settings;
+            let first = if settings { text.len() - 1 } else { 0 };
+            let counts = (1..=behind.len()).filter(|&end| !settings || behind[end - 1] == b'\n');
+            for end in [first, text.len() - 1, text.len()] {
                 let texts = with_text(&texts, place, &text[..end]);
                 let output = program.run(&texts);
-                for count in 1..=BEHIND_TEXT.len() {
-                    let longer = [&text[..end], &BEHIND_TEXT[..count]].concat();
+                for count in counts.clone() {
+                    let longer = [&text[..end], &behind[..count]].concat();
                     let other = program.run(&with_text(&texts, place, &longer));
                     assert_ne!(output, other, "{program:?}, text {place}, {count} bytes");
                     tried += 1;
@@ -238,6 +273,8 @@ fn texts_beside_each_other() {
     assert_eq!(product::panel(reference, record), b"TOC,3\nCND,4\n");
     assert_eq!(product::judge(reference, record, readings), b"QUIET\n");
     assert_eq!(product::plain(reference), REFERENCE.as_bytes());
+    let trial = product::alerts(reference, record, b"1,1\n", readings);
+    assert_eq!(trial, b"1,1,0,0\n1,0,1,0\n");
 }
 
 /// The same memory lent for several texts.
@@ -252,14 +289,18 @@ fn the_same_memory_twice() {
         product::judge(reference, record, reference),
         refused.repeat(4)
     );
+    let settings = b"1,1\n";
+    let trial = product::alerts(reference, record, settings, settings);
+    assert_eq!(trial, b"1,1,0,0\n1,0,0,1\n");
 }
 
 /// What follows the first 65,537 bytes of a text changes no output.
 #[test]
 fn what_follows_the_limit_changes_nothing() {
     let random = &mut Random::new(84);
-    let mut cut = [0; 3];
-    for (program, texts) in known_programs::large()
+    let mut cut = [0; 4];
+    for (program, texts) in [known_programs::large(), known_alerts::programs()]
+        .concat()
         .into_iter()
         .flat_map(|known| known.runs)
     {
@@ -273,7 +314,7 @@ fn what_follows_the_limit_changes_nothing() {
             }
         }
     }
-    assert!(cut.iter().all(|&count| count >= 4), "{cut:?}");
+    assert!(cut.iter().all(|&count| count >= 3), "{cut:?}");
 }
 
 /// The longest text that `plain` prints fits exactly into the room that is said to be enough for it.

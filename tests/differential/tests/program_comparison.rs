@@ -1,4 +1,4 @@
-//! The product compared with the outside implementation on seeded inputs of the five programs, whole
+//! The product compared with the outside implementation on seeded inputs of the six programs, whole
 //! and changed, with buffers of every kind of length, and on full sweeps. CUNDARIVO_SEED and
 //! CUNDARIVO_INPUTS in the environment give another seed and a larger number of inputs of each program.
 
@@ -6,8 +6,8 @@ use differential::compare_program::Run;
 use differential::reached::Reached;
 use differential::seeded::seeded;
 use outside::known_programs;
-use outside::program_inputs::{self, Change, READINGS, RECORD, REFERENCE, Source};
-use outside::programs::{PROGRAMS, Program};
+use outside::program_inputs::{self, Change, Source};
+use outside::programs::{PROGRAMS, Program, TextKind};
 use outside::random::Random;
 use outside::reference::TEXT_LIMIT;
 use outside::sweeps;
@@ -150,7 +150,14 @@ impl Comparison {
 /// The refusals of single readings; no text is refused by one of these.
 const ON_READINGS: [&str; 3] = ["NO,3,1", "NO,4,1", "NO,10,1"];
 
-const TEXTS: [&str; 3] = ["reference text", "record", "readings"];
+fn text_name(kind: TextKind) -> &'static str {
+    match kind {
+        TextKind::Reference => "reference text",
+        TextKind::Record => "record",
+        TextKind::Settings => "settings",
+        TextKind::Readings => "readings",
+    }
+}
 
 /// What a program answers: the refusal of a text, or what its lines say, each once.
 fn answers(program: Program, texts: &[Vec<u8>], output: &[u8]) -> BTreeSet<String> {
@@ -159,7 +166,8 @@ fn answers(program: Program, texts: &[Vec<u8>], output: &[u8]) -> BTreeSet<Strin
     let on_reading = program == Program::Judge && ON_READINGS.contains(&first);
     let refusal = first.strip_prefix("NO,").filter(|_| !on_reading);
     if let Some((number, _)) = refusal.and_then(|refusal| refusal.split_once(',')) {
-        return [refusal_name(refused_text(texts, number), number)].into();
+        let refused = refused_text(program, texts, number);
+        return [refusal_name(refused, number)].into();
     }
     let lines = output.lines();
     match program {
@@ -167,22 +175,30 @@ fn answers(program: Program, texts: &[Vec<u8>], output: &[u8]) -> BTreeSet<Strin
         Program::Draw => [String::from("Budget")].into(),
         Program::Panel => lines.map(sign).collect(),
         Program::Plain => [String::from(as_it_was(&texts[0], output))].into(),
+        Program::Alerts => lines.map(alerts_said).collect(),
         _ => lines.map(without_excess).collect(),
     }
 }
 
-/// The place of the text that is refused by a number.
-fn refused_text(texts: &[Vec<u8>], number: &str) -> usize {
-    let of_length = |text: &&Vec<u8>| (1..=TEXT_LIMIT).contains(&text.len());
+/// The text that is refused by a number. No settings are refused by 1.
+fn refused_text(program: Program, texts: &[Vec<u8>], number: &str) -> TextKind {
+    let of_length = |text: &Vec<u8>| (1..=TEXT_LIMIT).contains(&text.len());
+    let mut kinds = program.kinds().iter().zip(texts);
     match number {
-        "1" => texts.iter().take_while(of_length).count(),
-        "11" | "12" => RECORD,
-        _ => REFERENCE,
+        "1" => {
+            let refused = |(kind, text): &(&TextKind, &Vec<u8>)| {
+                **kind != TextKind::Settings && !of_length(text)
+            };
+            *kinds.find(refused).expect("a text of such a length").0
+        }
+        "11" | "12" => TextKind::Record,
+        "14" => TextKind::Settings,
+        _ => TextKind::Reference,
     }
 }
 
-fn refusal_name(text: usize, number: impl Display) -> String {
-    format!("{} refused by {number}", TEXTS[text])
+fn refusal_name(text: TextKind, number: impl Display) -> String {
+    format!("{} refused by {number}", text_name(text))
 }
 
 /// What `plain` says of an accepted text.
@@ -208,6 +224,17 @@ fn sign(line: &str) -> String {
     format!("step {sign}")
 }
 
+/// What `alerts` says in a line of a setting or in the last one, of which the third number counts alerts
+/// or Quiets and the fourth readings passed or turned back.
+fn alerts_said(line: &str) -> String {
+    let numbers: Vec<&str> = line.split(',').collect();
+    let [_, _, third, fourth] = numbers[..] else {
+        panic!("four numbers, not {line}");
+    };
+    let said = |number| if number == "0" { "none" } else { "some" };
+    format!("third {}, fourth {}", said(third), said(fourth))
+}
+
 fn without_excess(line: &str) -> String {
     let verdict = line.strip_prefix("ALARM,").map_or(line, |_| "ALARM");
     String::from(verdict)
@@ -219,7 +246,8 @@ fn answer_name(program: Program, answer: &str) -> String {
 
 fn change_name(program: Program, change: Change) -> String {
     let Change { kind, text } = change;
-    format!("{program:?}, {}: {kind:?}", TEXTS[text])
+    let text = text_name(program.kinds()[text]);
+    format!("{program:?}, {text}: {kind:?}")
 }
 
 fn buffer_name(program: Program, places: usize, length: usize) -> String {
@@ -239,24 +267,27 @@ fn sayings(program: Program) -> &'static [&'static str] {
         Program::Judge => &["QUIET", "ALARM", "NO,3,1", "NO,4,1", "NO,10,1"],
         Program::Panel => &["step above 0", "step 0", "step below 0"],
         Program::Plain => &[AS_IT_WAS, PLAINLY, AGAIN],
+        Program::Alerts => &[
+            "third none, fourth none",
+            "third some, fourth some",
+            "third none, fourth some",
+            "third some, fourth none",
+        ],
     }
 }
 
 /// Every refusal of every text.
 fn refusals(program: Program) -> Vec<String> {
-    let texts = program.texts();
-    let of_text = |text: usize, numbers: &[u32]| -> Vec<String> {
-        numbers
-            .iter()
-            .map(|&number| refusal_name(text, number))
-            .collect()
+    let of_kind = |kind: &TextKind| -> Vec<String> {
+        let numbers: &[u32] = match kind {
+            TextKind::Reference => &[1, 2, 3, 4, 5, 6],
+            TextKind::Record => &[1, 11, 12],
+            TextKind::Settings => &[14],
+            TextKind::Readings => &[1],
+        };
+        let numbers = numbers.iter();
+        numbers.map(|number| refusal_name(*kind, number)).collect()
     };
-    let mut names = of_text(REFERENCE, &[1, 2, 3, 4, 5, 6]);
-    if texts > RECORD {
-        names.extend(of_text(RECORD, &[1, 11, 12]));
-    }
-    if texts > READINGS {
-        names.extend(of_text(READINGS, &[1]));
-    }
-    names
+    let kinds = program.kinds().iter();
+    kinds.flat_map(of_kind).collect()
 }

@@ -1,8 +1,9 @@
 //! Texts of the programs that document 01 names, of every refusal and at every edge of a text, with
 //! the outputs that the rules give, written down by hand.
 
+use crate::known_alerts;
 use crate::known_records::{RECORD, RECORD_BUDGET_1};
-use crate::programs::{PROGRAMS, Program, Texts};
+use crate::programs::{PROGRAMS, Program, TextKind, Texts};
 use crate::reference::TEXT_LIMIT;
 
 /// By name, the programs with the texts of each, and what all of them print.
@@ -17,6 +18,8 @@ pub struct KnownInput {
 pub const REFERENCE: &str = "REF,2,TOC,CND\nA,0,0\nB,6,0\nC,0,8\n";
 /// A reading of the centre.
 const READING: &str = "LOOP-1,TOC,3,CND,4\n";
+/// Alert settings within the rules.
+const SETTINGS: &str = "1,1\n";
 /// Many times the limit on a text.
 const MEGABYTES: usize = 3 << 20;
 
@@ -34,9 +37,14 @@ const WIDE_RECORD: &str = "ENV,1,TOC\nC,32768000\n\
 const READING_900: &str = "A,TOC,900\n";
 
 /// The programs that read a record.
-const READERS: [Program; 3] = [Program::Verify, Program::Judge, Program::Panel];
+const READERS: [Program; 4] = [
+    Program::Verify,
+    Program::Judge,
+    Program::Panel,
+    Program::Alerts,
+];
 
-/// The same texts of several programs: each takes as many of the three as it reads.
+/// The same texts of several programs: each takes those that it reads, and settings within the rules.
 fn known_of(
     programs: &[Program],
     name: &'static str,
@@ -44,9 +52,14 @@ fn known_of(
     output: &str,
 ) -> KnownInput {
     let run = |&program: &Program| {
-        let texts = [reference, record, readings].into_iter();
-        let texts = texts.take(program.texts()).map(Vec::from).collect();
-        (program, texts)
+        let text = |kind: &TextKind| match kind {
+            TextKind::Reference => reference,
+            TextKind::Record => record,
+            TextKind::Settings => SETTINGS,
+            TextKind::Readings => readings,
+        };
+        let texts = program.kinds().iter().map(text);
+        (program, texts.map(Vec::from).collect())
     };
     KnownInput {
         name,
@@ -159,6 +172,12 @@ pub fn examples() -> Vec<KnownInput> {
         judged("judge_record", READING, "QUIET\n"),
         rewritten("plain_record", REFERENCE, REFERENCE),
         rewritten("plain_below_5", &under_toc("<5"), &under_toc("0")),
+        known_of(
+            &[Program::Alerts],
+            "alerts_record",
+            [REFERENCE, RECORD, READING],
+            "1,1,0,0\n1,0,1,0\n",
+        ),
     ]
 }
 
@@ -573,6 +592,7 @@ pub fn all() -> Vec<KnownInput> {
         reading_lines(),
         reading_lengths(),
         large(),
+        known_alerts::programs(),
     ]
     .concat()
 }

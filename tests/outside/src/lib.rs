@@ -9,7 +9,8 @@
 //! - `fractions`: exact fractions, and the bits of the binary64 number that equals one.
 //! - `charts`: the mark of an envelope in a chart, what the panel shows, and the refusals of both.
 //! - `reference_writing`: writing the reference text of labelled rows, and its refusals.
-//! - `programs`: the five programs, each text by itself to output bytes.
+//! - `alerts`: alert settings tried on readings, the text of settings, and the refusals.
+//! - `programs`: the six programs, each text by itself to output bytes.
 //! - `random`: a seeded source of numbers.
 //! - `sets`: reference sets of many shapes and sizes, whole and damaged.
 //! - `cases`: arguments of the two calls, with budgets and weights of many kinds.
@@ -40,6 +41,9 @@
 //! - `known_records`: the records that document 01 and the list of bad input name.
 //! - `known_writings`: the envelopes that they name.
 //! - `known_reference_writings`: the labelled rows that document 02 and the list of bad input name.
+//! - `alert_trials`: seeded trials of alert settings, with readings at the edge of a ball.
+//! - `settings_texts`: texts of alert settings, whole and damaged.
+//! - `known_alerts`: the alert trials that document 02 and the list of bad input name.
 //! - `known_programs`: texts of the programs with what these print.
 //! - `program_inputs`: seeded texts of the programs, whole and with each text changed.
 //! - `stored_programs`: the stored cases of the programs.
@@ -47,6 +51,8 @@
 //! - `projections`: what the radius of a mark says of the rows, tested in whole numbers.
 //! - `known_charts`: the charts and panels that document 01 and the list of bad input name.
 
+pub mod alert_trials;
+pub mod alerts;
 pub mod cases;
 pub mod chart_figures;
 pub mod charts;
@@ -56,6 +62,7 @@ pub mod envelopes;
 pub mod faults;
 pub mod fractions;
 pub mod known;
+pub mod known_alerts;
 pub mod known_charts;
 pub mod known_measured;
 pub mod known_programs;
@@ -84,6 +91,7 @@ pub mod reference_writing;
 pub mod reference_writing_faults;
 pub mod rules;
 pub mod sets;
+pub mod settings_texts;
 pub mod stored;
 pub mod stored_programs;
 pub mod stored_texts;

@@ -1,9 +1,9 @@
-//! Inputs of the programs: a reference text, the record of an envelope of its rows, and readings in
-//! and about its ball, each text by itself; whole, and with each text changed.
+//! Inputs of the programs: a reference text, the record of an envelope of its rows, alert settings, and
+//! readings in and about its ball, each text by itself; whole, and with each text changed.
 
 use crate::damage::{self, OF_ANY_TEXT};
 use crate::envelopes;
-use crate::programs::{Program, Texts};
+use crate::programs::{Program, TextKind, Texts};
 use crate::random::Random;
 use crate::reading_damage;
 use crate::reading_texts::{self, ReadingDraft};
@@ -12,12 +12,8 @@ use crate::record_faults;
 use crate::record_texts::{Enveloped, RecordDraft};
 use crate::reference::TEXT_LIMIT;
 use crate::sets::{self, Shape};
+use crate::settings_texts;
 use crate::texts::{self, Draft, Fields};
-
-/// The places of the texts in a run.
-pub const REFERENCE: usize = 0;
-pub const RECORD: usize = 1;
-pub const READINGS: usize = 2;
 
 /// The most readings of an input that is not full of them.
 const READING_COUNT: usize = 6;
@@ -84,7 +80,7 @@ impl Kind {
     /// Whether a text of a program can be changed so.
     fn fits(self, program: Program, text: usize) -> bool {
         match self {
-            Kind::Repeated => text == READINGS,
+            Kind::Repeated => program.kinds()[text] == TextKind::Readings,
             Kind::SameTwice | Kind::Exchanged => program.texts() > 1,
             _ => true,
         }
@@ -147,11 +143,20 @@ impl Source {
 
     /// The texts that a program takes, within the rules but for single readings.
     pub fn whole(&self, random: &mut Random, program: Program) -> Texts {
-        let count = 1 + random.index(READING_COUNT);
-        let readings = (0..count).flat_map(|_| self.reading(random)).collect();
-        let mut texts = vec![self.reference.bytes(), self.enveloped.text(), readings];
-        texts.truncate(program.texts());
-        texts
+        let kinds = program.kinds().iter();
+        kinds.map(|&kind| self.text(random, kind)).collect()
+    }
+
+    fn text(&self, random: &mut Random, kind: TextKind) -> Vec<u8> {
+        match kind {
+            TextKind::Reference => self.reference.bytes(),
+            TextKind::Record => self.enveloped.text(),
+            TextKind::Settings => settings_texts::whole(random),
+            TextKind::Readings => {
+                let count = 1 + random.index(READING_COUNT);
+                (0..count).flat_map(|_| self.reading(random)).collect()
+            }
+        }
     }
 
     /// Texts with one to three changes, one after the other, and these.
@@ -160,7 +165,7 @@ impl Source {
         let mut changes = Vec::new();
         while changes.is_empty() || changes.len() < 3 && random.once_in(6) {
             let change = change(random, program);
-            self.change(random, &mut texts, change);
+            self.change(random, program, &mut texts, change);
             changes.push(change);
         }
         (texts, changes)
@@ -182,12 +187,12 @@ impl Source {
         }
     }
 
-    fn change(&self, random: &mut Random, texts: &mut [Vec<u8>], change: Change) {
+    fn change(&self, random: &mut Random, program: Program, texts: &mut [Vec<u8>], change: Change) {
         let Change { kind, text } = change;
         match kind {
-            Kind::Damaged => self.damage(random, texts, text),
+            Kind::Damaged => self.damage(random, &mut texts[text], program.kinds()[text]),
             Kind::OthersEmbedded | Kind::OfOtherRows => {
-                let others = self.others(random, kind);
+                let others = self.others(random, program, kind);
                 let count = match kind {
                     Kind::OfOtherRows => 1,
                     _ => 2 + random.index(2),
@@ -201,30 +206,34 @@ impl Source {
     }
 
     /// Damage that a text of its kind takes.
-    fn damage(&self, random: &mut Random, texts: &mut [Vec<u8>], text: usize) {
+    fn damage(&self, random: &mut Random, damaged: &mut Vec<u8>, kind: TextKind) {
         let types = &self.reference.types;
-        let damaged = &mut texts[text];
-        match text {
-            REFERENCE => {
+        match kind {
+            TextKind::Reference => {
                 let kind = damage::kind(random);
                 damage::damage(random, damaged, kind, types);
             }
-            RECORD => *damaged = record_damage::damaged(random, &self.enveloped).0,
-            _ => {
+            TextKind::Record => *damaged = record_damage::damaged(random, &self.enveloped).0,
+            TextKind::Settings => {
+                let kind = settings_texts::kind(random);
+                settings_texts::damage(random, damaged, kind);
+            }
+            TextKind::Readings => {
                 let kind = reading_damage::kind(random);
                 reading_damage::damage(random, damaged, kind, types);
             }
         }
     }
 
-    /// All three texts of another run, or of one of these rows.
-    fn others(&self, random: &mut Random, kind: Kind) -> Texts {
+    /// The texts of another run, or of one of these rows; three of them where the program takes fewer.
+    fn others(&self, random: &mut Random, program: Program, kind: Kind) -> Texts {
         let source = if kind == Kind::OthersEmbedded && random.once_in(2) {
             self.clone()
         } else {
             Source::new(random)
         };
-        source.whole(random, Program::Judge)
+        let fewer = program.texts() < Program::Judge.texts();
+        source.whole(random, if fewer { Program::Judge } else { program })
     }
 }
 

@@ -1,5 +1,5 @@
-//! Texts, readings and records in full sweeps: every change of one byte, of the lines and of a number,
-//! every short value field, every number near the ranges, every short tag.
+//! Texts, readings, records and alert settings in full sweeps: every change of one byte, of the lines and of
+//! a number, every short value field, every number near the ranges, every short tag.
 
 use crate::reference::{CHANNEL_TYPES, ChannelType};
 
@@ -137,6 +137,24 @@ pub fn tags_of_readings(mut visit: impl FnMut(&ChannelType, &[u8])) {
             visit(channel, &one_channel(&tag, b"1"));
             visit(channel, &one_channel(&tag, b"4001"));
         }
+    }
+}
+
+/// Small texts of alert settings.
+pub const SMALL_SETTINGS: [&str; 3] = ["1,1\n", "12,99\n3,40\n", "2,2\n2,2\n98,7\n"];
+
+/// The bytes of settings, and the most of them in a text.
+const SETTING_BYTES: &[u8] = b"019,\n";
+const SETTINGS_LENGTH: usize = 6;
+
+/// Every short text of the bytes that settings are made of, and those that differ little from small ones.
+pub fn settings(mut visit: impl FnMut(&[u8])) {
+    for text in words(SETTING_BYTES, SETTINGS_LENGTH) {
+        visit(&text);
+    }
+    for text in SMALL_SETTINGS {
+        one_byte_changes(text.as_bytes(), &mut visit);
+        line_changes(text.as_bytes(), &mut visit);
     }
 }
 

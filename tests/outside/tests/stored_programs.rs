@@ -3,7 +3,7 @@
 
 use outside::programs::{PROGRAMS, Program, Texts, refusals_in};
 use outside::reference::TEXT_LIMIT;
-use outside::stored_programs::{KINDS, OUTPUT, texts};
+use outside::stored_programs::{OUTPUT, ends, texts};
 use std::collections::BTreeSet;
 use std::fs;
 use std::path::{Path, PathBuf};
@@ -72,7 +72,7 @@ fn there_are_enough_cases_and_no_two_alike() {
 #[test]
 fn every_file_belongs_to_a_case() {
     for program in PROGRAMS {
-        let kinds = &KINDS[..program.texts()];
+        let kinds = ends(program);
         for path in files(program) {
             let kind = path.extension().and_then(|kind| kind.to_str());
             let kind = kind.expect("a kind of file");
