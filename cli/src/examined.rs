@@ -6,12 +6,18 @@ use cundarivo::{CHANNELS, Envelope, Figures, ROWS, Refusal};
 
 /// The refusal of an empty or too long text.
 pub const NO_TEXT: u32 = 1;
+/// The refusal of alert settings, which names no line.
+const ALERT_SETTINGS: Refusal = Refusal {
+    number: 14,
+    line: 0,
+};
 
 /// Which text of a command.
 #[derive(Clone, Copy, Debug, PartialEq, Eq)]
 pub enum Kind {
     Reference,
     Record,
+    Settings,
     Readings,
 }
 
@@ -21,6 +27,8 @@ pub struct Refused<'t> {
     pub kind: Kind,
     pub text: &'t Text,
     pub refusal: Refusal,
+    /// The line that is told: the refusal's own, of settings the first one at fault.
+    pub line: u32,
     /// The codes of the reference text's channels, where that text is accepted.
     pub codes: Vec<u8>,
 }
@@ -28,8 +36,13 @@ pub struct Refused<'t> {
 impl Refused<'_> {
     /// What a program prints of it.
     pub fn answer(&self) -> String {
-        format!("NO,{},{}\n", self.refusal.number, self.refusal.line)
+        printed(self.refusal)
     }
+}
+
+/// What a program prints of a refused text.
+fn printed(refusal: Refusal) -> String {
+    format!("NO,{},{}\n", refusal.number, refusal.line)
 }
 
 /// An accepted reference text.
@@ -63,6 +76,7 @@ impl<'t> Reference<'t> {
                 kind: Kind::Reference,
                 text,
                 refusal,
+                line: refusal.line,
                 codes: Vec::new(),
             }),
         }
@@ -91,27 +105,61 @@ impl<'t> Reference<'t> {
     /// The envelope of a record that agrees with the rows.
     pub fn record(&self, text: &'t Text) -> Result<Envelope, Refused<'t>> {
         let read = cundarivo::read_record(&self.table, self.m, self.n, &self.codes, &text.bytes);
-        read.map_err(|refusal| Refused {
-            kind: Kind::Record,
-            text,
-            refusal,
-            codes: self.codes.clone(),
-        })
+        read.map_err(|refusal| self.refused(Kind::Record, text, refusal))
     }
 
     /// Whether the readings together are a text: judged as one reading they are refused by 1 where they are
     /// none. What is asked of each of them by itself is no part of it.
     pub fn readings(&self, figures: &Figures, text: &'t Text) -> Result<(), Refused<'t>> {
         match cundarivo::judge(figures, &text.bytes) {
-            Err(refusal) if refusal.number == NO_TEXT => Err(Refused {
-                kind: Kind::Readings,
-                text,
-                refusal,
-                codes: self.codes.clone(),
-            }),
+            Err(refusal) if refusal.number == NO_TEXT => {
+                Err(self.refused(Kind::Readings, text, refusal))
+            }
             _ => Ok(()),
         }
     }
+
+    /// Whether settings are a settings text, which only the program reads: `answer` is what it prints of
+    /// them, and `try_settings` gives what it prints of other settings, beside the command's other texts, of
+    /// which reference text and record are accepted. The line at fault is the last of the fewest first lines that are refused, at most the one
+    /// behind the last setting that there can be.
+    pub fn settings(
+        &self,
+        text: &'t Text,
+        answer: &[u8],
+        try_settings: impl Fn(&[u8]) -> Vec<u8>,
+    ) -> Result<(), Refused<'t>> {
+        let refused = printed(ALERT_SETTINGS);
+        if answer != refused.as_bytes() {
+            return Ok(());
+        }
+        let is_refused = |settings: &[u8]| try_settings(settings) == refused.as_bytes();
+        let mut starts = (1..).zip(starts(&text.bytes));
+        let at_fault = starts.find(|(_, start)| is_refused(start));
+        Err(Refused {
+            line: at_fault.map_or(0, |(line, _)| line),
+            ..self.refused(Kind::Settings, text, ALERT_SETTINGS)
+        })
+    }
+
+    fn refused(&self, kind: Kind, text: &'t Text, refusal: Refusal) -> Refused<'t> {
+        Refused {
+            kind,
+            text,
+            refusal,
+            line: refusal.line,
+            codes: self.codes.clone(),
+        }
+    }
+}
+
+/// The first line of a text, the first two, and so on, each with its byte 10 where it has one.
+fn starts(text: &[u8]) -> impl Iterator<Item = &[u8]> {
+    let lines = text.split_inclusive(|&byte| byte == b'\n');
+    lines.scan(0, |end, line| {
+        *end += line.len();
+        Some(&text[..*end])
+    })
 }
 
 /// Holds a program's whole output against the refusal of its texts that their own calls give.

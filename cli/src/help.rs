@@ -30,9 +30,10 @@ To begin, in the folder of the repository:
 
 const TEXTS: &str = "\
 REF is the file of a reference text, ENV that of a record, READINGS that of
-readings. '-' stands for standard input, and so does the last text where it is
-left out (but show without ENV draws REF). It can be only one of the texts. A
-name that starts with '-' is written ./NAME, or comes behind '--'.
+readings, SETTINGS that of alert settings. '-' stands for standard input, and so
+does the last text where it is left out (but show without ENV draws REF). It can
+be only one of the texts. A name that starts with '-' is written ./NAME, or
+comes behind '--'.
 
 A text that is refused is answered by NO, the number of the refusal and the
 line at fault (0 where none is), and said in words on standard error. A text
@@ -49,7 +50,7 @@ Exit status, for every command:
   3  of judge: some reading is an alarm or is turned back
 ";
 
-const COMMANDS: [Command; 10] = [
+const COMMANDS: [Command; 11] = [
     Command {
         name: "draw",
         words: "[REF]",
@@ -110,6 +111,36 @@ counts. What follows from them is for the shift lead to decide.
 
 Exit status 0 means that every reading is quiet; 3 that some reading is an
 alarm or is turned back.
+",
+    },
+    Command {
+        name: "alerts",
+        words: "REF ENV SETTINGS [READINGS]",
+        summary: "what alert settings would have made of recorded readings",
+        details: "\
+Tries alert settings on recorded readings, for example those of a month, as the
+envelope judges them. SETTINGS has 1 to 20 lines
+
+  k,c    an alert is raised by k Alarm verdicts running, and cleared by c Quiet
+         verdicts running; both are 1 to 99
+
+Prints a line for each setting, in the order of SETTINGS:
+
+  k,c,raised,passed    the setting; how many alerts it would have raised; how
+                       many readings passed while an alert stood, the one that
+                       raises it among them, the one that clears it not
+
+and a last line:
+
+  readings,alarm,quiet,turned back    how many readings there are, and how many
+                       of them are an Alarm, are Quiet, and are turned back
+
+A reading that is turned back breaks no run, is not among those that passed, and
+is counted in the last line alone. 'judge' says which they are, and why.
+
+Exit status 0 means that the settings were tried, whatever they raised. Settings
+that are refused are answered by NO,14,0; the line at fault is said on standard
+error.
 ",
     },
     Command {

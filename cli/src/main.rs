@@ -4,9 +4,10 @@
 //!
 //! - `arguments`: the words of a command; `texts`: a command's texts, read; `output`: standard output.
 //! - `examined`: the texts through the library's calls, which is what statuses and words rest on.
-//! - `programs`: draw, verify, panel, judge and plain, whose standard output is that of the proved program
-//!   calls.
+//! - `programs`: draw, verify, panel, judge, plain and alerts, whose standard output is that of the proved
+//!   program calls.
 //! - `judged`: the readings of `judge`, measured; `explain`: these as `judge --explain` prints them.
+//! - `alerts`: what `alerts` prints, held against the measured readings.
 //! - `plain`: what `plain` prints, held against its text; the values below detection.
 //! - `show`: an envelope in units; `weighted_rows`: the rows that hold it.
 //! - `distances`, `units`, `types`, `columns`: distances in whole numbers, numbers as people read them, the
@@ -16,6 +17,7 @@
 //! - `failure`, `status`, `shown`: what is no answer, exit statuses, bytes of strangers as they are printed.
 //! - `descriptors`, `system`: the standard descriptors as they were at the start; calls of the system.
 
+mod alerts;
 mod arguments;
 mod columns;
 mod descriptors;
@@ -80,6 +82,7 @@ fn run(words: &[OsString]) -> Result<Status, Failure> {
         b"panel" => programs::panel(words),
         b"judge" => programs::judge(words),
         b"plain" => programs::plain(words),
+        b"alerts" => programs::alerts(words),
         b"show" => show::show(words),
         b"types" => types::print_types(words),
         b"refusals" => refusals::print_refusals(words),

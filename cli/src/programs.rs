@@ -1,5 +1,6 @@
 //! The programs: their texts read, their proved calls made, the output of these printed as it is.
 
+use crate::alerts;
 use crate::arguments::Words;
 use crate::examined::{Reference, Refused, require_answer};
 use crate::explain;
@@ -84,6 +85,29 @@ pub fn plain(words: &[OsString]) -> Result<Status, Failure> {
     plain::require_same(&read, &answer)?;
     output::print(&answer)?;
     plain::tell_below_detection(&read);
+    Ok(Status::Done)
+}
+
+pub fn alerts(words: &[OsString]) -> Result<Status, Failure> {
+    let [reference, record, settings, readings] = &read_texts("alerts", words)?;
+    let try_settings = |settings: &[u8]| {
+        programs::alerts(&reference.bytes, &record.bytes, settings, &readings.bytes)
+    };
+    let answer = try_settings(&settings.bytes);
+    let accepted = Reference::read(reference).and_then(|read| {
+        let envelope = read.record(record)?;
+        read.settings(settings, &answer, try_settings)?;
+        read.readings(&envelope.figures, readings)?;
+        Ok(envelope.figures)
+    });
+    let figures = match accepted {
+        Ok(figures) => figures,
+        Err(refused) => return conclude(Some(refused), &answer, b""),
+    };
+    let verdicts = programs::judge(&reference.bytes, &record.bytes, &readings.bytes);
+    let judged = judged::measure_all(&figures, &readings.bytes, &verdicts)?;
+    alerts::require_same(settings, &judged, &answer)?;
+    output::print(&answer)?;
     Ok(Status::Done)
 }
 

@@ -27,7 +27,7 @@ const fn refusal(reason: &'static str, met_by: &'static str, remedy: &'static st
 const LIBRARY: &str = "callers of the library alone";
 
 /// By number, from 1.
-const TABLE: [Entry; 13] = [
+const TABLE: [Entry; 14] = [
     refusal(
         "text empty or above 65,536 bytes",
         "a reference text, a record, the readings together",
@@ -93,6 +93,11 @@ const TABLE: [Entry; 13] = [
         LIBRARY,
         "lend as many places as the call states",
     ),
+    refusal(
+        "alert settings not in form or outside their limits",
+        "the settings of 'envelope alerts'; settings that callers lend",
+        "give 1 to 20 lines k,c, both 1 to 99, each line ended by byte 10",
+    ),
 ];
 
 /// When input is refused by a number of the library.
@@ -135,12 +140,12 @@ mod tests {
 
     #[test]
     fn every_number_has_its_reason_once() {
-        let reasons: std::collections::BTreeSet<&str> = (1..=13).map(reason).collect();
+        let reasons: std::collections::BTreeSet<&str> = (1..=14).map(reason).collect();
         assert_eq!(reasons.len(), TABLE.len());
         assert!(
-            (1..=13).all(|number| table().contains(&format!("\n{number:2}  {}\n", reason(number))))
+            (1..=14).all(|number| table().contains(&format!("\n{number:2}  {}\n", reason(number))))
         );
-        assert_eq!(reason(0), reason(14));
+        assert_eq!(reason(0), reason(15));
     }
 
     #[test]

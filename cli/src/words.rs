@@ -3,7 +3,7 @@
 //! value. A hint states what is seen there and what the form asks for.
 //!
 //! - `line`: a line as a whole; `number`, `value`, `label`, `fields`: its parts.
-//! - `heading`, `reference`, `record`, `reading`: the lines of each text.
+//! - `heading`, `reference`, `record`, `reading`, `settings`: the lines of each text.
 
 #[cfg(test)]
 mod damaged;
@@ -17,6 +17,7 @@ mod number;
 mod reading;
 mod record;
 mod reference;
+mod settings;
 mod value;
 
 pub use label::LIMIT as LABEL_LIMIT;
@@ -36,7 +37,11 @@ const FIELD: usize = 24;
 
 /// Tells why a text is refused.
 pub fn tell_refused(refused: &Refused<'_>) {
-    tell(refused.text, refused.refusal, &hint(refused));
+    let refusal = Refusal {
+        line: refused.line,
+        ..refused.refusal
+    };
+    tell(refused.text, refusal, &hint(refused));
 }
 
 /// Tells the first refused readings, and how many more there are. `codes` are those of the envelope.
@@ -93,12 +98,14 @@ fn hint(refused: &Refused<'_>) -> String {
         kind,
         text,
         refusal,
+        line,
         codes,
     } = refused;
     match (refusal.number, kind) {
         (1, _) | (_, Kind::Readings) => size(*kind, text),
         (_, Kind::Reference) => reference::hint(&text.bytes, *refusal),
         (_, Kind::Record) => record::hint(&text.bytes, *refusal, codes),
+        (_, Kind::Settings) => settings::hint(&text.bytes, *line),
     }
 }
 
@@ -106,6 +113,7 @@ fn size(kind: Kind, text: &Text) -> String {
     let (name, is, has) = match kind {
         Kind::Reference => ("the reference text", "is", "has"),
         Kind::Record => ("the record", "is", "has"),
+        Kind::Settings => ("the settings", "are", "have"),
         Kind::Readings => ("the readings together", "are", "have"),
     };
     match text.bytes.is_empty() {

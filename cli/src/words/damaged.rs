@@ -2,7 +2,7 @@
 //! the library refuses a line something is seen on it.
 
 use super::line::Line;
-use super::{heading, reading, record, reference, refused_reading};
+use super::{heading, reading, record, reference, refused_reading, settings};
 use crate::types::TYPES;
 use cundarivo::{Figures, Refusal};
 
@@ -17,6 +17,7 @@ const READING: &[u8] = b"GL-01A,TOC,57,TMP,-7,PH,585\n";
 const RECORD: &[u8] =
     b"ENV,2,TOC,CND\nC,196608,262144\nR,107374182400,107374182400,2,S\nW,2,32768\n\
                         W,3,32768\n";
+const SETTINGS: &[u8] = b"1,1\n3,3\n12,99\n";
 const CODES: [u8; 3] = [1, 5, 6];
 
 /// What people and other programs put into a line.
@@ -111,10 +112,10 @@ fn hints_are_short_lines_of_printable_characters() {
     println!("seed {SEED}");
     let mut random = Random { state: SEED };
     for _ in 0..LINES {
-        let base = [HEADING, ROW, READING, RECORD][random.index(4)];
+        let base = [HEADING, ROW, READING, RECORD, SETTINGS][random.index(5)];
         let line = random.damaged(base);
         let text = [HEADING, &line].concat();
-        let (place, number) = (random.index(7) as u32, random.index(14) as u32);
+        let (place, number) = (random.index(7) as u32, random.index(15) as u32);
         let refusal = Refusal {
             number,
             line: place,
@@ -125,6 +126,7 @@ fn hints_are_short_lines_of_printable_characters() {
             reference::hint(&line, refusal),
             record::hint(&line, refusal, &CODES),
             reading::hint(refusal, &line, &CODES),
+            settings::hint(&line, place),
             refused_reading(refusal, &line, &CODES),
         ] {
             require_short(&hint, &line);
@@ -197,6 +199,31 @@ fn something_is_seen_on_a_refused_line_of_a_record() {
         }
     }
     assert!(refused > LINES / 6, "{refused}");
+}
+
+/// Each damaged settings text that the library refuses, at the line that it is refused with.
+#[test]
+fn something_is_seen_on_a_refused_line_of_settings() {
+    println!("seed {SEED}");
+    let mut random = Random { state: SEED };
+    let [mut refused, mut accepted] = [0; 2];
+    for _ in 0..LINES / 3 {
+        let text = random.damaged(SETTINGS);
+        let Some((line, hint)) = settings::tests::told(&text) else {
+            accepted += 1;
+            continue;
+        };
+        require_short(&hint, &text);
+        let is_line = Line::numbered(&text, line).is_some();
+        assert!(is_line || text.is_empty(), "line {line} of {text:?}");
+        assert!(
+            !hint.starts_with("a settings text has"),
+            "{hint:?} of {text:?}"
+        );
+        refused += 1;
+    }
+    let least = LINES / 100;
+    assert!(refused > least && accepted > least, "{refused} {accepted}");
 }
 
 fn read(text: &[u8]) -> Result<cundarivo::Counts, Refusal> {

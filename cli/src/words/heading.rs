@@ -77,16 +77,7 @@ fn no_count(fields: &[&[u8]], word: &str) -> Option<String> {
             "behind {word} stands {shown} in place of n, the number of tags ({tags} in the line)"
         ));
     }
-    if let Some(fault) = number::fault(n) {
-        return Some(format!(
-            "n, the number of tags, is {shown}, which {}",
-            fault.words()
-        ));
-    }
-    match number::small(n) {
-        Some(1..=8) => None,
-        _ => Some(format!("n, the number of tags, is {shown}: it is 1 to 8")),
-    }
+    number::outside("n, the number of tags,", n, 1..=8)
 }
 
 /// Another number of tags than n says.

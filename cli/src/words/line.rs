@@ -56,6 +56,13 @@ pub fn nothing(line: Line<'_>) -> Option<&'static str> {
     way.map(|(_, seen)| *seen)
 }
 
+/// Told of a line that has nothing to read; `lines` says what the lines of the text are.
+pub fn to_remove(text: &[u8], number: u32, seen: &str, lines: &str) -> String {
+    let last = count(text) == number as usize;
+    let place = if last { "last " } else { "" };
+    format!("the {place}line {seen}: remove it, {lines}")
+}
+
 /// The first sign of another program's way of saving a text, as a person would mend it.
 pub fn saved_otherwise(line: Line<'_>) -> Option<String> {
     byte_order_mark(line)

@@ -1,6 +1,8 @@
 //! The form of a plain number: what keeps a field from being one, as a person would name it.
 
+use super::field;
 use super::line::{self, Blank, Place};
+use std::ops::RangeInclusive;
 
 #[derive(Clone, Copy, Debug, PartialEq, Eq)]
 pub enum Fault {
@@ -81,6 +83,17 @@ pub fn small(field: &[u8]) -> Option<i64> {
     let few = digits(magnitude) && magnitude.len() <= 10;
     let text = std::str::from_utf8(field).ok().filter(|_| few)?;
     text.parse().ok()
+}
+
+/// What is told of a field that is no plain number within these limits; `name` says what it is.
+pub fn outside(name: &str, text: &[u8], limits: RangeInclusive<i64>) -> Option<String> {
+    let shown = field(text);
+    let (low, high) = (limits.start(), limits.end());
+    match (fault(text), small(text)) {
+        (Some(fault), _) => Some(format!("{name} is {shown}, which {}", fault.words())),
+        (None, Some(number)) if limits.contains(&number) => None,
+        (None, _) => Some(format!("{name} is {shown}: it is {low} to {high}")),
+    }
 }
 
 impl Fault {

@@ -16,7 +16,10 @@ pub fn hint(text: &[u8], refusal: Refusal) -> String {
         }
         (2, Some(line)) => heading::form(line, "REF"),
         (3, Some(line)) => match line::nothing(line) {
-            Some(seen) => empty(text, refusal.line, seen),
+            Some(seen) => {
+                let lines = "each line behind the heading is a row";
+                line::to_remove(text, refusal.line, seen, lines)
+            }
             None => row(line, &channels),
         },
         (4, Some(line)) => range(line, &channels),
@@ -28,12 +31,6 @@ pub fn hint(text: &[u8], refusal: Refusal) -> String {
 
 fn form(channels: &[&Type]) -> String {
     format!("a row is a label and {}", counted(channels.len(), "value"))
-}
-
-fn empty(text: &[u8], number: u32, seen: &str) -> String {
-    let last = line::count(text) == number as usize;
-    let place = if last { "last " } else { "" };
-    format!("the {place}line {seen}: remove it, each line behind the heading is a row")
 }
 
 fn heading_again(parts: &[&[u8]]) -> Option<String> {

@@ -35,9 +35,9 @@ impl Folder {
 
     /// Writes each text as a file of its own, and gives their paths.
     pub fn write_texts<Text: AsRef<[u8]>>(&self, texts: &[Text]) -> Vec<PathBuf> {
-        let named = crate::KINDS.iter().zip(texts);
-        named
-            .map(|(kind, text)| self.write(format!("x.{kind}"), text))
+        let placed = (1..).zip(texts);
+        placed
+            .map(|(place, text)| self.write(format!("text-{place}"), text))
             .collect()
     }
 

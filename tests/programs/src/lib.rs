@@ -20,9 +20,14 @@ pub mod repository;
 pub mod script;
 pub mod system;
 
+use outside::program_inputs::Source;
+use outside::programs::Program;
+use outside::random::Random;
 use std::path::{Path, PathBuf};
 
-pub const PROGRAMS: [&str; 5] = ["draw", "verify", "panel", "judge", "plain"];
+pub const PROGRAMS: [&str; 6] = ["draw", "verify", "panel", "judge", "plain", "alerts"];
+/// Those that take files before their last text.
+pub const WITH_FILES: [&str; 4] = ["verify", "panel", "judge", "alerts"];
 /// The most bytes of a text.
 pub const TEXT_LIMIT: usize = 65_536;
 /// The three sampling points of `examples`.
@@ -34,9 +39,7 @@ pub const RECORD: &str = "ENV,2,TOC,CND\nC,196608,262144\nR,107374182400,1073741
                           W,2,32768\nW,3,32768\n";
 /// A reading of its centre.
 pub const READING: &str = "LOOP-1,TOC,3,CND,4\n";
-
-/// The kinds of a program's texts in their order, which are the ends of their files' names too.
-pub const KINDS: [&str; 3] = ["ref", "env", "readings"];
+pub const SETTINGS: &str = "1,1\n2,3\n";
 
 /// The repository's folder.
 pub fn root() -> PathBuf {
@@ -57,30 +60,84 @@ pub fn example(name: &str, kind: &str) -> Vec<u8> {
     std::fs::read(&path).unwrap_or_else(|error| panic!("{}: {error}", path.display()))
 }
 
+/// The texts of `alerts` in `examples`: settings, and readings of a month.
+pub fn month() -> [Vec<u8>; 4] {
+    let of_point = ["ref", "env", "settings"].map(|kind| example("purified-water", kind));
+    let [reference, record, settings] = of_point;
+    let readings = example("purified-water-month", "readings");
+    [reference, record, settings, readings]
+}
+
+/// The kinds of a program's texts in their order, which are the ends of the names of stored files too.
+pub fn kinds(name: &str) -> &'static [&'static str] {
+    match name {
+        "draw" | "plain" => &["ref"],
+        "judge" => &["ref", "env", "readings"],
+        "alerts" => &["ref", "env", "settings", "readings"],
+        _ => &["ref", "env"],
+    }
+}
+
 /// How many texts a program takes.
 pub fn texts(name: &str) -> usize {
-    match name {
-        "draw" | "plain" => 1,
-        "judge" => 3,
-        _ => 2,
-    }
+    kinds(name).len()
 }
 
 /// Texts that a program accepts.
 pub fn accepted(name: &str) -> Vec<Vec<u8>> {
-    let all = [REFERENCE, RECORD, READING];
-    all[..texts(name)].iter().map(|&text| text.into()).collect()
+    let text = |kind: &&str| match *kind {
+        "ref" => REFERENCE,
+        "env" => RECORD,
+        "settings" => SETTINGS,
+        _ => READING,
+    };
+    let texts = kinds(name).iter().map(text);
+    texts.map(Vec::from).collect()
 }
 
-/// What a program prints of them.
+/// Texts of a program, whole as often as changed.
+pub fn seeded_texts_of(random: &mut Random, program: Program) -> Vec<Vec<u8>> {
+    let source = Source::new(random);
+    match random.once_in(2) {
+        true => source.whole(random, program),
+        false => source.changed(random, program).0,
+    }
+}
+
+/// What a program prints of texts that it accepts.
 pub fn answer(name: &str) -> &'static str {
     match name {
         "draw" => RECORD,
         "verify" => "OK\n",
         "panel" => "TOC,3\nCND,4\n",
         "plain" => REFERENCE,
+        "alerts" => "1,1,0,0\n2,3,0,0\n1,0,1,0\n",
         _ => "QUIET\n",
     }
+}
+
+/// What a program prints of an empty text of a kind, and of one that is too long.
+pub fn refusal_of_size(kind: &str) -> &'static str {
+    match kind {
+        "settings" => "NO,14,0\n",
+        _ => "NO,1,0\n",
+    }
+}
+
+/// Names that a stranger could give to a file: control bytes, line ends, words of our own, and a long one.
+pub fn hostile_names() -> Vec<Vec<u8>> {
+    let names: [&[u8]; 9] = [
+        b"\x1b[31m\n\\.ref",
+        b"envelope: 'x.ref': 0 values",
+        b"\xff\xfe",
+        b"\x07",
+        b"-x",
+        b"--help",
+        b"'",
+        b"two words",
+        &[b'n'; 255],
+    ];
+    names.map(Vec::from).to_vec()
 }
 
 /// A name as the programs print it in their messages.

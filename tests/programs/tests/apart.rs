@@ -4,7 +4,7 @@
 use programs::call::{WAYS, Way, run};
 use programs::folder::Folder;
 use programs::script::envelope;
-use programs::{READING, RECORD, REFERENCE};
+use programs::{READING, RECORD, REFERENCE, SETTINGS};
 
 /// The rows 0 and 10, and those of a stranger whose ball is wide.
 const HONEST: &str = "REF,1,TOC\nA,0\nB,10\n";
@@ -38,6 +38,8 @@ fn an_embedded_record_is_refused_with_its_reference_text() {
     for name in ["verify", "panel"] {
         assert_refused(name, &[&embedded, &honest], "NO,3,4\n");
     }
+    let texts = [&embedded, &record(WIDE), SETTINGS, HIGH];
+    assert_refused("alerts", &texts, "NO,3,4\n");
 }
 
 /// As three texts the honest record disagrees with the wide rows, and alone it judges the reading.
@@ -47,6 +49,10 @@ fn the_stranger_gains_nothing_without_embedding() {
     let alarm = run("judge", &[HONEST, &record(HONEST), HIGH]);
     let excess = 65_536_u64.pow(2) * (895 * 895 - 25);
     assert_eq!(alarm, format!("ALARM,{excess}\n").as_bytes());
+    let texts = [WIDE, &record(HONEST), SETTINGS, HIGH];
+    assert_refused("alerts", &texts, "NO,12,0\n");
+    let tried = run("alerts", &[HONEST, &record(HONEST), SETTINGS, HIGH]);
+    assert_eq!(tried, b"1,1,1,1\n2,3,0,0\n1,1,0,0\n");
 }
 
 /// Joined texts on standard input are one text: none of them is found by the command.
@@ -108,6 +114,8 @@ fn an_empty_line_in_a_reference_text_is_refused() {
         assert_refused("verify", &[&reference, RECORD], output);
         assert_refused("panel", &[&reference, RECORD], output);
         assert_refused("judge", &[&reference, RECORD, READING], output);
+        let texts = [&reference, RECORD, SETTINGS, READING];
+        assert_refused("alerts", &texts, output);
     }
 }
 
@@ -122,6 +130,8 @@ fn an_empty_line_in_a_record_is_refused() {
         assert_refused("verify", &[REFERENCE, &record], output);
         assert_refused("panel", &[REFERENCE, &record], output);
         assert_refused("judge", &[REFERENCE, &record, READING], output);
+        let texts = [REFERENCE, &record, SETTINGS, READING];
+        assert_refused("alerts", &texts, output);
     }
 }
 
@@ -134,6 +144,35 @@ fn record_and_reference_text_exchanged_are_refused() {
     assert_refused("judge", &[RECORD, REFERENCE, READING], "NO,2,1\n");
     assert_refused("judge", &[REFERENCE, READING, RECORD], "NO,11,1\n");
     assert_refused("judge", &[READING, RECORD, REFERENCE], "NO,2,1\n");
+}
+
+/// Settings in the place of every other text, and every other text in theirs.
+#[test]
+fn settings_in_another_place_are_refused() {
+    for (texts, output) in [
+        ([SETTINGS, RECORD, REFERENCE, READING], "NO,2,1\n"),
+        ([REFERENCE, SETTINGS, RECORD, READING], "NO,11,1\n"),
+        ([REFERENCE, RECORD, REFERENCE, READING], "NO,14,0\n"),
+        ([REFERENCE, RECORD, RECORD, READING], "NO,14,0\n"),
+        ([REFERENCE, RECORD, READING, SETTINGS], "NO,14,0\n"),
+    ] {
+        assert_refused("alerts", &texts, output);
+    }
+    // The last line of what it prints has as many fields as each before it.
+    let printed = run("alerts", &[REFERENCE, RECORD, SETTINGS, READING]);
+    let printed = String::from_utf8(printed).expect("an output in ASCII");
+    let texts = [REFERENCE, RECORD, &printed, READING];
+    assert_refused("alerts", &texts, "NO,14,0\n");
+}
+
+/// Of settings that bring readings, or a text behind an empty line, nothing is taken.
+#[test]
+fn texts_embedded_in_the_settings_are_refused() {
+    for embedded in [READING, RECORD, REFERENCE, "\n", "\n1,1\n"] {
+        let settings = format!("{SETTINGS}{embedded}");
+        let texts = [REFERENCE, RECORD, &settings, READING];
+        assert_refused("alerts", &texts, "NO,14,0\n");
+    }
 }
 
 #[test]
@@ -156,5 +195,33 @@ fn the_same_file_twice_is_refused_in_the_second_place() {
     for way in WAYS {
         let ended = way.run("judge", &[reference, record, record]);
         way.assert_answer(&ended, "judge", "NO,3,1\n".repeat(5));
+    }
+}
+
+/// Settings as the readings are readings that are not in form.
+#[test]
+fn the_same_file_twice_among_the_texts_of_alerts() {
+    let folder = Folder::new();
+    let files = folder.write_texts(&[REFERENCE, RECORD, SETTINGS, READING]);
+    let [reference, record, settings, readings] = [&files[0], &files[1], &files[2], &files[3]];
+    for (files, output) in [
+        ([reference, reference, settings, readings], "NO,11,1\n"),
+        ([record, record, settings, readings], "NO,2,1\n"),
+        ([settings, settings, settings, settings], "NO,2,1\n"),
+        ([reference, settings, settings, readings], "NO,11,1\n"),
+        ([reference, record, record, readings], "NO,14,0\n"),
+        ([reference, record, readings, readings], "NO,14,0\n"),
+        (
+            [reference, record, settings, settings],
+            "1,1,0,0\n2,3,0,0\n2,0,0,2\n",
+        ),
+        (
+            [reference, record, settings, record],
+            "1,1,0,0\n2,3,0,0\n5,0,0,5\n",
+        ),
+    ] {
+        for way in WAYS {
+            way.assert_answer(&way.run("alerts", &files), "alerts", output);
+        }
     }
 }

@@ -4,7 +4,7 @@
 use programs::call::{WAYS, Way};
 use programs::folder::Folder;
 use programs::process::{command, end, end_on};
-use programs::{PROGRAMS, accepted, answer, program, quoted, texts};
+use programs::{PROGRAMS, WITH_FILES, accepted, answer, program, quoted, texts};
 use std::ffi::{OsStr, OsString};
 use std::fs::File;
 use std::net::{TcpListener, TcpStream};
@@ -24,10 +24,13 @@ fn assert_told<Word: AsRef<OsStr>>(name: &str, arguments: &[Word], fault: &str) 
 
 #[test]
 fn a_missing_argument_is_told() {
-    for name in ["verify", "panel", "judge"] {
+    for name in WITH_FILES {
         assert_told::<&str>(name, &[], "argument 1: missing");
     }
-    assert_told("judge", &["missing"], "argument 2: missing");
+    for name in ["judge", "alerts"] {
+        assert_told(name, &["missing"], "argument 2: missing");
+    }
+    assert_told("alerts", &["missing", ""], "argument 3: missing");
 }
 
 /// The first one that is too many, before a file is opened.
@@ -44,6 +47,8 @@ fn an_argument_in_excess_is_told() {
     }
     assert_told("judge", &["a", "b", "c"], "argument 3 'c': one too many");
     assert_told("judge", &["a", "b", "", "d"], "argument 3 '': one too many");
+    let four = ["a", "b", "c", "d"];
+    assert_told("alerts", &four, "argument 4 'd': one too many");
     for name in PROGRAMS {
         let place = texts(name);
         let mut arguments = vec![OsString::from("a"); place - 1];
@@ -56,7 +61,7 @@ fn an_argument_in_excess_is_told() {
 
 /// Puts a name into each place before the last, for the programs that have such places.
 fn in_each_place(name: &OsStr, mut try_files: impl FnMut(&str, usize, &[OsString])) {
-    for program in ["verify", "panel", "judge"] {
+    for program in WITH_FILES {
         let folder = Folder::new();
         for place in 0..texts(program) - 1 {
             let files = folder.write_texts(&accepted(program));
@@ -90,7 +95,7 @@ fn an_argument_too_long_is_told() {
 #[test]
 fn the_longest_name_is_opened() {
     let folder = Folder::new();
-    for name in ["verify", "panel", "judge"] {
+    for name in WITH_FILES {
         let files = folder.write_texts(&accepted(name));
         let mut files: Vec<String> = files
             .iter()

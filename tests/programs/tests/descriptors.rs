@@ -5,7 +5,9 @@ use programs::call::{WAYS, Way};
 use programs::folder::Folder;
 use programs::process::{Ended, command, end, redirected};
 use programs::script::path;
-use programs::{PROGRAMS, RECORD, REFERENCE, TEXT_LIMIT, accepted, answer, quoted, texts};
+use programs::{
+    PROGRAMS, READING, RECORD, REFERENCE, TEXT_LIMIT, WITH_FILES, accepted, answer, quoted, texts,
+};
 use std::io::{Read, pipe};
 use std::os::unix::ffi::OsStrExt;
 use std::path::PathBuf;
@@ -127,7 +129,7 @@ fn closed_descriptors_give_no_wrong_answer() {
 
 #[test]
 fn a_closed_standard_input_is_no_end_of_an_earlier_text() {
-    for name in ["verify", "panel", "judge"] {
+    for name in WITH_FILES {
         for closed in ways_to_close().filter(|closed| closed.input) {
             let texts = Texts::new(name);
             for place in 0..texts.files.len() - 1 {
@@ -163,7 +165,7 @@ fn every_command_needs_its_descriptors() {
 /// What a program says is never its answer, whatever takes the place of a closed descriptor.
 #[test]
 fn a_message_is_no_answer_where_descriptors_are_closed() {
-    for name in ["verify", "panel", "judge"] {
+    for name in WITH_FILES {
         for closed in ways_to_close() {
             let texts = Texts::new(name);
             let mut files = texts.files.clone();
@@ -205,16 +207,21 @@ fn a_write_that_fails_is_told() {
 #[test]
 fn every_answer_that_cannot_be_written_is_told() {
     let folder = Folder::new();
-    let files = folder.write_texts(&["REF,0\n", "ENV,0\n", "\n"]);
+    let files = folder.write_texts(&["REF,0\n", "ENV,0\n", "\n", "\n"]);
     for name in PROGRAMS {
         let command = Way::Command.command(name, &files[..texts(name)]);
         let ended = end(&mut redirected(">/dev/full", &command), b"");
         ended.assert_told("envelope: standard output: No space left on device", 2);
     }
-    let readings = folder.write_texts(&[REFERENCE, RECORD, "\n"]);
-    let command = Way::Command.command("judge", &readings);
-    let ended = end(&mut redirected(">/dev/full", &command), b"");
-    ended.assert_told("envelope: standard output: No space left on device", 2);
+    let later: [(&str, &[&str]); 2] = [
+        ("judge", &[REFERENCE, RECORD, "\n"]),
+        ("alerts", &[REFERENCE, RECORD, "0,1\n", READING]),
+    ];
+    for (name, texts) in later {
+        let command = Way::Command.command(name, &folder.write_texts(texts));
+        let ended = end(&mut redirected(">/dev/full", &command), b"");
+        ended.assert_told("envelope: standard output: No space left on device", 2);
+    }
 }
 
 /// A file that may have 4 KiB takes the start of the output, whether the signal of the limit is ignored or

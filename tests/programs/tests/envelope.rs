@@ -6,7 +6,8 @@ use programs::folder::Folder;
 use programs::process::{Ended, command, end, end_on};
 use programs::script::{envelope, path};
 use programs::{
-    EXAMPLES, PROGRAMS, READING, RECORD, REFERENCE, TEXT_LIMIT, accepted, answer, example, texts,
+    EXAMPLES, PROGRAMS, READING, RECORD, REFERENCE, SETTINGS, TEXT_LIMIT, WITH_FILES, accepted,
+    answer, example, kinds, month, refusal_of_size, texts,
 };
 use std::ffi::OsStr;
 use std::fs::File;
@@ -18,7 +19,7 @@ use std::os::unix::net::UnixStream;
 use std::path::PathBuf;
 use std::process::Stdio;
 
-fn assert_ends(name: &str, texts: &[&str], output: &str, status: i32) {
+fn assert_ends<Text: AsRef<[u8]>>(name: &str, texts: &[Text], output: &str, status: i32) {
     let folder = Folder::new();
     let ended = Way::Command.run(name, &folder.write_texts(texts));
     Way::Command.assert_answer(&ended, name, output);
@@ -28,8 +29,7 @@ fn assert_ends(name: &str, texts: &[&str], output: &str, status: i32) {
 #[test]
 fn accepted_texts_end_in_0() {
     for name in PROGRAMS {
-        let texts = &[REFERENCE, RECORD, READING][..texts(name)];
-        assert_ends(name, texts, answer(name), 0);
+        assert_ends(name, &accepted(name), answer(name), 0);
     }
 }
 
@@ -44,24 +44,32 @@ fn refused_texts_end_in_1() {
             ("REF,1,TOC\nA,1\nA,2\n", "NO,5,3\n"),
             ("REF,1,TOC\n", "NO,6,2\n"),
         ] {
-            let texts = &[reference, RECORD, READING][..texts(name)];
-            assert_ends(name, texts, output, 1);
+            let mut texts = accepted(name);
+            texts[0] = reference.into();
+            assert_ends(name, &texts, output, 1);
         }
     }
     let other = RECORD.replace("2,S", "2,B");
-    for name in ["verify", "panel", "judge"] {
+    for name in WITH_FILES {
         for (record, output) in [
             ("", "NO,1,0\n"),
             ("ENV,0\n", "NO,11,1\n"),
             (&other, "NO,12,0\n"),
         ] {
-            let texts = &[REFERENCE, record, READING][..texts(name)];
-            assert_ends(name, texts, output, 1);
+            let mut texts = accepted(name);
+            texts[1] = record.into();
+            assert_ends(name, &texts, output, 1);
         }
     }
     let long = READING.repeat(TEXT_LIMIT / READING.len() + 1);
     for readings in ["", &long] {
         assert_ends("judge", &[REFERENCE, RECORD, readings], "NO,1,0\n", 1);
+        let texts = [REFERENCE, RECORD, SETTINGS, readings];
+        assert_ends("alerts", &texts, "NO,1,0\n", 1);
+    }
+    for settings in ["", "1,1", "0,1\n", "1,100\n", &long] {
+        let texts = [REFERENCE, RECORD, settings, READING];
+        assert_ends("alerts", &texts, "NO,14,0\n", 1);
     }
 }
 
@@ -119,14 +127,19 @@ fn the_examples_give_what_stands_beside_them() {
             assert!(verdicts.contains(word), "{point} has no {word}");
         }
     }
+    let alerts = String::from_utf8(example("purified-water", "alerts")).expect("a text");
+    assert_ends("alerts", &month(), &alerts, 0);
 }
 
 /// What stands for standard input.
 const INPUTS: [&str; 4] = ["-", "/dev/stdin", "/dev/fd/0", "/proc/self/fd/0"];
 
 /// Runs a program for each of its texts with that one on standard input: by `-` or another name of it, by
-/// each of them behind `--`, and where it is the last also by leaving it out.
-fn from_standard_input(mut input: impl FnMut(&[u8]) -> Stdio, mut see: impl FnMut(&str, Ended)) {
+/// each of them behind `--`, and where it is the last also by leaving it out. `see` is told its kind.
+fn from_standard_input(
+    mut input: impl FnMut(&[u8]) -> Stdio,
+    mut see: impl FnMut(&str, &str, Ended),
+) {
     for name in PROGRAMS {
         let folder = Folder::new();
         for place in 0..texts(name) {
@@ -142,10 +155,15 @@ fn from_standard_input(mut input: impl FnMut(&[u8]) -> Stdio, mut see: impl FnMu
             }
             for words in ways {
                 let input = input(&accepted(name)[place]);
-                see(name, end_on(&mut Way::Command.command(name, &words), input));
+                let ended = end_on(&mut Way::Command.command(name, &words), input);
+                see(name, kinds(name)[place], ended);
             }
         }
     }
+}
+
+fn assert_answered(name: &str, _: &str, ended: Ended) {
+    ended.assert_printed(answer(name), 0);
 }
 
 #[test]
@@ -155,7 +173,7 @@ fn any_text_is_read_from_a_pipe() {
         writer.write_all(text).expect("a pipe with room");
         Stdio::from(reader)
     };
-    from_standard_input(pipe, |name, ended| ended.assert_printed(answer(name), 0));
+    from_standard_input(pipe, assert_answered);
 }
 
 #[test]
@@ -165,7 +183,7 @@ fn any_text_is_read_from_a_socket() {
         here.write_all(text).expect("a socket with room");
         Stdio::from(OwnedFd::from(there))
     };
-    from_standard_input(socket, |name, ended| ended.assert_printed(answer(name), 0));
+    from_standard_input(socket, assert_answered);
 }
 
 /// What stands before that place is no part of the text.
@@ -180,7 +198,7 @@ fn any_text_is_read_from_a_place_within_a_file() {
             .expect("a place");
         Stdio::from(file)
     };
-    from_standard_input(file, |name, ended| ended.assert_printed(answer(name), 0));
+    from_standard_input(file, assert_answered);
 }
 
 #[test]
@@ -193,8 +211,8 @@ fn a_fifo_whose_writer_has_gone_is_an_empty_text() {
         let options = options.read(true).custom_flags(O_NONBLOCK);
         Stdio::from(options.open(folder.path().join("fifo")).expect("a fifo"))
     };
-    from_standard_input(fifo, |name, ended| {
-        Way::Command.assert_answer(&ended, name, "NO,1,0\n");
+    from_standard_input(fifo, |name, kind, ended| {
+        Way::Command.assert_answer(&ended, name, refusal_of_size(kind));
     });
 }
 
@@ -236,6 +254,11 @@ fn standard_input_for_two_texts_is_bad_usage() {
         &["panel", "-", "/proc/self/fd/0"],
         &["judge", "/dev/fd/0", "-", "x.readings"],
         &["judge", "x.ref", "/dev/stdin", "/dev/stdin"],
+        &["alerts", "-", "x.env", "x.settings"],
+        &["alerts", "x.ref", "x.env", "-"],
+        &["alerts", "x.ref", "-", "-", "x.readings"],
+        &["alerts", "x.ref", "x.env", "-", "-"],
+        &["alerts", "x.ref", "x.env", "/dev/fd/0", "/dev/stdin"],
     ] {
         let line = format!(
             "envelope: standard input can be only one of the texts of {}; see 'envelope help'",
@@ -257,6 +280,7 @@ fn a_word_of_any_bytes_is_told_on_one_line() {
 #[test]
 fn too_few_and_too_many_texts_are_bad_usage() {
     let judge = "judge [--explain] REF ENV [READINGS]";
+    let alerts = "alerts REF ENV SETTINGS [READINGS]";
     for (words, count, usage) in [
         (&["draw", "a", "b"][..], "many", "draw [REF]"),
         (&["draw", "-", "-"], "many", "draw [REF]"),
@@ -273,6 +297,10 @@ fn too_few_and_too_many_texts_are_bad_usage() {
         (&["judge", "a"], "few", judge),
         (&["judge", "-"], "few", judge),
         (&["judge", "a", "b", "c", "d"], "many", judge),
+        (&["alerts"], "few", alerts),
+        (&["alerts", "a", "b"], "few", alerts),
+        (&["alerts", "-", "--", "-"], "few", alerts),
+        (&["alerts", "a", "b", "c", "d", "e"], "many", alerts),
         (&["show"], "few", "show REF [ENV]"),
         (&["show", "a", "b", "c"], "many", "show REF [ENV]"),
     ] {
@@ -325,6 +353,7 @@ fn help_names_every_command_and_status() {
         "envelope verify REF [ENV]\n",
         "envelope panel REF [ENV]\n",
         "envelope judge ",
+        "envelope alerts REF ENV SETTINGS [READINGS]\n",
         "envelope plain [REF]\n",
         "envelope redraw ",
         "envelope show REF [ENV]\n",

@@ -16,7 +16,7 @@ use programs::presented::{
     assert_nearest, assert_printable, cells, channel_name, farthest, types, whole,
 };
 use programs::process::{Ended, end};
-use programs::{EXAMPLES, KINDS, READING, RECORD, REFERENCE, TEXT_LIMIT, example, root};
+use programs::{EXAMPLES, READING, RECORD, REFERENCE, TEXT_LIMIT, example, kinds, root};
 use std::path::Path;
 
 const SEED: u64 = 18;
@@ -155,7 +155,8 @@ fn last_line([quiet, alarms, turned_back]: [usize; 3]) -> String {
 }
 
 fn texts_of_example(point: &str) -> Vec<Vec<u8>> {
-    KINDS.map(|kind| example(point, kind)).to_vec()
+    let texts = kinds("judge").iter().map(|kind| example(point, kind));
+    texts.collect()
 }
 
 #[test]

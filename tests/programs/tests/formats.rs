@@ -46,9 +46,11 @@ fn every_example_of_a_refusal_is_answered_as_it_says() {
         let (folder, example) = (Folder::new(), text(example));
         folder.write("x.ref", REFERENCE);
         folder.write("x.env", RECORD);
+        folder.write("x.readings", "A,TOC,5\n");
         let (calls, status): (&[&[&str]], i32) = match kind.as_str() {
             "reference" => (&[&["draw"], &["plain"]], 1),
             "record" => (&[&["verify", "x.ref"]], 1),
+            "settings" => (&[&["alerts", "x.ref", "x.env", "-", "x.readings"]], 1),
             _ => (&[&["judge", "x.ref", "x.env"]], 3),
         };
         for words in calls {
@@ -69,7 +71,7 @@ fn every_example_of_a_refusal_is_answered_as_it_says() {
         numbers.push(number.parse::<u32>().expect("a number"));
     }
     numbers.dedup();
-    assert_eq!(numbers, [1, 2, 3, 4, 5, 6, 10, 11, 12]);
+    assert_eq!(numbers, [1, 2, 3, 4, 5, 6, 10, 11, 12, 14]);
 }
 
 #[test]
@@ -119,6 +121,9 @@ fn its_texts_are_those_of_an_example() {
             .expect("a text")
             .contains(&reading)
     );
+    assert_eq!(part("1,1\n").as_bytes(), programs::month()[2]);
+    let printed = programs::example("purified-water", "alerts");
+    assert_eq!(part("1,1,").as_bytes(), printed);
 }
 
 /// Of rows 6 and 10, which carry weight, another value is another record.

@@ -4,45 +4,64 @@
 use programs::call::{WAYS, Way};
 use programs::folder::Folder;
 use programs::process::{Ended, end_fed, end_on, within_memory, write_endless, write_single_bytes};
-use programs::{PROGRAMS, READING, RECORD, REFERENCE, TEXT_LIMIT, accepted, texts};
+use programs::{
+    PROGRAMS, READING, RECORD, REFERENCE, SETTINGS, TEXT_LIMIT, accepted, kinds, refusal_of_size,
+    texts,
+};
 use std::fs::File;
 use std::io::Seek;
 use std::path::PathBuf;
 use std::process::{Command, Stdio};
 
-const TOO_LONG: &str = "NO,1,0\n";
 /// Several times what any program reads.
 const MEGABYTES: usize = 3 << 20;
 /// What a pipe holds that nobody has read.
 const PIPE: usize = 65_536;
 
+/// What is printed of a text in a place that is too long.
+fn too_long(name: &str, place: usize) -> &'static str {
+    refusal_of_size(kinds(name)[place])
+}
+
 /// A text of so many bytes for a place, and what is printed of it where that is within the limit: a
-/// reference text that a missing last byte would make one out of form (3), a record out of form, and
-/// readings whose number is that of the bytes.
-fn filled(place: usize, length: usize) -> (Vec<u8>, String) {
-    match place {
-        0 => {
+/// reference text that a missing last byte would make one out of form (3), a record out of form, settings
+/// that are too many, and readings whose number is that of the bytes.
+fn filled(name: &str, place: usize, length: usize) -> (Vec<u8>, String) {
+    match kinds(name)[place] {
+        "ref" => {
             let digits = "1".repeat(length - 13);
             let text = format!("REF,1,TOC\nA,{digits}\n");
             (text.into_bytes(), "NO,4,2\n".to_string())
         }
-        1 => {
+        "env" => {
             let rest = "W,1,65536\n".bytes().cycle();
             let text: Vec<u8> = RECORD.bytes().chain(rest).take(length).collect();
             (text, "NO,11,6\n".to_string())
         }
-        _ => (vec![b'\n'; length], "NO,3,1\n".repeat(length)),
+        "settings" => {
+            let text: Vec<u8> = SETTINGS.bytes().cycle().take(length).collect();
+            (text, "NO,14,0\n".to_string())
+        }
+        _ => (vec![b'\n'; length], of_turned_back(name, length)),
+    }
+}
+
+/// What is printed of so many readings that are turned back.
+fn of_turned_back(name: &str, count: usize) -> String {
+    match name {
+        "alerts" => format!("1,1,0,0\n2,3,0,0\n{count},0,0,{count}\n"),
+        _ => "NO,3,1\n".repeat(count),
     }
 }
 
 /// The texts of a program with one of so many bytes, and what is printed of them.
 fn with_filled(name: &str, place: usize, length: usize) -> (Vec<Vec<u8>>, String) {
-    let (text, output) = filled(place, length);
+    let (text, output) = filled(name, place, length);
     let mut texts = accepted(name);
     texts[place] = text;
     match length <= TEXT_LIMIT {
         true => (texts, output),
-        false => (texts, TOO_LONG.to_string()),
+        false => (texts, too_long(name, place).to_string()),
     }
 }
 
@@ -107,12 +126,12 @@ fn assert_both_print<Text: AsRef<[u8]>>(name: &str, texts: &[Text], output: &str
 }
 
 #[test]
-fn a_text_far_above_the_limit_is_refused_by_1() {
+fn a_text_far_above_the_limit_is_refused() {
     for name in PROGRAMS {
         for place in 0..texts(name) {
             for length in [TEXT_LIMIT + 2, 2 * TEXT_LIMIT, MEGABYTES] {
                 let (texts, output) = with_filled(name, place, length);
-                assert_eq!(output, TOO_LONG);
+                assert_eq!(output, too_long(name, place));
                 assert_both_print(name, &texts, &output);
             }
         }
@@ -128,6 +147,10 @@ fn a_refusal_of_an_earlier_text_stands() {
     assert_both_print("panel", &[refused, &long], "NO,4,2\n");
     assert_both_print("judge", &[refused, &long, &long], "NO,4,2\n");
     assert_both_print("judge", &[REFERENCE, "ENV,0\n", &long], "NO,11,1\n");
+    let alerts = |texts: &[&str], output| assert_both_print("alerts", texts, output);
+    alerts(&[refused, &long, &long, &long], "NO,4,2\n");
+    alerts(&[REFERENCE, "ENV,0\n", &long, &long], "NO,11,1\n");
+    alerts(&[REFERENCE, RECORD, "0,1\n", &long], "NO,14,0\n");
 }
 
 /// Runs a program on texts of which one is at another path.
@@ -155,13 +178,13 @@ fn assert_endless_refused(way: Way, name: &str, place: usize, repeated: &str) {
     let (fifo, writer) =
         folder.write_fifo("fifo", move |pipe| write_endless(pipe, repeated.as_bytes()));
     let ended = with_path(name, place, fifo, way);
-    way.assert_answer(&ended, name, TOO_LONG);
+    way.assert_answer(&ended, name, too_long(name, place));
     let taken = writer.join().expect("a writer that ends");
     assert!(taken <= TEXT_LIMIT + 1 + PIPE, "{name} took {taken} bytes");
 }
 
 #[test]
-fn an_endless_named_pipe_is_refused_by_1() {
+fn an_endless_named_pipe_is_refused() {
     for name in PROGRAMS {
         for (place, way) in (0..texts(name)).flat_map(|place| WAYS.map(|way| (place, way))) {
             assert_endless_refused(way, name, place, &READING.repeat(500));
@@ -172,12 +195,12 @@ fn an_endless_named_pipe_is_refused_by_1() {
 }
 
 #[test]
-fn an_endless_device_is_refused_by_1() {
+fn an_endless_device_is_refused() {
     for name in PROGRAMS {
         for place in 0..texts(name) {
             for way in WAYS {
                 let ended = with_path(name, place, PathBuf::from("/dev/zero"), way);
-                way.assert_answer(&ended, name, TOO_LONG);
+                way.assert_answer(&ended, name, too_long(name, place));
             }
         }
     }
@@ -199,7 +222,7 @@ fn with_standard_input(way: Way, name: &str, place: usize, files: &[PathBuf]) ->
 
 /// `yes` ends when nobody reads what it writes.
 #[test]
-fn an_endless_standard_input_is_refused_by_1() {
+fn an_endless_standard_input_is_refused() {
     for name in PROGRAMS {
         let folder = Folder::new();
         let files = folder.write_texts(&accepted(name));
@@ -212,7 +235,7 @@ fn an_endless_standard_input_is_refused_by_1() {
             let mut yes = yes.expect("a command that runs");
             let input = yes.stdout.take().expect("a pipe");
             let ended = end_on(&mut command, input);
-            way.assert_answer(&ended, name, TOO_LONG);
+            way.assert_answer(&ended, name, too_long(name, place));
             drop(command);
             yes.wait().expect("a command that ends");
         }
@@ -236,8 +259,9 @@ fn no_more_than_the_limit_and_one_byte_is_read() {
         for way in WAYS {
             let mut input = File::open(&path).expect("a file");
             let shared = input.try_clone().expect("a descriptor");
-            let ended = way.run_on(name, &files[..texts(name) - 1], shared);
-            way.assert_answer(&ended, name, TOO_LONG);
+            let last = texts(name) - 1;
+            let ended = way.run_on(name, &files[..last], shared);
+            way.assert_answer(&ended, name, too_long(name, last));
             let position = input.stream_position();
             assert_eq!(position.expect("a position"), TEXT_LIMIT as u64 + 1);
         }

@@ -9,8 +9,8 @@ use programs::{PROGRAMS, RECORD, REFERENCE, TEXT_LIMIT, texts};
 
 const LIMIT_KIBIBYTES: i64 = 8 * 1_024;
 
-/// The largest accepted reference text with its record, or the longest output of `judge`; and as many
-/// bytes as any program reads.
+/// The largest accepted reference text with its record, or the most readings, which are the longest output of
+/// `judge`, and the most settings; and as many bytes as any program reads.
 fn largest(name: &str) -> [Vec<Vec<u8>>; 2] {
     let heading = format!("REF,8{}\n", ",ORP,CND".repeat(4));
     let row = |number: usize| format!("POINT-{number:06}{}\n", ",-1999,<3999".repeat(4));
@@ -20,6 +20,12 @@ fn largest(name: &str) -> [Vec<Vec<u8>>; 2] {
         "judge" => [REFERENCE, RECORD, &"\n".repeat(TEXT_LIMIT)]
             .map(Vec::from)
             .to_vec(),
+        "alerts" => {
+            let [settings, readings] = ["99,99\n".repeat(20), "\n".repeat(TEXT_LIMIT)];
+            [REFERENCE, RECORD, &settings, &readings]
+                .map(Vec::from)
+                .to_vec()
+        }
         _ => vec![reference.clone(), run("draw", &[reference])],
     };
     accepted.truncate(texts(name));

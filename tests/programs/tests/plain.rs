@@ -2,7 +2,6 @@
 //! as it is; and what the command says of values below detection, on the examples, on seeded texts and in the
 //! face of hostile names and streams.
 
-use outside::program_inputs::Source;
 use outside::programs::Program;
 use outside::random::{Random, count_from_environment, seed_from_environment};
 use outside::reference::{self, CHANNEL_TYPES, Reference};
@@ -11,7 +10,9 @@ use programs::folder::Folder;
 use programs::presented::assert_printable;
 use programs::process::{Ended, command, end, redirected};
 use programs::script::{envelope, path};
-use programs::{EXAMPLES, RECORD, REFERENCE, example, quoted, root};
+use programs::{
+    EXAMPLES, RECORD, REFERENCE, example, hostile_names, quoted, root, seeded_texts_of,
+};
 use std::os::unix::ffi::OsStrExt;
 use std::os::unix::fs::symlink;
 use std::path::Path;
@@ -211,11 +212,7 @@ fn seeded_texts() {
     let inputs = count_from_environment("INPUTS", INPUTS);
     for input in 0..inputs {
         println!("seed {seed}, input {input}");
-        let source = Source::new(&mut random);
-        let texts = match random.once_in(2) {
-            true => source.whole(&mut random, Program::Plain),
-            false => source.changed(&mut random, Program::Plain).0,
-        };
+        let texts = seeded_texts_of(&mut random, Program::Plain);
         match reference::read(&texts[0]) {
             Err(_) => {
                 assert_refused(&texts[0]);
@@ -274,19 +271,9 @@ fn run_in(folder: &Folder, name: &Path) -> Ended {
 /// The name is a stranger's: it ends no line of ours, and no control byte reaches a terminal.
 #[test]
 fn a_hostile_name_is_told_in_one_line() {
-    let long = "n".repeat(255);
-    for name in [
-        &b"\x1b[31m\n\\.ref"[..],
-        b"envelope: 'x.ref': 0 values",
-        b"\xff\xfe",
-        b"-x",
-        b"--help",
-        b"'",
-        b"two words",
-        long.as_bytes(),
-    ] {
+    for name in hostile_names() {
         let folder = Folder::new();
-        let name = Path::new(std::ffi::OsStr::from_bytes(name));
+        let name = Path::new(std::ffi::OsStr::from_bytes(&name));
         folder.write(name, BELOW);
         let ended = run_in(&folder, name);
         assert_eq!((ended.text(), ended.status), (REFERENCE, 0));

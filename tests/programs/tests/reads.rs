@@ -7,7 +7,7 @@ use programs::process::{command, end, end_on};
 use programs::repository::{copy_to_run, set_mode};
 use programs::script;
 use programs::system::{run_without_privileges, set_non_blocking};
-use programs::{PROGRAMS, RECORD, accepted, program, quoted, texts};
+use programs::{PROGRAMS, RECORD, WITH_FILES, accepted, program, quoted, texts};
 use std::fs;
 use std::io::{PipeReader, PipeWriter, Write, pipe};
 use std::os::unix::ffi::OsStrExt;
@@ -51,7 +51,7 @@ fn a_read_that_fails_after_whole_lines_is_no_end_of_the_last_text() {
 
 #[test]
 fn a_read_that_fails_after_whole_lines_is_no_end_of_an_earlier_text() {
-    for name in ["verify", "panel", "judge"] {
+    for name in WITH_FILES {
         let folder = Folder::new();
         for place in 0..texts(name) - 1 {
             let mut files = folder.write_texts(&accepted(name));
@@ -196,7 +196,7 @@ fn an_unreadable_file_is_named() {
 #[test]
 fn the_first_of_several_faulty_files_is_named() {
     let folder = Folder::new();
-    let missing: Vec<PathBuf> = ["a", "b", "c"].map(|name| folder.path().join(name)).into();
+    let missing = ["a", "b", "c", "d"].map(|name| folder.path().join(name));
     for name in PROGRAMS {
         let line = fault(
             Way::Command,

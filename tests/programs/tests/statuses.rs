@@ -1,7 +1,6 @@
 //! The exit status of each command, what `judge` says of readings that are turned back, help, types and
 //! version.
 
-use outside::program_inputs::Source;
 use outside::programs::{PROGRAMS as ALL_PROGRAMS, Program};
 use outside::random::{Random, count_from_environment, seed_from_environment};
 use outside::reference::CHANNEL_TYPES;
@@ -10,7 +9,10 @@ use programs::folder::Folder;
 use programs::presented::{assert_printable, cells, steps};
 use programs::process::{Ended, end, end_on, redirected};
 use programs::script::envelope;
-use programs::{EXAMPLES, KINDS, READING, RECORD, REFERENCE, TEXT_LIMIT, example, root};
+use programs::{
+    EXAMPLES, READING, RECORD, REFERENCE, SETTINGS, TEXT_LIMIT, example, kinds, root,
+    seeded_texts_of,
+};
 use std::fs::File;
 
 const SEED: u64 = 1_800;
@@ -28,8 +30,9 @@ const TURNED_BACK: [&str; 4] = [
 ];
 
 /// Every command, as help names it.
-const COMMANDS: [&str; 10] = [
-    "draw", "verify", "panel", "judge", "plain", "show", "redraw", "types", "refusals", "help",
+const COMMANDS: [&str; 11] = [
+    "draw", "verify", "panel", "judge", "alerts", "plain", "show", "redraw", "types", "refusals",
+    "help",
 ];
 
 fn run<Text: AsRef<[u8]>>(words: &[&str], texts: &[Text]) -> Ended {
@@ -85,7 +88,8 @@ fn one_reading_that_is_not_quiet_is_3() {
         }
     }
     for point in EXAMPLES {
-        let texts = KINDS.map(|kind| example(point, kind));
+        let texts = kinds("judge").iter().map(|kind| example(point, kind));
+        let texts: Vec<Vec<u8>> = texts.collect();
         assert_eq!(run(&["judge"], &texts).status, 3, "{point}");
     }
 }
@@ -99,12 +103,8 @@ fn seeded_texts() {
     for input in 0..count_from_environment("INPUTS", INPUTS) {
         println!("seed {seed}, input {input}");
         let program = random.pick(&ALL_PROGRAMS);
-        let source = Source::new(&mut random);
-        let texts = match random.once_in(2) {
-            true => source.whole(&mut random, program),
-            false => source.changed(&mut random, program).0,
-        };
-        let ended = run(&[name(program)], &texts);
+        let texts = seeded_texts_of(&mut random, program);
+        let ended = run(&[&program.name()], &texts);
         let answer = program.run(&texts);
         assert!(ended.output == answer, "seed {seed}, input {input}");
         let status = expected_status(program, &texts, &answer);
@@ -117,16 +117,6 @@ fn seeded_texts() {
         met[0] > 50 && met[1] > 50 && met[2] == 0 && met[3] > 10,
         "seed {seed}: {met:?}"
     );
-}
-
-fn name(program: Program) -> &'static str {
-    match program {
-        Program::Draw => "draw",
-        Program::Verify => "verify",
-        Program::Judge => "judge",
-        Program::Panel => "panel",
-        Program::Plain => "plain",
-    }
 }
 
 /// Whether something is said on standard error: each refusal, and that `plain` prints values below detection.
@@ -198,6 +188,12 @@ fn a_refused_text_is_1() {
         (&["judge"], &[REFERENCE, RECORD, ""]),
         (&["judge", "--explain"], &[REFERENCE, RECORD, ""]),
         (&["judge"], &[REFERENCE, "ENV,0\n", TURNED_BACK[0]]),
+        (&["alerts"], &["REF,0\n", RECORD, SETTINGS, QUIET]),
+        (&["alerts"], &[REFERENCE, "ENV,0\n", SETTINGS, QUIET]),
+        (&["alerts"], &[REFERENCE, RECORD, "", QUIET]),
+        (&["alerts"], &[REFERENCE, RECORD, "1,1", QUIET]),
+        (&["alerts"], &[REFERENCE, RECORD, "0,1\n", ""]),
+        (&["alerts"], &[REFERENCE, RECORD, SETTINGS, ""]),
     ] {
         let ended = run(words, texts);
         assert_eq!(ended.status, 1, "{words:?}");
@@ -226,6 +222,12 @@ fn bad_usage_is_2() {
         &["judge", "a"],
         &["judge", "--explain", "a"],
         &["judge", "--explained", "a", "b"],
+        &["alerts"],
+        &["alerts", "a", "b"],
+        &["alerts", "a", "b", "c", "d", "e"],
+        &["alerts", "a", "b", "-"],
+        &["alerts", "a", "b", "-", "-"],
+        &["alerts", "--explain", "a", "b", "c", "d"],
         &["show"],
         &["show", "a", "b", "c"],
         &["show", "-", "-"],
@@ -261,6 +263,14 @@ fn files_that_cannot_be_read_are_2() {
         (&["plain", here], ": Is a directory"),
         (&["show", files[0], "missing"], "'missing': No such file"),
         (&["show", here], ": Is a directory"),
+        (
+            &["alerts", files[0], files[1], "missing", files[0]],
+            "'missing': No such file",
+        ),
+        (
+            &["alerts", files[0], files[1], here, files[0]],
+            ": Is a directory",
+        ),
         (
             &["judge", "--explain", files[0], files[1], "missing"],
             "'missing': No such file",

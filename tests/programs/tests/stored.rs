@@ -5,7 +5,7 @@ use outside::programs::refusals_in;
 use outside::random::Random;
 use programs::call::{WAYS, run_in_pieces};
 use programs::folder::Folder;
-use programs::{EXAMPLES, KINDS, PROGRAMS, example, texts};
+use programs::{EXAMPLES, PROGRAMS, example, kinds, month, texts};
 use std::collections::BTreeSet;
 use std::path::{Path, PathBuf};
 use std::time::Duration;
@@ -28,7 +28,10 @@ struct Case {
 /// The stored cases of a program and those of the examples.
 fn cases(name: &str) -> Vec<Case> {
     let mut cases = stored(name);
-    cases.extend(EXAMPLES.map(|point| of_example(name, point)));
+    match name {
+        "alerts" => cases.push(of_month()),
+        _ => cases.extend(EXAMPLES.map(|point| of_example(name, point))),
+    }
     cases
 }
 
@@ -54,10 +57,9 @@ fn read_case(name: &str, output: &Path) -> Case {
     let read = |path: &Path| {
         std::fs::read(path).unwrap_or_else(|error| panic!("{}: {error}", path.display()))
     };
-    let kinds = &KINDS[..texts(name)];
     Case {
         name: output.display().to_string(),
-        texts: kinds
+        texts: kinds(name)
             .iter()
             .map(|kind| read(&output.with_extension(kind)))
             .collect(),
@@ -66,10 +68,10 @@ fn read_case(name: &str, output: &Path) -> Case {
 }
 
 fn of_example(name: &str, point: &str) -> Case {
-    let kinds = &KINDS[..texts(name)];
+    let texts = kinds(name).iter().map(|kind| example(point, kind));
     Case {
         name: format!("{point} in examples"),
-        texts: kinds.iter().map(|kind| example(point, kind)).collect(),
+        texts: texts.collect(),
         output: match name {
             "draw" => example(point, "env"),
             "verify" => b"OK\n".to_vec(),
@@ -77,6 +79,15 @@ fn of_example(name: &str, point: &str) -> Case {
             "plain" => example(point, "plain"),
             _ => example(point, "verdicts"),
         },
+    }
+}
+
+/// The example of `alerts`: settings tried on the readings of a month.
+fn of_month() -> Case {
+    Case {
+        name: "a month in examples".to_string(),
+        texts: month().to_vec(),
+        output: example("purified-water", "alerts"),
     }
 }
 
@@ -122,6 +133,7 @@ fn refusals(name: &str) -> &'static [u32] {
     match name {
         "draw" | "plain" => &[1, 2, 3, 4, 5, 6],
         "judge" => &[1, 2, 3, 4, 5, 6, 10, 11, 12],
+        "alerts" => &[1, 2, 3, 4, 5, 6, 11, 12, 14],
         _ => &[1, 2, 3, 4, 5, 6, 11, 12],
     }
 }

@@ -1,10 +1,11 @@
 //! The command at a terminal: what it waits for is told, and `redraw` shows a bar that it takes away.
 
+use programs::call::Way;
 use programs::folder::Folder;
 use programs::process::{command, end_on};
 use programs::script::path;
 use programs::system::open_terminal;
-use programs::{RECORD, REFERENCE};
+use programs::{PROGRAMS, REFERENCE, accepted, answer};
 use std::fs::File;
 use std::io::{Read, Write};
 use std::process::Stdio;
@@ -14,17 +15,20 @@ use std::thread;
 const END_OF_INPUT: &str = "\x04";
 
 #[test]
-fn a_text_that_is_typed_is_asked_for() {
-    for (name, output) in [("draw", RECORD), ("plain", REFERENCE)] {
+fn a_last_text_that_is_typed_is_asked_for() {
+    for name in PROGRAMS {
         let (mut person, program) = open_terminal();
-        let typed = format!("{REFERENCE}{END_OF_INPUT}");
-        person.write_all(typed.as_bytes()).expect("a terminal");
-        let ended = end_on(command(path()).arg(name), program);
+        let (folder, mut texts) = (Folder::new(), accepted(name));
+        let last = texts.pop().expect("a text");
+        let typed = [&last, END_OF_INPUT.as_bytes()].concat();
+        person.write_all(&typed).expect("a terminal");
+        let files = folder.write_texts(&texts);
+        let ended = end_on(&mut Way::Command.command(name, &files), program);
         assert_eq!(
             ended.messages,
             "envelope: reading standard input; Ctrl-D ends it\n"
         );
-        assert_eq!((ended.text(), ended.status), (output, 0));
+        assert_eq!((ended.text(), ended.status), (answer(name), 0));
     }
 }
 

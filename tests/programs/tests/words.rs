@@ -5,7 +5,7 @@
 use programs::folder::Folder;
 use programs::process::{Ended, command, end};
 use programs::script::{envelope, path};
-use programs::{READING, RECORD, REFERENCE, TEXT_LIMIT};
+use programs::{READING, RECORD, REFERENCE, TEXT_LIMIT, accepted};
 use std::path::{Path, PathBuf};
 
 /// The fixtures that are accepted, of which nothing is said.
@@ -130,6 +130,8 @@ fn every_command_tells_a_refused_text() {
         &["verify", "x.ref", "-"],
         &["panel", "-", "x.ref"],
         &["judge", "x.ref", "-", "x.ref"],
+        &["alerts", "x.ref", "x.ref", "-", "x.ref"],
+        &["alerts", "-", "x.ref", "x.ref", "x.ref"],
     ] {
         let mut command = command(path());
         let ended = end(
@@ -530,25 +532,26 @@ fn hostile_bytes() {
         &[b'9'; 60_000],
         &[b','; 60_000],
     ];
-    let texts = [REFERENCE, RECORD, READING].map(str::as_bytes);
-    for bytes in hostile {
-        for (place, text) in texts.into_iter().enumerate() {
-            for start in field_starts(text) {
-                let mut texts = texts.map(<[u8]>::to_vec);
-                texts[place].splice(start..start, bytes.iter().copied());
-                let folder = Folder::new();
-                let files = folder.write_texts(&texts);
-                let ended = end(command(path()).arg("judge").args(files), b"");
-                assert!([1, 3].contains(&ended.status), "{}", ended.messages);
-                assert_harmless(&ended);
-            }
+    for (name, place) in [("judge", 0), ("judge", 1), ("judge", 2), ("alerts", 2)] {
+        let accepted = accepted(name);
+        for (bytes, start) in hostile
+            .iter()
+            .flat_map(|bytes| field_starts(&accepted[place]).map(move |start| (bytes, start)))
+        {
+            let mut texts = accepted.clone();
+            texts[place].splice(start..start, bytes.iter().copied());
+            let folder = Folder::new();
+            let files = folder.write_texts(&texts);
+            let ended = end(command(path()).arg(name).args(files), b"");
+            assert!([1, 3].contains(&ended.status), "{}", ended.messages);
+            assert_harmless(&ended);
         }
     }
 }
 
-fn field_starts(text: &[u8]) -> Vec<usize> {
+fn field_starts(text: &[u8]) -> impl Iterator<Item = usize> {
     let starts = |&start: &usize| start == 0 || b",\n".contains(&text[start - 1]);
-    (0..text.len()).filter(starts).collect()
+    (0..text.len()).filter(starts)
 }
 
 /// The name of a file is a stranger's too.
@@ -578,7 +581,7 @@ fn the_table_of_refusals() {
         .lines()
         .filter_map(|line| line.get(..2)?.trim().parse().ok())
         .collect();
-    assert!(numbers.iter().copied().eq(1..=13), "{numbers:?}");
+    assert!(numbers.iter().copied().eq(1..=14), "{numbers:?}");
     let alone = ended.text().matches("callers of the library alone").count();
     assert_eq!(alone, 4);
     for words in [&["refusals", "3"][..], &["refusals", "--all"]] {
