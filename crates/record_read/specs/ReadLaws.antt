@@ -8,6 +8,7 @@
 --     each-read                      what holds of each answer holds of the call
 --     read-zero                      only an accepted record has the number 0
 --     accepted-read, read-accepted   a record is accepted exactly where it is an accepted one
+--     read-otherwise                 an accepted record, read against other rows, is kept where it agrees with them, else 12
 --     not-11-printed                 a text of 1 to 65,536 bytes that 11 does not meet is the printing of a record within the limits
 --     printed-not-11                 the printing of a record within the limits is not met by 11
 use Prim.Native.Nat.{ℕ, _<_}
@@ -18,11 +19,13 @@ use mathlib.Core.Option.{Option, none, some}
 use native.Mathlib.Omega.{arith}
 use lib.IntN.{ℤ}
 use lib.ListN.{length, take}
+use lib.Seq.{length-take-le}
 use Rattle.integers.specs.Tests.{both, cond-some, impossible, nonzero, unlike}
 use Rattle.refusal.specs.Number.{text-length, outside-limits, record-form, disagreement}
 use Rattle.refusal.specs.Outcome.{refused, refusedAt, numberOf, requireSome}
 use Rattle.refusal.specs.OutcomeLaws.{each-answer, each-found}
 use Rattle.refusal.specs.declared.Outcome.the-variants.{Accepted}
+use Rattle.geometry.specs.Table.{rowsWithin}
 use Rattle.ball.specs.declared.Ball.{Ball}
 use Rattle.text.specs.Parts.{textWithin, same}
 use Rattle.text.specs.PartsLaws.{same-eq, same-refl}
@@ -36,6 +39,7 @@ use Rattle.record_form.specs.RecordLaws.{each-sound, form-printed, printed-form
 use Rattle.record_form.specs.Weights.{weightsOf}
 use Rattle.record_read.specs.Contracts.{notRead, ballOfRecord, statedEnvelope, agreedBall, recordRead}
 use Rattle.typed_rows.specs.Given.{givenWithin}
+use Rattle.typed_rows.specs.GivenLaws.{given-within, within-given}
 use Rattle.record_read.specs.declared.EnvelopeRead.{EnvelopeRead}
 
 abbrev pub accepting : Envelope → EnvelopeRead
@@ -149,6 +153,46 @@ module _ (D limit : ℕ) (types : Types) (rows : List ℤ) (m n : ℕ) (codes te
       ∙ ap (λ (o : Option Ball). requireSome o (notRead limit (refused disagreement)) (λ ball. accepting (statedEnvelope limit (a .stated) ball)))
       (ball-agreed D limit rows m (take n codes) (a .stated .codes) (weightsOf limit (a .stated .weights)) (a .states) (a .same-codes) (a .agreeing))
       ∙ ap accepting (sym (a .envelope-is))
+
+-- an accepted record, by whether it agrees with other rows
+module _ (D limit : ℕ) (types : Types) (rows others : List ℤ) (m n : ℕ) (codes text : List ℕ) where
+  -- what it is read as
+  abbrev accepted : EnvelopeRead
+  accepted = recordRead D limit types rows m n codes text
+
+  -- what is answered of an envelope that the text states
+  abbrev otherwise : Envelope → EnvelopeRead
+  otherwise e = cond (agrees D limit others m n (e .figures .ball) (e .weights)) (accepting e) (notRead limit (refused disagreement))
+
+  module _ (h : accepted .outcome ≡ Accepted) where
+    abbrev a : Accepting D limit types rows m n codes text (accepted .envelope)
+    a = accepted-read D limit types rows m n codes text h
+
+    abbrev ws : List ℕ
+    ws = weightsOf limit (a .stated .weights)
+
+    abbrev answer : Option Ball → EnvelopeRead
+    answer o = requireSome o (notRead limit (refused disagreement)) (λ ball. accepting (statedEnvelope limit (a .stated) ball))
+
+    kept : (t : Bool) → answer (cond t (some (a .ball)) none) ≡ cond t (accepting (statedEnvelope limit (a .stated) (a .ball))) (notRead limit (refused disagreement))
+    kept true = refl
+    kept false = refl
+
+    pub read-otherwise : rowsWithin limit others m n ≡ true
+        → recordRead D limit types others m n codes text
+        ≡ cond (agrees D limit others m n (accepted .envelope .figures .ball) (accepted .envelope .weights)) accepted (notRead limit (refused disagreement))
+    read-otherwise within =
+        let given = given-within limit types rows m n codes (a .given) in
+        let count = ap (λ (k : ℕ). agrees D limit others m k (a .ball) ws) (length-take-le n codes (given .1)) in
+        let alike = ap (same (take n codes)) (sym (a .same-codes)) ∙ same-refl (take n codes) in
+        read-sound D limit types others m n codes text (within-given limit types others m n codes within (given .1) (given .2)) (a .some-text)
+        (a .stated) (a .in-form)
+        ∙ ap (λ (o : Option Ball). answer (agreedBall D limit others m (take n codes) (a .stated .codes) ws o)) (a .states)
+        ∙ ap (λ (t : Bool). answer (cond t (some (a .ball)) none)) (ap₂ _&&_ alike count)
+        ∙ kept (agrees D limit others m n (a .ball) ws)
+        ∙ ap otherwise (sym (a .envelope-is))
+        ∙ ap (λ (e : EnvelopeRead). cond (agrees D limit others m n (accepted .envelope .figures .ball) (accepted .envelope .weights)) e (notRead limit (refused disagreement)))
+        (sym (read-accepted D limit types rows m n codes text (accepted .envelope) a))
 
 -- ---- 2.10: the form
 
