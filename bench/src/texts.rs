@@ -102,7 +102,7 @@ pub fn ordinary_text(random: &mut Random, m: usize, n: usize) -> Vec<u8> {
 pub fn value(random: &mut Random, (_, low, high): (&str, i32, i32)) -> (String, i32) {
     let number = low + random.below((high - low) as usize + 1) as i32;
     if number > 0 && random.below(10) == 0 {
-        (format!("<{number}"), 0)
+        (format!("<{number}"), reader::reads_as(number, true))
     } else {
         (number.to_string(), number)
     }

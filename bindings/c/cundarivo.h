@@ -44,12 +44,13 @@
  *   65,536 bytes.
  *
  *   A plain number is a whole decimal number without leading zeros, with '-' before a negative one. A value
- *   is a plain number from its type's low to its high; or '<' and a plain number from 1 to its high, which
- *   means below detection and reads as 0. A label is 1 to 12 bytes of A-Z, 0-9 and hyphen.
+ *   is a plain number from its type's low to its high; or '<' and a plain number v from 1 to its high, which
+ *   means below detection and reads as the whole part of v/2: '<51' reads as 25. A label is 1 to 12 bytes of
+ *   A-Z, 0-9 and hyphen.
  *
  *   Reference text: the heading REF, n and n tags; then for each row a line of its label and n values.
- *   Where the library writes one every value is a plain number: '<5' that was read is written as 0, the number
- *   that it reads as.
+ *   Where the library writes one every value is a plain number: '<51' that was read is written as 25, the
+ *   number that it reads as.
  *   Reading: one line of a label, then tag and value n times.
  *   Record: the line ENV, n and n tags; the line C and X; the line R, M, L, moves and S for Settled or B for
  *   Budget; then for each weight above 0 a line W, row and weight, rows counted from 1 and rising.
@@ -366,7 +367,7 @@ cundarivo_label_answer cundarivo_label(
  * CUNDARIVO_REFERENCE_BYTES places are enough for every text.
  *
  * Every value is written plain: where the rows were read from a text, a value below detection is written as
- * the number that it reads as, 0. cundarivo_read_reference reads a written text as these rows and codes, and
+ * the number that it reads as. cundarivo_read_reference reads a written text as these rows and codes, and
  * cundarivo_label finds these labels in it. The rows, codes and labels of an accepted text without '<' give
  * that text again.
  *
@@ -433,7 +434,7 @@ cundarivo_verdict_answer cundarivo_judge(
 
 /*
  * Judges a reading as cundarivo_judge does, and answers with its s besides. It fills the first n places of
- * `values` with the values as they read, 0 for one below detection. CUNDARIVO_CHANNELS places are enough for
+ * `values` with the values as they read, also those below detection. CUNDARIVO_CHANNELS places are enough for
  * every reading.
  *
  * Refused: 8, 1, 3, 10 and 4 as for cundarivo_judge; then 13 for `values` of fewer than n places.
@@ -475,7 +476,10 @@ cundarivo_written_answer cundarivo_try_settings(
  * Reads the record of an envelope of the first m rows of n channels of these codes, whoever wrote it. It
  * fills the first n places of `scaled_centre` with X and the first m places of `weights` with the weights, 0
  * for a row without a line W. Of `codes` the first n places count. The moves are taken as written; every other
- * figure is compared with what cundarivo_check gives of the weights.
+ * figure is compared with what cundarivo_check gives of the weights. A record that was drawn by a library that
+ * read '<v' as 0 is refused by 12 where its figures differ for the rows as they read here, and is accepted
+ * where they agree. cundarivo_judge, cundarivo_measure, cundarivo_try_settings, cundarivo_chart and
+ * cundarivo_panel take figures without rows: those that such a library gave are to be drawn anew.
  *
  * Refused: 8 as for cundarivo_draw, and for `codes` of fewer than n places or a code outside 1 to 8; 1; 11 at
  * the first faulty line, a missing line being the one after the last; 12 where n, the tags, X, M, L or the
@@ -561,7 +565,7 @@ cundarivo_written_answer cundarivo_program_draw(
 
 /*
  * Prints the reference text that cundarivo_write_reference writes of the rows, codes and labels of a reference
- * text: each value below detection becomes the number that it reads as, 0. What it prints reads as the same
+ * text: each value below detection becomes the number that it reads as. What it prints reads as the same
  * rows, codes and labels, and is printed again as it is.
  * NO: as for draw.
  */

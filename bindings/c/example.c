@@ -23,7 +23,7 @@ static const char REFERENCE[] =
 static const char *const READINGS[] = {
     "LOOP-1,TOC,3,CND,9\n",
     "LOOP-1,TOC,3,CND,10\n",
-    "LOOP-1,TOC,6,CND,<5\n",
+    "LOOP-1,TOC,6,CND,<13\n",
     "LOOP-1,TOC,7,CND,0\n",
     "LOOP-1,TOC,2001,CND,0\n",
     "LOOP-1,TOC,2001,PH,0\n",

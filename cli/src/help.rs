@@ -150,8 +150,9 @@ error.
         details: "\
 Prints the reference text of the table, types and labels of a reference text,
 with plain values: one below detection, <v, is printed as the number that it
-reads as, which is 0. How many there are, and where the first stands, is said
-on standard error. A text without them is printed as it is.
+reads as, half the limit rounded down: <50 and <51 as 25, <1 as 0. How many
+there are, and where the first stands, is said on standard error. A text
+without them is printed as it is.
 
 What is printed reads as the same table with the same types and labels, so
 that 'draw' prints the same record of both. The detection limits are gone from
@@ -189,6 +190,9 @@ A record is replaced whole or not at all: the new one is flushed to disk and
 then renamed, also where the run is killed. A record that is the one drawn now
 is left alone, and so is that of a refused text. A *.ref or *.env that is a
 link, a pipe, a device or a folder is a failure.
+
+A record that was drawn when values below detection counted as 0 is refused by
+12 where its figures differ: redraw every folder that has such records once.
 
 A folder is locked during the run; another redraw of it is turned away. The
 lock does not reach other hosts: redraw a folder from one host at a time. A

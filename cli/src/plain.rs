@@ -94,8 +94,8 @@ mod tests {
         assert_eq!(noted("REF,1,TOC\nA,0\n"), None);
         let one = "1 value below detection is printed as a plain number, on line";
         for (rows, place) in [
-            ("A,<10,7\nB,0,0\n", "2: value 1 (TOC), '<10', as 0"),
-            ("A,0,<4000\nB,0,0\n", "2: value 2 (CND), '<4000', as 0"),
+            ("A,<10,7\nB,0,0\n", "2: value 1 (TOC), '<10', as 5"),
+            ("A,0,<4000\nB,0,0\n", "2: value 2 (CND), '<4000', as 2000"),
             ("A,0,0\nB,0,<1\n", "3: value 2 (CND), '<1', as 0"),
         ] {
             let told = noted(&format!("REF,2,TOC,CND\n{rows}"));
@@ -103,7 +103,7 @@ mod tests {
         }
         let many = "values below detection are printed as plain numbers, the first on line";
         let told = noted("REF,3,TOC,TOC,PH\nA,1,1,1\nB,1,<2,<3\nC,<4,<5,<6\n");
-        let place = "3: value 2 (TOC), '<2', as 0";
+        let place = "3: value 2 (TOC), '<2', as 1";
         assert_eq!(told, Some(format!("5 {many} {place}")));
     }
 
@@ -113,17 +113,18 @@ mod tests {
         let read = text("REF,2,TOC,CND\nA,<5,7\nB,1,2\n");
         let read = Reference::read(&read).expect("an accepted text");
         let held = |printed: &str| require_same(&read, printed.as_bytes());
-        let right = "REF,2,TOC,CND\nA,0,7\nB,1,2\n";
+        let right = "REF,2,TOC,CND\nA,2,7\nB,1,2\n";
         assert!(held(right).is_ok());
         for (from, to) in [
-            ("A,0", "A,<5"),
-            ("A,0", "A,5"),
+            ("A,2", "A,<5"),
+            ("A,2", "A,5"),
+            ("A,2", "A,0"),
             ("B,1", "B,<1"),
             ("B,1", "C,1"),
             ("CND", "TC"),
             ("B,1,2\n", ""),
             ("B,1,2\n", "B,1,2\nC,1,2\n"),
-            ("REF,2,TOC,CND\nA,0,7\n", "REF,1,TOC\nA,0\n"),
+            ("REF,2,TOC,CND\nA,2,7\n", "REF,1,TOC\nA,2\n"),
             ("B,1,2\n", "B,1,2"),
             (right, "NO,3,2\n"),
             (right, ""),

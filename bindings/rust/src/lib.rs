@@ -54,13 +54,13 @@
 //! | 8 | ORP | 1 mV | -2000 | 2000 |
 //!
 //! A label is 1 to 12 bytes of A-Z, 0-9 and hyphen, and no two rows have the same. A value is a
-//! whole number without leading zeros from the type's low to its high, or `<` and one from 1 to its
-//! high, which means below detection and reads as 0. [`read_reference`] reads such a text, and
-//! [`label`] finds the label of a row in it; [`read_reference_into`] and [`label_part`] are the
-//! library's own calls.
+//! whole number without leading zeros from the type's low to its high, or `<` and one, v, from 1 to its
+//! high, which means below detection and reads as the whole part of v/2: `<51` reads as 25.
+//! [`read_reference`] reads such a text, and [`label`] finds the label of a row in it;
+//! [`read_reference_into`] and [`label_part`] are the library's own calls.
 //!
 //! [`write_reference`] writes the text of rows, codes and labels, and [`write_reference_into`] is the
-//! library's own call. Every value is written plain: `<5` that was read is written as 0, the number
+//! library's own call. Every value is written plain: `<51` that was read is written as 25, the number
 //! that it reads as.
 //!
 //! ```
@@ -640,13 +640,13 @@ pub fn check_into(
 /// enough for every text.
 ///
 /// ```
-/// let text = b"REF,2,TOC,CND\nA,0,0\nB,6,<3\nC,0,8\n";
+/// let text = b"REF,2,TOC,CND\nA,0,0\nB,6,0\nC,0,<17\n";
 /// let mut table = [0; 6];
 /// let mut codes = [0; 2];
 /// let counts = cundarivo::read_reference(text, &mut table, &mut codes)?;
 /// assert_eq!((counts.m, counts.n), (3, 2));
 /// assert_eq!(codes, [1, 4]);
-/// assert_eq!(table, [0, 0, 6, 0, 0, 8]);
+/// assert_eq!(table, [0, 0, 6, 0, 0, 8]); // `<17` reads as 8
 /// let drawing = cundarivo::draw(&table, counts.m, counts.n, 10_000)?;
 /// assert_eq!(drawing.weights, [0, 32_768, 32_768]);
 ///
@@ -694,9 +694,9 @@ pub fn label(text: &[u8], row: usize) -> &[u8] {
 /// let drawing = cundarivo::draw(&table, counts.m, counts.n, 10_000)?;
 /// let figures = drawing.figures(&codes);
 ///
-/// // A row of the reference text is Quiet, `<3` reads as 0, and (7, 0) is outside.
+/// // A row of the reference text is Quiet, `<17` reads as 8, and (7, 0) is outside.
 /// assert_eq!(judge(&figures, b"B,TOC,6,CND,0\n")?, Verdict::Quiet);
-/// assert_eq!(judge(&figures, b"B,TOC,6,CND,<3\n")?, Verdict::Quiet);
+/// assert_eq!(judge(&figures, b"C,TOC,0,CND,<17\n")?, Verdict::Quiet);
 /// let excess = 30_064_771_072;
 /// assert_eq!(judge(&figures, b"B,TOC,7,CND,0\n")?, Verdict::Alarm { excess });
 ///

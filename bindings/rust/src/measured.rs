@@ -9,7 +9,7 @@ pub struct Measured {
     pub verdict: Verdict,
     /// s: M and the excess together where the verdict is an Alarm, else at most M.
     pub scaled_squared_distance: u64,
-    /// The n values as they read, 0 for one below detection.
+    /// The n values as they read, also those below detection.
     pub values: Vec<i32>,
 }
 
@@ -56,9 +56,9 @@ unsafe extern "C" {
 /// assert_eq!(measured.scaled_squared_distance, 154_618_822_656); // 36 · D²
 /// assert_eq!(measured.verdict, Verdict::Alarm { excess: 47_244_640_256 });
 ///
-/// // `<5` reads as 0, and (6, 0) is a row.
-/// let measured = measure(&figures, b"LOOP-1,TOC,6,CND,<5\n")?;
-/// assert_eq!(measured.values, [6, 0]);
+/// // `<17` reads as 8, and (0, 8) is a row.
+/// let measured = measure(&figures, b"LOOP-1,TOC,0,CND,<17\n")?;
+/// assert_eq!(measured.values, [0, 8]);
 /// assert_eq!(measured.verdict, Verdict::Quiet);
 /// # Ok::<(), cundarivo::Refusal>(())
 /// ```

@@ -313,13 +313,13 @@ pub fn draw(reference: &[u8]) -> Vec<u8> {
 
 /// The reference text that [`write_reference`](crate::write_reference) gives of the rows, codes and
 /// labels of a reference text, or the text's refusal. Values are written plain: one below detection
-/// becomes the number that it reads as, 0. An accepted text without `<` is printed as it is.
+/// becomes the number that it reads as. An accepted text without `<` is printed as it is.
 ///
 /// ```
 /// use cundarivo::programs::plain;
 ///
 /// let written = plain(b"REF,2,TOC,CND\nA,<5,0\nB,6,<40\n");
-/// assert_eq!(written, b"REF,2,TOC,CND\nA,0,0\nB,6,0\n");
+/// assert_eq!(written, b"REF,2,TOC,CND\nA,2,0\nB,6,20\n");
 /// assert_eq!(plain(&written), written);
 ///
 /// // `<` and a number above the range of TOC: 4, at the text's own line.
@@ -419,7 +419,7 @@ pub fn draw_into(reference: &[u8], output: &mut [u8]) -> Result<usize, Refusal> 
 ///
 /// let mut output = [b'.'; 16];
 /// assert_eq!(plain_into(b"REF,1,TOC\nA,<5\n", &mut output)?, 14);
-/// assert_eq!(&output, b"REF,1,TOC\nA,0\n..");
+/// assert_eq!(&output, b"REF,1,TOC\nA,2\n..");
 /// # Ok::<(), cundarivo::Refusal>(())
 /// ```
 ///

@@ -67,7 +67,10 @@ unsafe extern "C" {
 }
 
 /// Reads the record of an envelope of these rows, whose channels are of these codes, whoever wrote
-/// it. Of the codes and the coordinates the first n and m·n places count.
+/// it. Of the codes and the coordinates the first n and m·n places count. A record that was drawn by a
+/// library that read `<v` as 0 is refused by 12 where its figures differ for the rows as they read here, and
+/// is accepted where they agree. [`crate::judge`], [`crate::measure`], [`crate::try_settings`], [`crate::chart`]
+/// and [`crate::panel`] take figures without rows: those that such a library gave are to be drawn anew.
 ///
 /// ```
 /// let rows = [0, 10];

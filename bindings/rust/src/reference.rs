@@ -33,18 +33,18 @@ unsafe extern "C" {
 /// [`label`](crate::label) finds these labels in it.
 ///
 /// Every value is written plain: where the rows were read from a text, a value below detection is
-/// written as the number that it reads as, 0. An accepted text without `<` is written as its own bytes.
+/// written as the number that it reads as. An accepted text without `<` is written as its own bytes.
 ///
 /// ```
 /// use cundarivo::{label, read_reference, write_reference};
 ///
-/// let text = b"REF,2,TOC,CND\nA,0,0\nB,6,<3\nC,0,8\n";
+/// let text = b"REF,2,TOC,CND\nA,0,0\nB,6,0\nC,0,<17\n";
 /// let (mut rows, mut codes) = ([0; 6], [0; 2]);
 /// let counts = read_reference(text, &mut rows, &mut codes)?;
 /// let mut labels: Vec<&[u8]> = (1..=counts.m).map(|row| label(text, row)).collect();
 ///
 /// let written = write_reference(&rows, counts.m, counts.n, &codes, &labels)?;
-/// assert_eq!(written, b"REF,2,TOC,CND\nA,0,0\nB,6,0\nC,0,8\n"); // `<3` reads as 0
+/// assert_eq!(written, b"REF,2,TOC,CND\nA,0,0\nB,6,0\nC,0,8\n"); // `<17` reads as 8
 ///
 /// // The line at fault is the one that the row would have: 4 for the third row.
 /// labels[2] = b"A";

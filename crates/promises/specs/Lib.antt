@@ -44,3 +44,4 @@ pub mod Limited
 pub mod WrittenTexts
 pub mod WrittenReferences
 pub mod AlertTrials
+pub mod BelowDetection

@@ -5,7 +5,7 @@
 --     PanelSteps         what the panel shows of each channel
 --     NearestStep        the nearest whole step
 --     promise-2-12       what chart and panel show (`ChartsAndPanels`)
---     promise-2-13       the starred trial figures, and the range of TOC (`TrialFigures`)
+--     promise-2-13       the trial figures (`TrialFigures`)
 -- Channels of a chart count from 1, those of a point and of the panel from 0.
 use Prim.Native.Nat.{_*_, _-_, _<_, _≤_, ℕ}
 use mathlib.Core.Path.{_≡_, refl}
@@ -126,8 +126,8 @@ promise-2-12 =
 -- ---- 2.13
 
 pub record TrialFigures : Type 0 where
-  -- the starred trial figures, and the range of TOC, the printed bytes of the example record and the panel's three included: what the
-  -- definitions compute is what document 01 states
+  -- the starred trial figures, and the range of TOC, the printed bytes of the example record and the panel's three included, values
+  -- below detection, and two records drawn where these counted as 0: what the definitions compute is what the documents state
   pub agree : map (λ (t : Trial). t .computed) trials ≡ map (λ (t : Trial). t .stated) trials
 
 pub promise-2-13 : TrialFigures

@@ -4,7 +4,7 @@
 --     AcceptedText    what an accepted reference text is and gives
 --     promise-2-7     what a value, a heading, a row and a reference text are (`ReferenceTexts`)
 --     promise-2-8     the label of a row as a part of the text (`LabelsOfRows`)
-use Prim.Native.Nat.{_*_, _+_, _-_, _<_, _≤_, ℕ}
+use Prim.Native.Nat.{_*_, _+_, _-_, _/_, _<_, _≤_, ℕ}
 use mathlib.Core.Path.{_∙_, _≡_, ap, refl, subst, sym}
 use mathlib.Core.Bool.{_&&_, and-false, true}
 use mathlib.Core.List.{List, _++_, _∷_, map}
@@ -61,7 +61,7 @@ promise-2-6 = record { read-printed = plain-print; printed-read = print-plain }
 
 -- ---- 2.7
 
--- a value is plain, or `<` and a plain number; `<v` is asked to be from 1 to the high and reads as 0
+-- a value is plain, or `<` and a plain number; `<v` is asked to be from 1 to the high and reads as the whole part of v/2
 pub record Values : Type 0 where
   pub printed-number : (z : ℤ) → printValue (number z) ≡ print z
   pub printed-below : (z : ℤ) → printValue (below z) ≡ lessThan ∷ print z
@@ -70,7 +70,7 @@ pub record Values : Type 0 where
   pub range-of-number : (range : Range) (z : ℤ) → valueInRange range (number z) ≡ (leZ (range .low) z && leZ z (range .high))
   pub range-of-below : (range : Range) (z : ℤ) → valueInRange range (below z) ≡ (leZ (pos 1) z && leZ z (range .high))
   pub number-reads : (z : ℤ) → reads (number z) ≡ z
-  pub below-reads : (z : ℤ) → reads (below z) ≡ pos 0
+  pub below-reads : (v : ℕ) → reads (below (pos v)) ≡ pos (v / 2)
 
 values : Values
 unfolding printValue
@@ -83,7 +83,7 @@ values =
       range-of-number = λ range z. refl;
       range-of-below = λ range z. refl;
       number-reads = λ z. refl;
-      below-reads = λ z. refl;
+      below-reads = λ v. refl;
     }
 
 -- what an accepted text gives; rows and channels count from 0

@@ -1,10 +1,12 @@
--- Document 01, "Trial figures": the cases marked with a star, and the range of TOC, as one table, and one law that computes them all from
--- the definitions: texts from their bytes, types from their table, drawings from their start.
---     Trial             the figures that the definitions give, and those that document 01 states or that follow from them
---     trials            the table, in document 01's order
---     trials-agree      every case gives document 01's figures
+-- Document 01, "Trial figures": the cases marked with a star, and the range of TOC; document 02's figures of values below detection, and
+-- two records that were drawn where these counted as 0. They are one table, and one law computes every case from the definitions: texts
+-- from their bytes, types from their table, drawings from their start.
+--     Trial             the figures that the definitions give, and those that the documents state or that follow from them
+--     trials            the table, in the documents' order
+--     trials-agree      every case gives the documents' figures
 use Prim.Native.Nat.{ℕ}
-use mathlib.Core.Path.{_≡_, refl}
+use Prim.Native.String.{String}
+use mathlib.Core.Path.{_≡_, refl, ap₂}
 use mathlib.Core.Bool.{Bool, cond}
 use mathlib.Core.List.{List, [], _∷_, _++_, map}
 use lib.IntN.{ℤ, pos, negℤ}
@@ -16,9 +18,10 @@ use Rattle.geometry.specs.Figures.{squaredLength, squaredDistance, scaledCentre
 use Rattle.geometry.specs.Select.{farthest, replaces, nearest}
 use Rattle.geometry.specs.Move.{scaledSquaredDistanceOf, farRow, nearRow, difference, separation, settled, transfer, moveWeight, moved, weightOf}
 use Rattle.geometry.specs.Table.{coordinate, placesWithin, rowsWithin}
-use Rattle.limits.specs.Limits.{total, rowLimit}
-use Rattle.geometry.specs.Places.{tabulate, centreList}
+use Rattle.limits.specs.Limits.{total, rowLimit, channelLimit}
+use Rattle.geometry.specs.Places.{weightsTotal, tabulate, centreList}
 use Rattle.ball.specs.Ball.{ballOf, emptyBall}
+use Rattle.checking.specs.Check.{checking}
 use Rattle.drawing.specs.Draw.{run, start, runFrom, drawing}
 use Rattle.drawing.specs.declared.Drawing.{Drawing}
 use Rattle.text.specs.Ascii.{ascii}
@@ -37,13 +40,20 @@ use Rattle.reference_rows.specs.ReferenceText.{ofHeading, withRow, codesOf, cha
 use Rattle.reference_rows.specs.Rows.{Content, faulty, sound, rowsFrom}
 use Rattle.reference.specs.Reference.{contentOf, content}
 use Rattle.envelope.specs.Figures.{figuresWithin, codesWithin, figuresKnown, figuresOf}
-use Rattle.agreement.specs.Agreement.{withCentre}
-use Rattle.record_lines.specs.Lines.{printCentre, printResult, printWeight}
-use Rattle.record_form.specs.Record.{printRecord}
-use Rattle.record_form.specs.Weights.{listed}
+use Rattle.reading_line.specs.Reading.{tagFields, valueFields, readingFields, readingOf, tagsAgree}
+use Rattle.reading.specs.Content.{readingContent}
+use Rattle.reading.specs.Verdict.{verdictNumber, verdictLine}
+use Rattle.measured_reading.specs.Measured.{MeasuredReading, measured}
+use Rattle.agreement.specs.Agreement.{allZero, samePlaces, ballAgrees, agrees, withCentre}
+use Rattle.record_lines.specs.Lines.{recordNumber, numbersOf, numbersLine, centreLine, resultFields, resultLine, weightLine, printCentre, printResult, printWeight}
+use Rattle.record_form.specs.Record.{weightsFrom, formOf, form, printRecord}
+use Rattle.record_form.specs.Weights.{placedIn, weightsOf, listed}
 use Rattle.record_print.specs.Printed.{recordText}
+use Rattle.record_read.specs.Contracts.{recordRead}
 use Rattle.panel_steps.specs.Panel.{panelShown}
 use Rattle.program_draw.specs.Output.{drawBudget, drawOutput}
+use Rattle.program_record.specs.Against.{recordAgainst}
+use Rattle.program_verify.specs.Output.{verifyOutput}
 
 pub record Trial : Type 0 where
   pub computed : List ℤ
@@ -97,13 +107,25 @@ shown x =
     let panel = panelShown total channelTypes (figuresOf 1 (codeOf channelTypes (ascii "TMP") ∷ []) (withCentre emptyBall (x ∷ [])) 0) in
     pos (numberOf (panel .outcome)) ∷ take 1 (panel .steps)
 
--- the reference text that document 01 prints, and its record
-exampleReference : List ℕ
-exampleReference =
+-- the refusal's number and line, 0 and 0 where there is none, and the values of a reading of TOC, CND and TMP as they are measured
+measuredTold : MeasuredReading → List ℤ
+measuredTold r = numbers (verdictNumber (r .answer .verdict) ∷ verdictLine (r .answer .verdict) ∷ []) ++ r .values
+
+readReading : List ℕ → List ℤ
+readReading text =
+    let codes = map (codeOf channelTypes) (ascii "TOC" ∷ ascii "CND" ∷ ascii "TMP" ∷ []) in
+    measuredTold (measured total channelTypes (figuresOf 3 (padded channelLimit codes) emptyBall 0) text)
+
+-- the reference text that document 01 prints, with this TOC of its second row; that text, and its record
+withSecond : String → List ℕ
+withSecond toc =
     ascii "REF,2,TOC,CND\n"
     ++ ascii "A,0,0\n"
-    ++ ascii "B,6,0\n"
+    ++ ascii "B," ++ ascii toc ++ ascii ",0\n"
     ++ ascii "C,0,8\n"
+
+exampleReference : List ℕ
+exampleReference = withSecond "6"
 
 exampleRecord : List ℕ
 exampleRecord =
@@ -112,6 +134,25 @@ exampleRecord =
     ++ ascii "R,107374182400,107374182400,2,S\n"
     ++ ascii "W,2,32768\n"
     ++ ascii "W,3,32768\n"
+
+-- these rows and a fourth, inside the ball
+withFourth : String → String → List ℕ
+withFourth toc cnd = exampleReference ++ ascii "D," ++ ascii toc ++ ascii "," ++ ascii cnd ++ ascii "\n"
+
+-- the record where the second row has a TOC of 0
+recordWithZero : List ℕ
+recordWithZero =
+    ascii "ENV,2,TOC,CND\n"
+    ++ ascii "C,0,262144\n"
+    ++ ascii "R,68719476736,68719476736,1,S\n"
+    ++ ascii "W,1,32768\n"
+    ++ ascii "W,3,32768\n"
+
+printDrawn : List ℕ → List ℕ
+printDrawn = drawOutput total rowLimit channelTypes
+
+printVerified : List ℕ → List ℕ → List ℕ
+printVerified = verifyOutput total rowLimit channelTypes
 
 pub trials : List Trial
 trials =
@@ -140,7 +181,7 @@ trials =
           numbers (2 ∷ 107374182400 ∷ 107374182400 ∷ 1 ∷ 196608 ∷ 262144 ∷ 0 ∷ 32768 ∷ 32768 ∷ []);
     }
     -- what the drawing program prints
-    ∷ record { computed = numbers (drawOutput total rowLimit channelTypes exampleReference); stated = numbers exampleRecord }
+    ∷ record { computed = numbers (printDrawn exampleReference); stated = numbers exampleRecord }
     -- The same with budget 1: Budget, M = 223,338,299,392, L = 68,719,476,736
     ∷ record {
       computed = outline (drawText exampleReference 1);
@@ -166,8 +207,24 @@ trials =
       computed = readText (ascii "REF,1,TOC\nA,2000\n") ++ readText (ascii "REF,1,TOC\nA,2001\n");
       stated = numbers (2000 ∷ 4 ∷ 2 ∷ []);
     }
+    -- Below detection: <1, <50 and <51 are read as 0, 25 and 25, in a reference text and in a reading
+    ∷ record { computed = readText (ascii "REF,1,TOC\nA,<1\nB,<50\nC,<51\n"); stated = numbers (0 ∷ 25 ∷ 25 ∷ []) }
+    ∷ record { computed = readReading (ascii "A,TOC,<1,CND,<50,TMP,<51\n"); stated = numbers (0 ∷ 0 ∷ 0 ∷ 25 ∷ 25 ∷ []) }
+    -- A record that was drawn where below detection counted as 0, kept: it agrees, and is the one that is drawn now
+    ∷ record { computed = numbers (printDrawn (withFourth "0" "0")); stated = numbers exampleRecord }
+    ∷ record { computed = numbers (printVerified (withFourth "<4" "<6") exampleRecord); stated = numbers (ascii "OK\n") }
+    ∷ record { computed = numbers (printDrawn (withFourth "<4" "<6")); stated = numbers exampleRecord }
+    -- One that meets 12: another is drawn now
+    ∷ record { computed = numbers (printDrawn (withSecond "0")); stated = numbers recordWithZero }
+    ∷ record { computed = numbers (printVerified (withSecond "<12") recordWithZero); stated = numbers (ascii "NO,12,0\n") }
+    ∷ record { computed = numbers (printDrawn (withSecond "<12")); stated = numbers exampleRecord }
     ∷ []
 
+-- each case by its own `refl`: one for the whole table computes too much
+infixr 5 _and_
+_and_ : {a b : List ℤ} {l m : List (List ℤ)} → a ≡ b → l ≡ m → (a ∷ l) ≡ (b ∷ m)
+_and_ = ap₂ _∷_
+
 pub trials-agree : map (λ (t : Trial). t .computed) trials ≡ map (λ (t : Trial). t .stated) trials
-unfolding trials numbers flag draw outline whole differenceUnder transferUnder shown exampleReference exampleRecord drawFound drawText told readText same extend cut join printLines decimal printMagnitude print numbersAfter digitsFrom magnitudeOf plain labelBytes isLabel isRowLabel labelUsed codeOf typeOf known codeIn typeIn knownIn houseTypes valueOf valuesOf valuesInRange statedCount codesOfTags headingFields headingOf rowFields rowOf ofHeading withRow codesOf rowsOf rowNumbers tableOf linesBefore rowsFrom contentOf content drawOutput printHeading printCentre printResult printWeight printRecord listed recordText padded sumℤ sumℕ square squaredLength squaredDistance scaledCentre scaledSquaredDistance largest scaledSquaredRadius weightedSquaredLength scaledLowerBound farthest replaces nearest scaledSquaredDistanceOf farRow nearRow difference separation settled transfer moveWeight moved coordinate placesWithin rowsWithin tabulate centreList ballOf run start runFrom drawing codesKnown figuresWithin codesWithin figuresKnown panelShown
-trials-agree = refl
+unfolding trials numbers flag draw outline whole differenceUnder transferUnder shown withSecond exampleReference exampleRecord withFourth recordWithZero printDrawn printVerified drawFound drawText told readText measuredTold readReading same extend cut join printLines decimal printMagnitude print numbersAfter digitsFrom magnitudeOf plain labelBytes isLabel isRowLabel labelUsed codeOf typeOf known codeIn typeIn knownIn houseTypes valueOf valuesOf valuesInRange statedCount codesOfTags headingFields headingOf rowFields rowOf ofHeading withRow codesOf rowsOf rowNumbers tableOf linesBefore rowsFrom contentOf content drawOutput printHeading printCentre printResult printWeight printRecord listed recordText padded sumℤ sumℕ square squaredLength squaredDistance scaledCentre scaledSquaredDistance largest scaledSquaredRadius weightedSquaredLength scaledLowerBound farthest replaces nearest scaledSquaredDistanceOf farRow nearRow difference separation settled transfer moveWeight moved coordinate placesWithin rowsWithin weightsTotal tabulate centreList ballOf run start runFrom drawing codesKnown figuresWithin codesWithin figuresKnown tagFields valueFields readingFields readingOf tagsAgree readingContent measured recordNumber numbersOf numbersLine centreLine resultFields resultLine weightLine weightsFrom formOf form placedIn weightsOf recordRead recordAgainst verifyOutput allZero samePlaces ballAgrees agrees checking panelShown
+trials-agree = refl and refl and refl and refl and refl and refl and refl and refl and refl and refl and refl and refl and refl and refl and refl and refl and refl and refl and refl and refl

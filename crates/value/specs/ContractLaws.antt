@@ -3,7 +3,8 @@
 --     far-away                   farther from 0 than any range is out of range
 --     below-within               the range of what stands after `<` is within 4,000 of 0 too
 --     signed-abs                 how far a number is from 0
---     asZero v, below-plain      what stands after `<` is a plain number from 1 to the high that reads as 0
+--     asHalf v, below-plain      what stands after `<` is a plain number from 1 to the high that reads as its half
+--     below-limit                what stands after `<` in range is not below 0, and at most 4,000
 --     plain-read, below-read     a number kept up to 10^19 is judged as the number itself
 --     range-found                the range of a code is within 4,000 of 0
 use Prim.Native.Nat.{ℕ, suc, _≤_, _<_}
@@ -13,7 +14,9 @@ use mathlib.Core.Option.{Option, none, some, Option·map}
 use native.Mathlib.Decide.{decLe}
 use native.Mathlib.Omega.{arith}
 use lib.IntN.{ℤ, pos, negsuc, natAbs}
+use lib.Signed.{leZ}
 use Rattle.integers.specs.Absolute.{abs-neg}
+use Rattle.integers.specs.Tests.{both, clash, impossible}
 use Rattle.number.specs.Contracts.{magnitudeLimit, saturated, plainRead}
 use Rattle.number.specs.declared.Plain.{Plain}
 use Rattle.number.specs.declared.Plain.the-variants as written
@@ -22,8 +25,8 @@ use Rattle.channel.specs.ChannelLaws.{house-sound, range-within}
 use Rattle.channel.specs.Contracts.{rangeOf}
 use Rattle.channel.specs.declared.Range.{Range}
 use Rattle.limits.specs.Limits.{coordinateLimit}
-use Rattle.value.specs.Value.{number, below, inRange, belowRange, valueUnder}
-use Rattle.value.specs.ValueLaws.{far-outside}
+use Rattle.value.specs.Value.{number, below, inRange, belowRange, half, valueUnder}
+use Rattle.value.specs.ValueLaws.{far-outside, between}
 use Rattle.value.specs.Contracts.{RangeWithin, signed, plainUnder, belowUnder}
 use Rattle.value.specs.declared.Value.{Value}
 use Rattle.value.specs.declared.Value.the-variants.{Malformed, OutOfRange, Reads}
@@ -35,17 +38,17 @@ pub signed-abs : (negative : Bool) (n : ℕ) → natAbs (signed negative n) ≡ 
 signed-abs false n = refl
 signed-abs true n = abs-neg (pos n)
 
--- a value that reads as 0 in place of its number
-abbrev pub asZero : Value → Value
-asZero Malformed = Malformed
-asZero OutOfRange = OutOfRange
-asZero (Reads z) = Reads (pos 0)
+-- a value that reads as half of its number
+abbrev pub asHalf : Value → Value
+asHalf Malformed = Malformed
+asHalf OutOfRange = OutOfRange
+asHalf (Reads z) = Reads (half z)
 
-pub below-plain : (range : Range) (p : Plain) → asZero (plainUnder (belowRange range) p) ≡ belowUnder range p
+pub below-plain : (range : Range) (p : Plain) → asHalf (plainUnder (belowRange range) p) ≡ belowUnder range p
 below-plain range written.Malformed = refl
 below-plain range (written.Number negative n) = go (inRange (belowRange range) (signed negative n)) (signed negative n)
   where
-    go : (t : Bool) (z : ℤ) → asZero (cond t (Reads z) OutOfRange) ≡ cond t (Reads (pos 0)) OutOfRange
+    go : (t : Bool) (z : ℤ) → asHalf (cond t (Reads z) OutOfRange) ≡ cond t (Reads (half z)) OutOfRange
     go true z = refl
     go false z = refl
 
@@ -56,6 +59,22 @@ module _ (range : Range) (w : RangeWithin range) where
 
   pub below-within : RangeWithin (belowRange range)
   below-within = record { low-end = omega arith; high-end = w .high-end }
+
+  pub below-limit : (p : Plain) (z : ℤ) → plainUnder (belowRange range) p ≡ Reads z → (z ≡ pos (natAbs z)) × (natAbs z ≤ coordinateLimit)
+  below-limit written.Malformed z e = impossible (cc)
+  below-limit (written.Number negative n) z e = go (inRange (belowRange range) (signed negative n)) refl e
+    where
+      positive : (x : ℤ) → leZ (pos 1) x ≡ true → x ≡ pos (natAbs x)
+      positive (pos k) h = refl
+      positive (negsuc k) h = clash h refl
+
+      go : (t : Bool) → inRange (belowRange range) (signed negative n) ≡ t → cond t (Reads (signed negative n)) OutOfRange ≡ Reads z
+          → (z ≡ pos (natAbs z)) × (natAbs z ≤ coordinateLimit)
+      go true h e =
+          let same : signed negative n ≡ z = cc in
+          let held : inRange (belowRange range) z ≡ true = sym (ap (inRange (belowRange range)) same) ∙ h in
+          (positive z (both (leZ (pos 1) z) (leZ z (range .high)) held .0), between (pos 1) (range .high) z (omega arith, w .high-end) held)
+      go false h e = impossible (cc)
 
 -- ---- a number kept up to 10^19
 
@@ -85,8 +104,8 @@ module _ (range : Range) (w : RangeWithin range) where
 module _ (range : Range) (w : RangeWithin range) where
   pub below-read : (o : Option ℤ) → belowUnder range (plainRead o) ≡ valueUnder range (Option·map below o)
   below-read none = refl
-  below-read (some (pos n)) = saturated-under (belowRange range) (below-within range w) false n (λ z. Reads (pos 0))
-  below-read (some (negsuc k)) = saturated-under (belowRange range) (below-within range w) true (suc k) (λ z. Reads (pos 0))
+  below-read (some (pos n)) = saturated-under (belowRange range) (below-within range w) false n (λ z. Reads (half z))
+  below-read (some (negsuc k)) = saturated-under (belowRange range) (below-within range w) true (suc k) (λ z. Reads (half z))
 
 -- ---- the range of a code
 

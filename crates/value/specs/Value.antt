@@ -5,6 +5,7 @@
 --     inRange range z            the whole number is within the range
 --     belowRange range           where a number may be that stands after `<`: from 1 to the high
 --     valueInRange range v       the value is within the range
+--     half z                     the whole part of z/2
 --     reads v                    the number that a value reads as
 --     printValue v               the field of a value
 --     valueUnder range o         what the functions answer for a value under a range, if it is one
@@ -15,7 +16,7 @@ use mathlib.Core.List.{List, [], _∷_}
 use mathlib.Core.Option.{Option, none, some, Option·map}
 use lib.Dec.{eqb}
 use lib.IntN.{ℤ, pos}
-use lib.Signed.{leZ}
+use lib.Signed.{leZ, quotZ}
 use Rattle.text.specs.Ascii.{byte}
 use Rattle.number.specs.Number.{plain, print}
 use Rattle.channel.specs.declared.Range.{Range}
@@ -43,10 +44,14 @@ abbrev pub valueInRange : Range → Written → Bool
 valueInRange range (number z) = inRange range z
 valueInRange range (below z) = inRange (belowRange range) z
 
--- below detection reads as 0
+-- rounded toward 0; none below 0 is ever read
+abbrev pub half : ℤ → ℤ
+half z = quotZ z (pos 2)
+
+-- document 02, job 3: `<v` means the whole part of v/2
 abbrev pub reads : Written → ℤ
 reads (number z) = z
-reads (below z) = pos 0
+reads (below z) = half z
 
 unfoldable pub printValue : Written → List ℕ
 printValue (number z) = print z

@@ -3,15 +3,17 @@
 --     print-value       what is read as v is what v is printed as
 --     value-free        only digits, the hyphen and `<` stand in a printed value
 --     far-outside       a number farther from 0 than both ends of a range is not in it
+--     between           one in a range whose ends are within 4,000 of 0 is so too
+--     half-is           the half of v is r exactly where 2·r ≤ v < 2·r + 2
 --     reads-within      a value in range reads as a number from low to high
 --     reads-most        which is within 4,000 of 0
 --     valueLimit        the most bytes of a value within the range of its type
 --     value-short       such a value is printed in at most so many
-use Prim.Native.Nat.{ℕ, suc, _+_, _≤_, _<_}
+use Prim.Native.Nat.{ℕ, suc, _+_, _*_, _/_, _≤_, _<_}
 use mathlib.Core.Path.{_≡_, refl, sym, ap, ap₂, _∙_}
 use mathlib.Core.Bool.{Bool, true, false, not, cond, _&&_, and-false}
 use mathlib.Core.List.{List, [], _∷_}
-use mathlib.Core.Logic.{_⊎_, ⊎-elim}
+use mathlib.Core.Logic.{_⊎_, _↔_, ⊎-elim}
 use mathlib.Core.Option.{some, Option·map, map-eq-some-iff, Option·none-ne-some}
 use native.Mathlib.Decide.{decLe}
 use native.Mathlib.Omega.{arith}
@@ -21,6 +23,8 @@ use lib.IntN.{ℤ, pos, negsuc, natAbs}
 use lib.ListN.{length}
 use lib.Signed.{leZ}
 use Rattle.text.specs.Parts.{free}
+use Rattle.integers.specs.Ring.{pos-inj}
+use Rattle.integers.specs.Order.{⊑-trans, ⊑-ℕ, leZ-true, le-leZ}
 use Rattle.integers.specs.Tests.{both, clash}
 use Rattle.number.specs.Number.{hyphen, digitZero, digitNine, isDigit, plain, print}
 use Rattle.number.specs.NumberLaws.{plain-print, print-plain, print-free, print-first, magnitude-short, print-short}
@@ -28,7 +32,7 @@ use Rattle.channel.specs.Channel.{Types, typeOf}
 use Rattle.channel.specs.Contracts.{rangeOf}
 use Rattle.channel.specs.ChannelLaws.{SoundTypes, range-within, range-zero}
 use Rattle.limits.specs.Limits.{coordinateLimit, coordinateDigits}
-use Rattle.value.specs.Value.{Written, number, below, lessThan, valueOf, valueInRange, reads, printValue}
+use Rattle.value.specs.Value.{Written, number, below, lessThan, valueOf, valueInRange, half, reads, printValue}
 
 -- ---- printing
 
@@ -81,8 +85,7 @@ pub far-outside : (low high z : ℤ) → natAbs low < natAbs z → natAbs high <
 far-outside low high (pos n) l h = ap (λ b. leZ low (pos n) && b) (far-above high n h) ∙ and-false (leZ low (pos n))
 far-outside low high (negsuc k) l h = ap (λ b. b && leZ (negsuc k) high) (far-below low k l)
 
--- what is between two numbers within 4,000 of 0 is so too
-between : (low high z : ℤ) → (natAbs low ≤ coordinateLimit) × (natAbs high ≤ coordinateLimit) → (leZ low z && leZ z high) ≡ true → natAbs z ≤ coordinateLimit
+pub between : (low high z : ℤ) → (natAbs low ≤ coordinateLimit) × (natAbs high ≤ coordinateLimit) → (leZ low z && leZ z high) ≡ true → natAbs z ≤ coordinateLimit
 between low high z ends h = go (decLe (natAbs z) coordinateLimit)
   where
     go : Dec (natAbs z ≤ coordinateLimit) → natAbs z ≤ coordinateLimit
@@ -99,11 +102,30 @@ unfolding print
 below-short (pos n) h k = omega (arith, magnitude-short coordinateDigits n (omega arith) (omega arith))
 below-short (negsuc i) h k = clash h refl
 
+-- ---- below detection
+
+pub half-is : (v r : ℕ) → ((2 * r ≤ v) × (v < 2 * r + 2)) ↔ (half (pos v) ≡ pos r)
+half-is v r = (
+  λ h. let same : v / 2 ≡ r = omega (arith, h) in ap pos same,
+  λ e. let same : v / 2 ≡ r = pos-inj e in (omega arith, omega arith),
+)
+
+-- half of a number from 1 to the high is from 0 to the high
+half-between : (low high v : ℤ) → leZ low (pos 0) ≡ true → leZ (pos 1) v ≡ true → leZ v high ≡ true
+    → (leZ low (half v) ≡ true) × (leZ (half v) high ≡ true)
+half-between low high (pos n) l f h = (
+  le-leZ low (half (pos n)) (⊑-trans (leZ-true low (pos 0) l) (⊑-ℕ (pos 0) (half (pos n)) .1 (omega arith))),
+  le-leZ (half (pos n)) high (⊑-trans (⊑-ℕ (half (pos n)) (pos n) .1 (omega arith)) (leZ-true (pos n) high h)),
+)
+half-between low high (negsuc k) l f h = clash f refl
+
 module _ (types : Types) (sound : SoundTypes types) (code : ℕ) where
   pub reads-within : (v : Written) → valueInRange (rangeOf types code) v ≡ true
       → (leZ (typeOf types code .low) (reads v) ≡ true) × (leZ (reads v) (typeOf types code .high) ≡ true)
   reads-within (number z) h = both (leZ (typeOf types code .low) z) (leZ z (typeOf types code .high)) h
-  reads-within (below z) h = range-zero types sound code
+  reads-within (below z) h =
+      let ends = both (leZ (pos 1) z) (leZ z (typeOf types code .high)) h in
+      half-between (typeOf types code .low) (typeOf types code .high) z (range-zero types sound code .0) (ends .0) (ends .1)
 
   pub reads-most : (v : Written) → valueInRange (rangeOf types code) v ≡ true → natAbs (reads v) ≤ coordinateLimit
   reads-most v h =

@@ -1,7 +1,11 @@
-// A value field under a range, read: the one place where a written value meets its range. Below detection, `<` and a number, reads
-// as 0.
+// A value field under a range, read: the one place where a written value meets its range, and where one below detection, `<` and a
+// number, becomes the number that it reads as.
+ghost use Prim.Native.Nat.{_≤_};
 ghost use mathlib.Core.Path.{_≡_};
-ghost use Rattle.value.specs.Value.{inRange, valueRead};
+ghost use lib.IntN.{pos, natAbs};
+ghost use Rattle.integers.specs.Reading.{Bounded};
+ghost use Rattle.limits.specs.Limits.{coordinateLimit};
+ghost use Rattle.value.specs.Value.{inRange, half, valueRead};
 ghost use Rattle.value.specs.Contracts.{RangeWithin, plainUnder, belowUnder};
 use channel::Range;
 use limits::COORDINATE_MOST;
@@ -52,7 +56,15 @@ fn plain_value(number: Plain, range: Range) -> Value
     }
 }
 
-// What stands after `<` under a range: a plain number from 1 to the high reads as 0.
+// What `<v` reads as: the whole part of v/2.
+fn half(v: u32) -> u32
+    requires { ⌜ v ≤ coordinateLimit ⌝ }
+    ensures { λ r. ⌜ Bounded coordinateLimit r (natAbs (half (pos v))) ⌝ }
+{
+    v / 2
+}
+
+// What stands after `<` under a range: a plain number from 1 to the high.
 fn below_detection(number: Plain, range: Range) -> Value
     requires { ⌜ RangeWithin range ⌝ }
     ensures { λ r. ⌜ r ≡ belowUnder range number ⌝ }
@@ -65,7 +77,7 @@ fn below_detection(number: Plain, range: Range) -> Value
     match value {
         Value::Malformed => Value::Malformed,
         Value::OutOfRange => Value::OutOfRange,
-        Value::Reads(_) => Value::Reads(0),
+        Value::Reads(v) => Value::Reads(half(v as u32) as i32),
     }
 }
 

@@ -33,8 +33,15 @@ named!(examples, outside::known_measured::examples:
 );
 
 named!(below_detection, outside::known_measured::below_detection:
-    below_1 below_highest below_first below_last below_beside_negatives below_every_high below_0
-    below_2001 below_minus_1 below_minus_0
+    below_1 below_2 below_50_and_51 below_last below_last_outside
+);
+
+named!(below_refused, outside::known_measured::below_refused:
+    below_0 below_2001 below_minus_1 below_minus_0
+);
+
+named!(below_highs, outside::known_measured::below_highs:
+    below_highest below_first below_beside_negatives below_every_high
 );
 
 named!(edges, outside::known_measured::edges:
@@ -101,9 +108,10 @@ fn answers_in_numbers() {
     assert_eq!(measure(row_c, 4), ((0, 0, 1), edge, [0, 8, 9, 9]));
     assert_eq!(measure(row_c, 1), ((13, 0, 0), zeros, [9; 4]));
     assert_eq!(measure(row_c, 0), ((13, 0, 0), zeros, [9; 4]));
-    let far = (30_064_771_072, 137_438_953_472);
-    let alarm = measure(b"A,TOC,7,CND,<3\n", 3);
-    assert_eq!(alarm, ((0, 0, 2), far, [7, 0, 9, 9]));
+    // 25 + 9 of 25
+    let far = (38_654_705_664, 146_028_888_064);
+    let alarm = measure(b"A,TOC,8,CND,<3\n", 3);
+    assert_eq!(alarm, ((0, 0, 2), far, [8, 1, 9, 9]));
     let refusals: [(&[u8], _); 4] = [
         (b"A,TOC,2001,CND,0\n", (4, 1, 0)),
         (b"A,TOC,2001,PH,0\n", (10, 1, 0)),

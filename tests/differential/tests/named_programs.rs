@@ -44,8 +44,8 @@ named!(examples, outside::known_programs::examples:
 );
 
 named!(rewritings, outside::known_programs::rewritings:
-    zero toc_2000 negative rows_256 tag_twice label_of_12_bytes label_ref label_no below_1 below_2000
-    below_among_values ends_of_every_range longest
+    zero toc_2000 negative rows_256 tag_twice label_of_12_bytes label_ref label_no below_1 below_2
+    below_50 below_51 below_1999 below_2000 below_among_values ends_of_every_range longest
 );
 
 named!(halves, outside::known_programs::halves:
@@ -102,6 +102,26 @@ named!(verdicts, outside::known_programs::verdicts:
     at_the_edge inside below_detection outside farthest tag range form every_verdict
     each_row budget_1
 );
+
+named!(readings_below_detection, outside::known_programs::readings_below_detection:
+    edges quiet_as_0 alarm_as_0
+);
+
+named!(rows_below_detection, outside::known_programs::rows_below_detection:
+    drawn verified shown judged tried written
+);
+
+named!(drawn_as_0, outside::known_programs::drawn_as_0:
+    drawn_as_0_and_kept drawn_as_0_and_kept_beside_another drawn_as_0_and_refused
+    drawn_as_0_and_refused_for_a_row_outside
+);
+
+named!(drawn_anew, outside::known_programs::drawn_anew:
+    drawn_as_0_and_kept drawn_as_0_and_kept_beside_another drawn_as_0_and_refused
+    drawn_as_0_and_refused_for_a_row_outside
+);
+
+named!(kept_record, outside::known_programs::kept_record: shown judged tried written);
 
 named!(reading_lines, outside::known_programs::reading_lines:
     nothing two_lines empty_line_alone empty_line_first empty_lines_first empty_lines_within

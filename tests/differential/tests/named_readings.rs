@@ -24,7 +24,7 @@ named!(examples, outside::known_readings::examples:
 );
 
 named!(verdicts, outside::known_readings::verdicts:
-    centre fourth_corner below_detection_is_0 toc_7 cnd_9 cnd_10 below_and_10 both_highest
+    centre fourth_corner below_both_highest toc_7 cnd_9 cnd_10 below_and_10 both_highest
     toc_7_budget_1
 );
 
@@ -35,7 +35,16 @@ named!(edges, outside::known_readings::edges:
     largest_s_of_s largest_s_of_s_less_1 largest_s_of_0
 );
 
-named!(ranges, outside::known_readings::ranges: lows highs below_highs below_1_each);
+named!(ranges, outside::known_readings::ranges:
+    lows highs below_highs below_highs_less_1 below_1_each
+);
+
+named!(below_detection, outside::known_readings::below_detection:
+    below_1_at_0 below_1_beside_1 below_2_beside_0 below_2_at_1 below_3_at_1 below_4_beside_1
+    below_49_beside_25 below_50_at_25 below_51_at_25 below_52_beside_25 below_1999_at_999
+    below_1999_beside_1000 below_2000_at_1000 below_2000_beside_999 below_18_at_the_edge
+    below_19_at_the_edge below_20_outside below_21_outside quiet_as_0 alarm_as_0
+);
 
 named!(lengths, outside::known_readings::lengths:
     bytes_0 bytes_65536_value bytes_65537_value bytes_65536_tag bytes_65537_tag

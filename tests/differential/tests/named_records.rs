@@ -129,6 +129,11 @@ mod reading {
         form_before_another_weight form_behind_a_negative_radius
         no_line_end_and_another_letter no_weights_and_another_tag
     );
+
+    named!(drawn_as_0, outside::known_records::drawn_as_0:
+        drawn_as_0_and_kept drawn_as_0_and_kept_beside_another drawn_as_0_and_refused
+        drawn_as_0_and_refused_for_a_row_outside
+    );
 }
 
 /// Envelopes that are written.

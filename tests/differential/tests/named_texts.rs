@@ -42,7 +42,7 @@ named!(values, outside::known_texts::values:
     minus_0 leading_0 plus_1 blank_after_1 value_empty
     below_alone below_twice below_0 below_minus_1 below_leading_0
     plain_0 minus_1 plain_2000 plain_2001
-    below_1 below_2000 below_2001
+    below_1 below_2 below_3 below_50 below_51 below_52 below_1999 below_2000 below_2001
     above_32_bits above_64_bits
 );
 

@@ -1,11 +1,13 @@
 //! The calls of the product in a chain, each fed with what the one before it gave: a reference text is
 //! written anew and drawn, its record verified, its rows judged, its panel shown, its record read,
-//! written again, altered and turned back. CUNDARIVO_SEED and CUNDARIVO_CHAINS in the environment give another
+//! written again, altered and turned back, and the record of the text with 0 in the place of each value below
+//! detection verified. CUNDARIVO_SEED and CUNDARIVO_CHAINS in the environment give another
 //! seed and a larger number of chains.
 
 use cundarivo::{Envelope, programs};
 use differential::reached::Reached;
 use differential::seeded::seeded;
+use outside::drawn_as_0::in_each_place;
 use outside::envelopes;
 use outside::program_inputs;
 use outside::random::Random;
@@ -19,8 +21,10 @@ use outside::texts::Draft;
 
 const SEED: u64 = 20_260_113;
 const CHAINS: u64 = 20_000;
-/// Each outcome is met in at least one of so many chains; a full text and Budget in one of more.
+/// Each outcome is met in at least one of so many chains; a kept record drawn as 0, then a full text and
+/// Budget in one of more.
 const SHARE: u64 = 10;
+const KEPT_SHARE: u64 = 20;
 const RARE_SHARE: u64 = 2_000;
 
 fn main() {
@@ -39,6 +43,7 @@ fn compare_all(mut random: Random, chains: u64) {
         let envelope = chain.read_and_written();
         reached.count(format!("ending: {:?}", envelope.figures.ending));
         reached.count(chain.turned_back(random));
+        reached.count(chain.drawn_as_0());
         let (m, n) = (chain.reference.rows.len(), chain.reference.types.len());
         if (m, n) == (ROW_LIMIT, CHANNEL_LIMIT) {
             reached.count(String::from("256 rows of 8 channels"));
@@ -52,10 +57,12 @@ fn compare_all(mut random: Random, chains: u64) {
         "altered: 12",
         "plain: as it was",
         "plain: other",
+        "drawn as 0: refused",
     ];
     for name in outcomes {
         reached.require(name, chains / SHARE);
     }
+    reached.require("drawn as 0: kept", chains / KEPT_SHARE);
     for name in ["ending: Budget", "256 rows of 8 channels"] {
         reached.require(name, chains / RARE_SHARE);
     }
@@ -181,6 +188,23 @@ impl Chain {
             .collect();
         let fault = random.pick(&faults);
         record_calls::one_fault(random, &enveloped, fault)
+    }
+
+    /// The record of the text with 0 in the place of each value below detection is accepted or refused as by
+    /// the outside implementation.
+    fn drawn_as_0(&self) -> String {
+        let zeros = in_each_place(&self.text, b"0");
+        if outside::programs::plain(&zeros) == outside::programs::plain(&self.text) {
+            return String::from("drawn as 0: the same rows");
+        }
+        let record = programs::draw(&zeros);
+        let output = programs::verify(&self.text, &record);
+        let owed = outside::programs::verify(&self.text, &record);
+        assert_eq!(output, owed, "{}", self.shown_texts());
+        let kept = output == b"OK\n";
+        assert!(kept || output == b"NO,12,0\n", "{}", self.shown_texts());
+        let outcome = if kept { "kept" } else { "refused" };
+        format!("drawn as 0: {outcome}")
     }
 
     fn shown_texts(&self) -> String {

@@ -11,12 +11,12 @@ use outside::random::Random;
 use outside::reading_calls::{self, ReadingCall};
 use outside::reading_faults::ORDER;
 use outside::reading_texts;
-use outside::readings::Verdict;
-use outside::rules::{CHANNEL_LIMIT, ROW_LIMIT, Refusal};
+use outside::readings::{EnvelopeFigures, Verdict};
+use outside::rules::{CHANNEL_LIMIT, ROW_LIMIT, Refusal, TOTAL};
 use outside::sweeps;
 use outside::texts::{self, Draft};
 
-const SEED: u64 = 20_260_105;
+const SEED: u64 = 20_260_302;
 const READINGS: u64 = 1_000_000;
 /// Reference texts whose envelopes the product draws and checks.
 const REFERENCES: u64 = 4_000;
@@ -52,6 +52,7 @@ fn compare_all(random: Random, readings: u64) {
     comparison.require(readings);
     compare_rows(&mut comparison.random);
     compare_sweeps(&mut comparison.random);
+    compare_below_detection();
 }
 
 impl Comparison {
@@ -63,6 +64,11 @@ impl Comparison {
             reading.compare_wrapper();
         }
         self.reached.count(answer_name(&reading.outcome));
+        if reading.outcome.is_ok() {
+            for kind in texts::kinds_below_detection(&call.text) {
+                self.reached.count(kind.to_string());
+            }
+        }
         for kind in call.kinds {
             self.reached.count(kind);
         }
@@ -72,6 +78,9 @@ impl Comparison {
     /// Stops the tests where an answer, an edge, a pair of faults or a kind of input was not met
     /// often enough.
     fn require(&self, readings: u64) {
+        for kind in texts::BELOW_DETECTION {
+            self.reached.require(kind, readings / ANSWER_SHARE);
+        }
         for name in answers().into_iter().chain(reading_calls::often()) {
             self.reached.require(&name, readings / ANSWER_SHARE);
         }
@@ -151,4 +160,26 @@ fn compare_sweeps(random: &mut Random) {
     ] {
         reached.require(name, 5_000);
     }
+}
+
+/// Every value below detection of every type, against a ball of radius 0 at half its number.
+fn compare_below_detection() {
+    let mut compared = 0;
+    sweeps::readings_below_detection(|channel, number, text| {
+        let figures = EnvelopeFigures {
+            n: 1,
+            types: vec![channel.code],
+            scaled_centre: vec![TOTAL as i64 * i64::from(number / 2)],
+            scaled_squared_radius: 0,
+            scaled_lower_bound: 0,
+            settled: 1,
+            moves: 0,
+        };
+        let reading = Reading::new(&figures, text);
+        assert_eq!(reading.outcome, Ok(Verdict::Quiet), "{}", reading.shown());
+        reading.compare();
+        compared += 1;
+    });
+    println!("values below detection in readings: {compared}");
+    assert_eq!(compared, sweeps::BELOW_DETECTION, "the sweep is whole");
 }

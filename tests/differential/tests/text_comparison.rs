@@ -13,10 +13,12 @@ use outside::rules::{CHANNEL_LIMIT, ROW_LIMIT};
 use outside::sweeps;
 use outside::texts::{self, Draft};
 
-const SEED: u64 = 20_260_103;
+const SEED: u64 = 20_260_301;
 const TEXTS: u64 = 300_000;
 /// Each refusal is met in at least one of so many seeded texts.
 const REFUSAL_SHARE: u64 = 200;
+/// Each kind of value below detection is met in at least one of so many, accepted.
+const BELOW_SHARE: u64 = 20;
 
 struct Comparison {
     random: Random,
@@ -46,6 +48,7 @@ fn compare_all(random: Random, texts: u64) {
     }
     comparison.require(texts);
     comparison.compare_sweeps();
+    comparison.compare_below_detection();
     comparison.print();
 }
 
@@ -103,6 +106,11 @@ impl Comparison {
         let any = (self.random.pick(&ROOMS), self.random.pick(&ROOMS));
         let number = text.compare_reading(&mut self.random, enough);
         self.reached.count(format!("refusal {number}"));
+        if number == 0 {
+            for kind in texts::kinds_below_detection(bytes) {
+                self.reached.count(kind.to_string());
+            }
+        }
         let number = text.compare_reading(&mut self.random, any);
         if matches!(number, 7 | 13) {
             self.reached.count(format!("refusal {number}"));
@@ -140,6 +148,19 @@ impl Comparison {
         assert!(swept > 200_000, "the sweeps are whole");
     }
 
+    /// Every value below detection of every type, in texts of many rows.
+    fn compare_below_detection(&mut self) {
+        let mut compared = 0;
+        sweeps::rows_below_detection(|_, numbers, bytes| {
+            let text = Text::new(bytes);
+            let number = text.compare_reading(&mut self.random, (Room::Exact, Room::Exact));
+            assert_eq!(number, 0, "{}", text.shown());
+            compared += numbers.len();
+        });
+        println!("values below detection in rows: {compared}");
+        assert_eq!(compared, sweeps::BELOW_DETECTION, "the sweep is whole");
+    }
+
     fn print(&self) {
         println!("seeded texts: {}", self.texts);
         println!("of them of 256 rows and 8 channels: {}", self.full_texts);
@@ -153,6 +174,9 @@ impl Comparison {
         for number in (0..=7).chain([13]) {
             let name = format!("refusal {number}");
             self.reached.require(&name, texts / REFUSAL_SHARE);
+        }
+        for kind in texts::BELOW_DETECTION {
+            self.reached.require(kind, texts / BELOW_SHARE);
         }
         for kind in damage::damages() {
             self.reached.require(&format!("damage: {kind:?}"), 1);

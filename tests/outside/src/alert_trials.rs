@@ -10,7 +10,6 @@ use crate::readings::{self, EnvelopeFigures};
 use crate::reference::{ChannelType, TEXT_LIMIT};
 use crate::rules::Refusal;
 use crate::settings_texts;
-use crate::texts::Fields;
 
 /// How many trials are made of one envelope.
 const OF_ONE_ENVELOPE: usize = 12;
@@ -74,7 +73,7 @@ impl Edge {
                 _ => neighbour(random, row, &types),
             };
             let s = readings::scaled_squared_distance(&values, &centre);
-            let line = reading(random, &types, &values);
+            let line = reading_texts::of_values(random, &types, &values);
             if s > i128::from(figures.scaled_squared_radius) {
                 alarms.push(line);
             } else {
@@ -115,7 +114,7 @@ impl Edge {
         let mut line = match random.below(8) {
             0..3 => Vec::new(),
             3 => random.pick(&["LOOP-1", "A,TOC", ",", "1,1", "A\r"]).into(),
-            4 => reading(random, &self.types, &vec![4_001; self.types.len()]),
+            4 => reading_texts::of_values(random, &self.types, &vec![4_001; self.types.len()]),
             _ => {
                 let mut text = self.quiets[random.index(self.quiets.len())].clone();
                 let kind = reading_damage::kind(random);
@@ -165,11 +164,6 @@ fn neighbour(random: &mut Random, row: &[i32], types: &[ChannelType]) -> Vec<i32
         value.clamp(channel.low, channel.high)
     };
     values.map(&mut changed).collect()
-}
-
-fn reading(random: &mut Random, types: &[ChannelType], values: &[i32]) -> Vec<u8> {
-    let fields: Fields = values.iter().map(|v| v.to_string().into_bytes()).collect();
-    reading_texts::line(reading_texts::label(random), types, &fields).bytes()
 }
 
 /// Mostly a few readings; in longer files also as many as the largest k and c.

@@ -144,9 +144,8 @@ pub fn examples() -> Vec<KnownMeasured> {
     ]
 }
 
-/// `<` and a number reads as 0, whatever the number.
+/// `<` and a number reads as the whole part of half the number.
 pub fn below_detection() -> Vec<KnownMeasured> {
-    let orp = one_channel(8, -131_072_000, 0);
     vec![
         accepted(
             "below_1",
@@ -155,48 +154,87 @@ pub fn below_detection() -> Vec<KnownMeasured> {
             &[0, 0],
             quiet(RECORD),
         ),
+        // 4 + 9
         accepted(
-            "below_highest",
+            "below_2",
             record(),
-            "A,TOC,<2000,CND,<4000\n",
-            &[0, 0],
-            quiet(RECORD),
+            "A,TOC,<2,CND,<2\n",
+            &[1, 1],
+            quiet(55_834_574_848),
         ),
-        // 9 + 36
+        // 22² + 21²
         accepted(
-            "below_first",
+            "below_50_and_51",
             record(),
-            "A,TOC,<1999,CND,10\n",
-            &[0, 10],
-            alarm(85_899_345_920, 193_273_528_320),
+            "A,TOC,<50,CND,<51\n",
+            &[25, 25],
+            alarm(3_865_470_566_400, 3_972_844_748_800),
         ),
-        // 16 + 16
+        // 16 + 1
         accepted(
             "below_last",
             record(),
             "A,TOC,7,CND,<7\n",
+            &[7, 3],
+            quiet(73_014_444_032),
+        ),
+        // 16 + 16
+        accepted(
+            "below_last_outside",
+            record(),
+            "A,TOC,7,CND,<1\n",
             &[7, 0],
             alarm(30_064_771_072, 137_438_953_472),
         ),
-        // 2,000² from a centre at the low
-        accepted(
-            "below_beside_negatives",
-            orp,
-            "A,ORP,<2000\n",
-            &[0],
-            alarm(17_179_869_184_000_000, 17_179_869_184_000_000),
-        ),
-        accepted(
-            "below_every_high",
-            each_type(0),
-            "-,TOC,<2000,TC,<4000,IC,<4000,CND,<4000,TMP,<1500,PH,<1400,FLW,<4000,ORP,<2000\n",
-            &[0; 8],
-            quiet(0),
-        ),
+    ]
+}
+
+/// `<` and a number out of range, or none.
+pub fn below_refused() -> Vec<KnownMeasured> {
+    vec![
         refused("below_0", record(), "A,TOC,<0,CND,0\n", 2, 4),
         refused("below_2001", record(), "A,TOC,<2001,CND,0\n", 2, 4),
         refused("below_minus_1", record(), "A,TOC,<-1,CND,0\n", 2, 4),
         refused("below_minus_0", record(), "A,TOC,<-0,CND,0\n", 2, 3),
+    ]
+}
+
+/// `<` and the high of a type, or a number less by 1.
+pub fn below_highs() -> Vec<KnownMeasured> {
+    let orp = one_channel(8, -131_072_000, 0);
+    vec![
+        // 997² + 1,996²
+        accepted(
+            "below_highest",
+            record(),
+            "A,TOC,<2000,CND,<4000\n",
+            &[1000, 2000],
+            alarm(21_380_347_199_488_000, 21_380_454_573_670_400),
+        ),
+        // 996² + 36
+        accepted(
+            "below_first",
+            record(),
+            "A,TOC,<1999,CND,10\n",
+            &[999, 10],
+            alarm(4_260_723_521_748_992, 4_260_830_895_931_392),
+        ),
+        // 3,000² from a centre at the low
+        accepted(
+            "below_beside_negatives",
+            orp,
+            "A,ORP,<2000\n",
+            &[1000],
+            alarm(38_654_705_664_000_000, 38_654_705_664_000_000),
+        ),
+        // 1,000² + 4 · 2,000² + 750² + 700² + 1,000²
+        accepted(
+            "below_every_high",
+            each_type(0),
+            "-,TOC,<2000,TC,<4000,IC,<4000,CND,<4000,TMP,<1500,PH,<1400,FLW,<4000,ORP,<2000\n",
+            &[1000, 2000, 2000, 2000, 750, 700, 2000, 1000],
+            alarm(81_829_864_407_040_000, 81_829_864_407_040_000),
+        ),
     ]
 }
 
@@ -404,13 +442,13 @@ pub fn channels() -> Vec<KnownMeasured> {
             &[2, 1],
             alarm(21_474_836_480, 21_474_836_480),
         ),
-        // 9 + 0 + 4
+        // 9 + 16 + 4
         accepted(
             "twice_with_another_between",
             from_0(&[1, 4, 1]),
             "A,TOC,3,CND,<9,TOC,2\n",
-            &[3, 0, 2],
-            alarm(55_834_574_848, 55_834_574_848),
+            &[3, 4, 2],
+            alarm(124_554_051_584, 124_554_051_584),
         ),
         refused("once_for_twice", from_0(&[1, 1]), "A,TOC,1,CND,2\n", 2, 10),
     ]
@@ -598,6 +636,8 @@ pub fn all() -> Vec<KnownMeasured> {
     [
         examples(),
         below_detection(),
+        below_refused(),
+        below_highs(),
         edges(),
         centres(),
         ranges(),

@@ -1,8 +1,10 @@
 //! Texts of the programs that document 01 names, of every refusal and at every edge of a text, with
 //! the outputs that the rules give, written down by hand.
 
+use crate::drawn_as_0::{self, Redrawn};
 use crate::known_alerts;
-use crate::known_records::{RECORD, RECORD_BUDGET_1};
+use crate::known_records::{RECORD, RECORD_BUDGET_1, ROWS_0_10};
+use crate::known_texts::{BELOW, BELOW_ODD, EVERY_TYPE, HIGH, LOW};
 use crate::programs::{PROGRAMS, Program, TextKind, Texts};
 use crate::reference::TEXT_LIMIT;
 
@@ -25,9 +27,7 @@ const MEGABYTES: usize = 3 << 20;
 
 /// The rows 0 and 10 with their record: the centre is 5 and the radius is 5.
 const HONEST_REFERENCE: &str = "REF,1,TOC\nA,0\nB,10\n";
-const HONEST_RECORD: &str = "ENV,1,TOC\nC,327680\n\
-    R,107374182400,107374182400,1,S\n\
-    W,1,32768\nW,2,32768\n";
+const HONEST_RECORD: &str = ROWS_0_10;
 /// A stranger's rows 0 and 1000 with their record: the centre is 500 and the radius is 500.
 const WIDE_REFERENCE: &str = "REF,1,TOC\nA,0\nB,1000\n";
 const WIDE_RECORD: &str = "ENV,1,TOC\nC,32768000\n\
@@ -171,7 +171,7 @@ pub fn examples() -> Vec<KnownInput> {
         shown("panel_one_row", &five, one_row, "TOC,5\n"),
         judged("judge_record", READING, "QUIET\n"),
         rewritten("plain_record", REFERENCE, REFERENCE),
-        rewritten("plain_below_5", &under_toc("<5"), &under_toc("0")),
+        rewritten("plain_below_5", &under_toc("<5"), &under_toc("2")),
         known_of(
             &[Program::Alerts],
             "alerts_record",
@@ -183,12 +183,10 @@ pub fn examples() -> Vec<KnownInput> {
 
 /// Reference texts written anew: as they are, but for values below detection.
 pub fn rewritings() -> Vec<KnownInput> {
-    let every_type = "REF,8,TOC,TC,IC,CND,TMP,PH,FLW,ORP\n";
-    let lows = "LOW,0,0,0,0,-200,0,0,-2000\n";
-    let highs = "HIGH,2000,4000,4000,4000,1500,1400,4000,2000\n";
-    let below = "BELOW,<2000,<4000,<4000,<4000,<1500,<1400,<4000,<2000\n";
-    let ends = [every_type, lows, highs, below].concat();
-    let ends_plain = [every_type, lows, highs, "BELOW,0,0,0,0,0,0,0,0\n"].concat();
+    let halves = "BELOW,1000,2000,2000,2000,750,700,2000,1000\n";
+    let odd_halves = "ODD,999,1999,1999,1999,749,699,1999,999\n";
+    let ends = [EVERY_TYPE, LOW, HIGH, BELOW, BELOW_ODD].concat();
+    let ends_plain = [EVERY_TYPE, LOW, HIGH, halves, odd_halves].concat();
     let mixed = "REF,2,TOC,CND\nA,<1,7\nB,7,<1\nC,<7,<1\nD,0,0\n";
     let same = |name, text: &str| rewritten(name, text, text);
     vec![
@@ -201,11 +199,15 @@ pub fn rewritings() -> Vec<KnownInput> {
         same("label_ref", "REF,1,PH\nREF,1\n"),
         same("label_no", "REF,2,PH,TC\nA,3,1\nNO,13,0\n"),
         rewritten("below_1", &under_toc("<1"), &under_toc("0")),
-        rewritten("below_2000", &under_toc("<2000"), &under_toc("0")),
+        rewritten("below_2", &under_toc("<2"), &under_toc("1")),
+        rewritten("below_50", &under_toc("<50"), &under_toc("25")),
+        rewritten("below_51", &under_toc("<51"), &under_toc("25")),
+        rewritten("below_1999", &under_toc("<1999"), &under_toc("999")),
+        rewritten("below_2000", &under_toc("<2000"), &under_toc("1000")),
         rewritten(
             "below_among_values",
             mixed,
-            "REF,2,TOC,CND\nA,0,7\nB,7,0\nC,0,0\nD,0,0\n",
+            "REF,2,TOC,CND\nA,0,7\nB,7,0\nC,3,0\nD,0,0\n",
         ),
         rewritten("ends_of_every_range", &ends, &ends_plain),
         longest_rewriting(),
@@ -470,6 +472,7 @@ pub fn verdicts() -> Vec<KnownInput> {
     vec![
         judged("at_the_edge", "B,TOC,6,CND,0\n", "QUIET\n"),
         judged("inside", "A,TOC,3,CND,4\n", "QUIET\n"),
+        // (1, 2): 4 + 4 of 25
         judged("below_detection", "A,TOC,<3,CND,<4\n", "QUIET\n"),
         judged("outside", "A,TOC,7,CND,0\n", "ALARM,30064771072\n"),
         judged(
@@ -490,6 +493,94 @@ pub fn verdicts() -> Vec<KnownInput> {
             "budget_1",
             [REFERENCE, RECORD_BUDGET_1, "A,TOC,6,CND,0\nA,TOC,6,CND,9\n"],
             "QUIET\nALARM,38654705664\n",
+        ),
+    ]
+}
+
+/// Readings below detection of document 01's record.
+pub fn readings_below_detection() -> Vec<KnownInput> {
+    vec![
+        // (3, 9) is at the edge, (3, 10) is 36 of 25.
+        judged(
+            "edges",
+            "A,TOC,3,CND,<18\nA,TOC,3,CND,<19\nA,TOC,3,CND,<20\nA,TOC,3,CND,<21\n",
+            "QUIET\nQUIET\nALARM,47244640256\nALARM,47244640256\n",
+        ),
+        // (7, 0): 16 + 16 of 25. As (0, 0) it would be at the edge.
+        judged("quiet_as_0", "A,TOC,<14,CND,0\n", "ALARM,30064771072\n"),
+        // (3, 9): at the edge. As (0, 9) it would be 9 + 25 of 25.
+        judged("alarm_as_0", "A,TOC,<6,CND,9\n", "QUIET\n"),
+    ]
+}
+
+/// Rows below detection that read as 0, 25, 25 and 1: the centre is 12.5, the radius is 12.5, and M is
+/// 819,200². The third reading is 26.
+pub fn rows_below_detection() -> Vec<KnownInput> {
+    let reference = "REF,1,TOC\nA,<1\nB,<51\nC,<50\nD,<2\n";
+    let record = "ENV,1,TOC\nC,819200\n\
+        R,671088640000,671088640000,1,S\n\
+        W,1,32768\nW,2,32768\n";
+    let readings = "B,TOC,<50\nB,TOC,<51\nB,TOC,<52\nA,TOC,<1\n";
+    // 13.5² of 12.5²
+    let verdicts = "QUIET\nQUIET\nALARM,111669149696\nQUIET\n";
+    let written = "REF,1,TOC\nA,0\nB,25\nC,25\nD,1\n";
+    let of_rows = |program, name, output: &str| {
+        known_of(&[program], name, [reference, record, readings], output)
+    };
+    vec![
+        of_rows(Program::Draw, "drawn", record),
+        of_rows(Program::Verify, "verified", "OK\n"),
+        of_rows(Program::Panel, "shown", "TOC,13\n"),
+        of_rows(Program::Judge, "judged", verdicts),
+        of_rows(Program::Alerts, "tried", "1,1,1,1\n4,1,3,0\n"),
+        of_rows(Program::Plain, "written", written),
+    ]
+}
+
+/// Records drawn while values below detection read as 0.
+pub fn drawn_as_0() -> Vec<KnownInput> {
+    let read = |redrawn: Redrawn| {
+        let (programs, output) = match redrawn.kept {
+            Some(_) => (&[Program::Verify][..], "OK\n"),
+            None => (&READERS[..], "NO,12,0\n"),
+        };
+        let texts = [redrawn.reference, redrawn.drawn_as_0, READING];
+        known_of(programs, redrawn.name, texts, output)
+    };
+    drawn_as_0::all().into_iter().map(read).collect()
+}
+
+/// The records that are drawn of the same texts.
+pub fn drawn_anew() -> Vec<KnownInput> {
+    let list = drawn_as_0::all().into_iter();
+    list.map(|redrawn| drawn(redrawn.name, redrawn.reference, redrawn.drawn))
+        .collect()
+}
+
+/// A kept record of the ball with centre (3, 4) and radius 5. The third reading is (7, 0).
+pub fn kept_record() -> Vec<KnownInput> {
+    let Redrawn {
+        reference,
+        drawn_as_0,
+        ..
+    } = drawn_as_0::kept();
+    let readings = "D,TOC,<6,CND,<9\nE,TOC,<1,CND,<16\nF,TOC,<15,CND,<1\n";
+    let of_kept = |program, name, output: &str| {
+        let texts = [reference, drawn_as_0, readings];
+        known_of(&[program], name, texts, output)
+    };
+    vec![
+        of_kept(Program::Panel, "shown", "TOC,3\nCND,4\n"),
+        of_kept(
+            Program::Judge,
+            "judged",
+            "QUIET\nQUIET\nALARM,30064771072\n",
+        ),
+        of_kept(Program::Alerts, "tried", "1,1,1,1\n3,1,2,0\n"),
+        of_kept(
+            Program::Plain,
+            "written",
+            "REF,2,TOC,CND\nA,0,0\nB,6,0\nC,0,8\nD,3,4\n",
         ),
     ]
 }
@@ -589,6 +680,11 @@ pub fn all() -> Vec<KnownInput> {
         several_refused(),
         lengths(),
         verdicts(),
+        readings_below_detection(),
+        rows_below_detection(),
+        drawn_as_0(),
+        drawn_anew(),
+        kept_record(),
         reading_lines(),
         reading_lengths(),
         large(),

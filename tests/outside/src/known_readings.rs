@@ -142,7 +142,13 @@ pub fn verdicts() -> Vec<KnownReading> {
     vec![
         quiet("centre", record(), "A,TOC,3,CND,4\n"),
         quiet("fourth_corner", record(), "A,TOC,6,CND,8\n"),
-        quiet("below_detection_is_0", record(), "A,TOC,<2000,CND,<4000\n"),
+        // 997² + 1,996² - 25
+        alarm(
+            "below_both_highest",
+            record(),
+            "A,TOC,<2000,CND,<4000\n",
+            21_380_347_199_488_000,
+        ),
         // 16 + 16 - 25
         alarm("toc_7", record(), "A,TOC,7,CND,0\n", 30_064_771_072),
         // 9 + 25 - 25
@@ -245,14 +251,18 @@ pub fn edges() -> Vec<KnownReading> {
     ]
 }
 
-/// The ends of every range, judged from 0: s is D² times the squares of the values.
-pub fn ranges() -> Vec<KnownReading> {
-    let from_0 = || EnvelopeFigures {
+/// A ball of radius 0 at 0, with a channel of each type.
+fn from_0() -> EnvelopeFigures {
+    EnvelopeFigures {
         n: 8,
         types: vec![1, 2, 3, 4, 5, 6, 7, 8],
         scaled_centre: vec![0; 8],
         ..one_channel(1, 0, 0)
-    };
+    }
+}
+
+/// The ends of every range, judged from 0: s is D² times the squares of the values.
+pub fn ranges() -> Vec<KnownReading> {
     vec![
         // 200² + 2,000²
         alarm(
@@ -268,16 +278,58 @@ pub fn ranges() -> Vec<KnownReading> {
             "HIGH,TOC,2000,TC,4000,IC,4000,CND,4000,TMP,1500,PH,1400,FLW,4000,ORP,2000\n",
             327_319_457_628_160_000,
         ),
-        quiet(
+        // 1,000² + 4 · 2,000² + 750² + 700² + 1,000²
+        alarm(
             "below_highs",
             from_0(),
             "-,TOC,<2000,TC,<4000,IC,<4000,CND,<4000,TMP,<1500,PH,<1400,FLW,<4000,ORP,<2000\n",
+            81_829_864_407_040_000,
+        ),
+        // 999² + 4 · 1,999² + 749² + 699² + 999²
+        alarm(
+            "below_highs_less_1",
+            from_0(),
+            "-,TOC,<1999,TC,<3999,IC,<3999,CND,<3999,TMP,<1499,PH,<1399,FLW,<3999,ORP,<1999\n",
+            81_731_544_015_699_968,
         ),
         quiet(
             "below_1_each",
             from_0(),
             "-,TOC,<1,TC,<1,IC,<1,CND,<1,TMP,<1,PH,<1,FLW,<1,ORP,<1\n",
         ),
+    ]
+}
+
+/// What a value below detection reads as, by a ball of radius 0 at a number and by the edge of the record's
+/// ball. A step besides the centre is D², which is 4,294,967,296.
+pub fn below_detection() -> Vec<KnownReading> {
+    let at = |number: i64| one_channel(1, 65_536 * number, 0);
+    let beside = |name, number, text| alarm(name, at(number), text, 4_294_967_296);
+    let outside = |name, text| alarm(name, record(), text, 47_244_640_256);
+    vec![
+        quiet("below_1_at_0", at(0), "A,TOC,<1\n"),
+        beside("below_1_beside_1", 1, "A,TOC,<1\n"),
+        beside("below_2_beside_0", 0, "A,TOC,<2\n"),
+        quiet("below_2_at_1", at(1), "A,TOC,<2\n"),
+        quiet("below_3_at_1", at(1), "A,TOC,<3\n"),
+        beside("below_4_beside_1", 1, "A,TOC,<4\n"),
+        beside("below_49_beside_25", 25, "A,TOC,<49\n"),
+        quiet("below_50_at_25", at(25), "A,TOC,<50\n"),
+        quiet("below_51_at_25", at(25), "A,TOC,<51\n"),
+        beside("below_52_beside_25", 25, "A,TOC,<52\n"),
+        quiet("below_1999_at_999", at(999), "A,TOC,<1999\n"),
+        beside("below_1999_beside_1000", 1_000, "A,TOC,<1999\n"),
+        quiet("below_2000_at_1000", at(1_000), "A,TOC,<2000\n"),
+        beside("below_2000_beside_999", 999, "A,TOC,<2000\n"),
+        // (3, 9): 25 of 25, and (3, 10): 36 of 25
+        quiet("below_18_at_the_edge", record(), "A,TOC,3,CND,<18\n"),
+        quiet("below_19_at_the_edge", record(), "A,TOC,3,CND,<19\n"),
+        outside("below_20_outside", "A,TOC,3,CND,<20\n"),
+        outside("below_21_outside", "A,TOC,3,CND,<21\n"),
+        // (7, 0): 16 + 16 of 25, where (0, 0) is at the edge
+        alarm("quiet_as_0", record(), "A,TOC,<14,CND,0\n", 30_064_771_072),
+        // (3, 9): at the edge, where (0, 9) is 9 + 25 of 25
+        quiet("alarm_as_0", record(), "A,TOC,<6,CND,9\n"),
     ]
 }
 
@@ -544,6 +596,7 @@ pub fn all() -> Vec<KnownReading> {
         verdicts(),
         edges(),
         ranges(),
+        below_detection(),
         lengths(),
         lines(),
         tags(),

@@ -1,11 +1,12 @@
 //! The records that document 01 and the list of bad input name, with the answers that the rules
 //! give, written down by hand.
 
+use crate::drawn_as_0::{self, Redrawn};
 use crate::known_readings;
 use crate::readings::EnvelopeFigures;
 use crate::records::{Envelope, TypedRows};
 use crate::reference::TEXT_LIMIT;
-use crate::rules::Refusal;
+use crate::rules::{Refusal, WEIGHTS_DISAGREE};
 use crate::sets::Set;
 
 /// A record by name, the rows and types that it is read against, and the answer.
@@ -36,6 +37,11 @@ pub const RECORD_BUDGET_0: &str = "ENV,2,TOC,CND\n\
     C,0,0\n\
     R,274877906944,0,0,B\n\
     W,1,65536\n";
+
+/// The rows 0 and 10 of TOC: the centre is 5 and the radius is 5.
+pub const ROWS_0_10: &str = "ENV,1,TOC\nC,327680\n\
+    R,107374182400,107374182400,1,S\n\
+    W,1,32768\nW,2,32768\n";
 
 /// All weight on the last of 256 rows that are all 5.
 pub const ROW_256: &str = "ENV,1,TOC\nC,327680\nR,0,0,0,S\nW,256,65536\n";
@@ -593,6 +599,18 @@ pub fn orders_of_form() -> Vec<KnownRecord> {
     ]
 }
 
+/// Records drawn while values below detection read as 0.
+pub fn drawn_as_0() -> Vec<KnownRecord> {
+    let list = drawn_as_0::all().into_iter();
+    let read = |redrawn: Redrawn| KnownRecord {
+        name: redrawn.name,
+        rows: redrawn.rows,
+        text: redrawn.drawn_as_0.into(),
+        outcome: redrawn.kept.ok_or(WEIGHTS_DISAGREE),
+    };
+    list.map(read).collect()
+}
+
 /// Every list of records that are read.
 pub fn all() -> Vec<KnownRecord> {
     [
@@ -613,6 +631,7 @@ pub fn all() -> Vec<KnownRecord> {
         past_the_counts(),
         orders(),
         orders_of_form(),
+        drawn_as_0(),
     ]
     .concat()
 }

@@ -141,26 +141,34 @@ pub fn values() -> Vec<KnownText> {
         toc_reads("plain_2000", "2000", 2000),
         toc_refused("plain_2001", "2001", 4),
         toc_reads("below_1", "<1", 0),
-        toc_reads("below_2000", "<2000", 0),
+        toc_reads("below_2", "<2", 1),
+        toc_reads("below_3", "<3", 1),
+        toc_reads("below_50", "<50", 25),
+        toc_reads("below_51", "<51", 25),
+        toc_reads("below_52", "<52", 26),
+        toc_reads("below_1999", "<1999", 999),
+        toc_reads("below_2000", "<2000", 1000),
         toc_refused("below_2001", "<2001", 4),
         toc_refused("above_32_bits", "4294967297", 4),
         toc_refused("above_64_bits", "18446744073709551617", 4),
     ]
 }
 
-const EVERY_TYPE: &str = "REF,8,TOC,TC,IC,CND,TMP,PH,FLW,ORP\n";
-const LOW: &str = "LOW,0,0,0,0,-200,0,0,-2000\n";
-const HIGH: &str = "HIGH,2000,4000,4000,4000,1500,1400,4000,2000\n";
-const BELOW: &str = "BELOW,<2000,<4000,<4000,<4000,<1500,<1400,<4000,<2000\n";
+pub(crate) const EVERY_TYPE: &str = "REF,8,TOC,TC,IC,CND,TMP,PH,FLW,ORP\n";
+pub(crate) const LOW: &str = "LOW,0,0,0,0,-200,0,0,-2000\n";
+pub(crate) const HIGH: &str = "HIGH,2000,4000,4000,4000,1500,1400,4000,2000\n";
+pub(crate) const BELOW: &str = "BELOW,<2000,<4000,<4000,<4000,<1500,<1400,<4000,<2000\n";
+pub(crate) const BELOW_ODD: &str = "ODD,<1999,<3999,<3999,<3999,<1499,<1399,<3999,<1999\n";
 
-/// The ends of every range: the heading has 35 bytes, the rows 27, 45 and 54.
+/// The ends of every range: the heading has 35 bytes, the rows 27, 45, 54 and 52.
 fn ends_of_every_range() -> KnownText {
-    let rows: [(usize, usize, &[i32]); 3] = [
+    let rows: [(usize, usize, &[i32]); 4] = [
         (35, 3, &[0, 0, 0, 0, -200, 0, 0, -2000]),
         (62, 4, &[2000, 4000, 4000, 4000, 1500, 1400, 4000, 2000]),
-        (107, 5, &[0; 8]),
+        (107, 5, &[1000, 2000, 2000, 2000, 750, 700, 2000, 1000]),
+        (161, 3, &[999, 1999, 1999, 1999, 749, 699, 1999, 999]),
     ];
-    let text = [EVERY_TYPE, LOW, HIGH, BELOW].concat();
+    let text = [EVERY_TYPE, LOW, HIGH, BELOW, BELOW_ODD].concat();
     let types = [1, 2, 3, 4, 5, 6, 7, 8];
     accepted("ends_of_every_range", text, &types, &rows)
 }
@@ -171,7 +179,7 @@ fn largest_accepted() -> KnownText {
         |row: usize| format!("POINT-{row:06},<4000,<3999,<2000,<1999,-2000,-1999,-1000,-1234\n");
     let heading = String::from("REF,8,CND,FLW,CND,FLW,ORP,ORP,ORP,ORP\n");
     let text = heading + &(0..256).map(row).collect::<String>();
-    let values = &[0, 0, 0, 0, -2000, -1999, -1000, -1234][..];
+    let values = &[2000, 1999, 1000, 999, -2000, -1999, -1000, -1234][..];
     let rows: Vec<(usize, usize, &[i32])> =
         (0..256).map(|row| (38 + 61 * row, 12, values)).collect();
     accepted("largest_accepted", text, &[4, 7, 4, 7, 8, 8, 8, 8], &rows)

@@ -39,6 +39,7 @@
 //! - `writing_faults`: envelopes with one fault, and with two.
 //! - `reference_writing_faults`: labelled rows with one fault, and with two in both orders.
 //! - `known_records`: the records that document 01 and the list of bad input name.
+//! - `drawn_as_0`: records drawn while values below detection read as 0.
 //! - `known_writings`: the envelopes that they name.
 //! - `known_reference_writings`: the labelled rows that document 02 and the list of bad input name.
 //! - `alert_trials`: seeded trials of alert settings, with readings at the edge of a ball.
@@ -58,6 +59,7 @@ pub mod chart_figures;
 pub mod charts;
 pub mod damage;
 pub mod demands;
+pub mod drawn_as_0;
 pub mod envelopes;
 pub mod faults;
 pub mod fractions;

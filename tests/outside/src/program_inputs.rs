@@ -13,7 +13,7 @@ use crate::record_texts::{Enveloped, RecordDraft};
 use crate::reference::TEXT_LIMIT;
 use crate::sets::{self, Shape};
 use crate::settings_texts;
-use crate::texts::{self, Draft, Fields};
+use crate::texts::{self, Draft};
 
 /// The most readings of an input that is not full of them.
 const READING_COUNT: usize = 6;
@@ -265,8 +265,7 @@ fn neighbour(random: &mut Random, reference: &Draft) -> Vec<u8> {
     let mut values = reference.table[row * types.len()..][..types.len()].to_vec();
     let value = values[place] + random.pick(&[-1, 1]);
     values[place] = value.clamp(types[place].low, types[place].high);
-    let fields: Fields = values.iter().map(|v| v.to_string().into_bytes()).collect();
-    reading_texts::line(reading_texts::label(random), types, &fields).bytes()
+    reading_texts::of_values(random, types, &values)
 }
 
 /// The place of any other text.

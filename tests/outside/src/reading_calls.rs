@@ -14,8 +14,8 @@ use crate::rules::Refusal;
 /// How many readings are made for one envelope, besides its rows.
 const OF_ONE_ENVELOPE: usize = 8;
 
-/// M of a radius of 250 steps, for sweeps.
-const RADIUS: u64 = 268_435_456_000_000;
+/// M of a radius of 500 steps, for sweeps.
+const RADIUS: u64 = 1_073_741_824_000_000;
 
 /// s - M at the edge, with its name.
 const EDGES: [(i128, &str); 3] = [

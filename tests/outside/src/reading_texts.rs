@@ -81,6 +81,15 @@ pub fn line(label: Vec<u8>, types: &[ChannelType], values: &[Vec<u8>]) -> Line {
     }
 }
 
+/// A reading that reads as these values, plain and below detection, with any label.
+pub fn of_values(random: &mut Random, types: &[ChannelType], values: &[i32]) -> Vec<u8> {
+    let channels = types.iter().zip(values);
+    let fields: Fields = channels
+        .map(|(channel, &value)| texts::field_of(random, channel, value).into_bytes())
+        .collect();
+    line(label(random), types, &fields).bytes()
+}
+
 /// The rows of a reference text as readings.
 pub fn of_rows(reference: &Draft) -> Vec<Vec<u8>> {
     let reading = |row: &Fields| line(row[0].clone(), &reference.types, &row[1..]).bytes();

@@ -2,6 +2,7 @@
 //! a number, every short value field, every number near the ranges, every short tag.
 
 use crate::reference::{CHANNEL_TYPES, ChannelType};
+use crate::rules::ROW_LIMIT;
 
 /// Small texts whose every byte is changed.
 pub const SMALL_TEXTS: [&str; 3] = [
@@ -95,6 +96,34 @@ pub fn short_values(mut visit: impl FnMut(&[u8])) {
 /// Every number in and round the ranges, plain and after `<`, under every type.
 pub fn near_numbers(mut visit: impl FnMut(&[u8])) {
     near_fields(|channel, field| visit(&one_value(channel, field)));
+}
+
+/// How many values below detection there are under the eight types: the sum of their highs.
+pub const BELOW_DETECTION: usize = 2_000 + 4 * 4_000 + 1_500 + 1_400 + 2_000;
+
+/// For every type, texts with each number from 1 to its high after `<`, in rows, and these numbers.
+pub fn rows_below_detection(mut visit: impl FnMut(&ChannelType, &[i32], &[u8])) {
+    for channel in &CHANNEL_TYPES {
+        let numbers: Vec<i32> = (1..=channel.high).collect();
+        for numbers in numbers.chunks(ROW_LIMIT) {
+            let rows = numbers
+                .iter()
+                .map(|number| format!("R-{number},<{number}\n"));
+            let text = format!("REF,1,{}\n", channel.tag) + &rows.collect::<String>();
+            visit(channel, numbers, text.as_bytes());
+        }
+    }
+}
+
+/// For every type, a reading with each number from 1 to its high after `<`, and this number.
+pub fn readings_below_detection(mut visit: impl FnMut(&ChannelType, i32, &[u8])) {
+    for channel in &CHANNEL_TYPES {
+        for number in 1..=channel.high {
+            let field = format!("<{number}");
+            let text = one_channel(channel.tag.as_bytes(), field.as_bytes());
+            visit(channel, number, &text);
+        }
+    }
 }
 
 /// Every tag of at most three capital letters.

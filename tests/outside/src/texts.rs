@@ -5,7 +5,7 @@ use crate::random::Random;
 use crate::reference::{CHANNEL_TYPES, ChannelType, LABEL_LIMIT};
 use crate::rules::{CHANNEL_LIMIT, COORDINATE_LIMIT, ROW_LIMIT};
 use crate::sets::Set;
-use std::collections::HashSet;
+use std::collections::{BTreeSet, HashSet};
 
 const LABEL_BYTES: &[u8] = b"ABCDEFGHIJKLMNOPQRSTUVWXYZ0123456789-";
 
@@ -147,6 +147,40 @@ fn label(random: &mut Random, letters: &[u8]) -> Vec<u8> {
     (0..length).map(|_| random.pick(letters)).collect()
 }
 
+/// A value field below detection, and what it reads as.
+fn below_detection(number: i32) -> (String, i32) {
+    (format!("<{number}"), number / 2)
+}
+
+/// A field that reads as a value of a type: plain, or below detection where such a one is in the range.
+pub fn field_of(random: &mut Random, channel: &ChannelType, value: i32) -> String {
+    let number = 2 * value + random.between(0, 1);
+    if (1..=channel.high).contains(&number) && random.once_in(4) {
+        below_detection(number).0
+    } else {
+        value.to_string()
+    }
+}
+
+/// The kinds of values below detection.
+pub const BELOW_DETECTION: [&str; 3] = [
+    "below detection: <1",
+    "below detection: odd above 1",
+    "below detection: even",
+];
+
+/// Those in a text within the rules, each once.
+pub fn kinds_below_detection(text: &[u8]) -> BTreeSet<&'static str> {
+    let fields = text.split(|byte| matches!(byte, b',' | b'\n'));
+    let numbers = fields.filter_map(|field| field.strip_prefix(b"<"));
+    let kind = |number: &[u8]| match number {
+        b"1" => BELOW_DETECTION[0],
+        [.., last] if last % 2 == 1 => BELOW_DETECTION[1],
+        _ => BELOW_DETECTION[2],
+    };
+    numbers.map(kind).collect()
+}
+
 /// A value field within the range of a type, and what it reads as.
 pub fn value(random: &mut Random, channel: &ChannelType) -> (String, i32) {
     let ChannelType { low, high, .. } = *channel;
@@ -156,8 +190,8 @@ pub fn value(random: &mut Random, channel: &ChannelType) -> (String, i32) {
         2 => random.between(low, low + 9),
         3 => random.between(high - 9, high),
         4 => 0,
-        5 => return (format!("<{}", random.between(1, high)), 0),
-        6 => return (format!("<{}", random.pick(&[1, 9, 10, high])), 0),
+        5 => return below_detection(random.between(1, high)),
+        6 => return below_detection(random.pick(&[1, 2, 9, 10, high - 1, high])),
         _ => random.between(low, high),
     };
     (number.to_string(), number)

@@ -1,15 +1,18 @@
 //! The outside implementation of the programs held to outputs that were written down, and to what
 //! the rules say of every text.
 
+use outside::drawn_as_0::{self, in_each_place};
 use outside::known_programs;
 use outside::known_records::RECORD;
 use outside::program_inputs::{self, Source};
 use outside::programs::{self, PROGRAMS, Program, Texts};
 use outside::random::Random;
 use outside::reading_texts;
+use outside::records::TypedRows;
 use outside::reference::{self, TEXT_LIMIT};
 use outside::reference_writing::LabelledRows;
-use outside::rules::ROW_LIMIT;
+use outside::rules::{CHANNEL_LIMIT, ROW_LIMIT};
+use outside::texts::Draft;
 use std::collections::BTreeSet;
 
 #[test]
@@ -55,7 +58,7 @@ fn known_inputs_reach_every_refusal() {
 #[test]
 fn a_text_with_values_below_detection() {
     let reference = b"REF,2,TOC,CND\nA,<3,<1\nBC,6,<4000\n";
-    let plain = b"REF,2,TOC,CND\nA,0,0\nBC,6,0\n";
+    let plain = b"REF,2,TOC,CND\nA,1,0\nBC,6,2000\n";
     assert_eq!(programs::plain(reference), plain);
     assert_eq!(programs::plain(plain), plain);
 }
@@ -84,6 +87,67 @@ fn plain_texts_read_as_the_same_rows() {
     }
     let least = [own, other, refused].into_iter().min();
     assert!(least > Some(500), "{own}, {other}, {refused}");
+}
+
+/// A text whose values below detection are all `<1` has the record of that with 0 in their places.
+#[test]
+fn below_1_is_drawn_as_0() {
+    let random = &mut Random::new(20_260_303);
+    let mut compared = 0;
+    for _ in 0..4_000 {
+        let (m, n) = (1 + random.index(8), 1 + random.index(CHANNEL_LIMIT));
+        let text = Draft::new(random, m, n).bytes();
+        let [ones, zeros] = [&b"<1"[..], b"0"].map(|field| in_each_place(&text, field));
+        let record = programs::draw(&ones);
+        assert!(record.starts_with(b"ENV,"), "{}", ones.escape_ascii());
+        assert_eq!(record, programs::draw(&zeros), "{}", ones.escape_ascii());
+        compared += u32::from(ones != zeros);
+    }
+    assert!(compared > 3_000, "{compared}");
+}
+
+/// A record drawn while values below detection read as 0 is kept or refused by 12, and by nothing else. Of
+/// a few texts that keep theirs another record is drawn.
+#[test]
+fn records_drawn_as_0_are_kept_or_refused() {
+    let random = &mut Random::new(20_260_304);
+    let (mut own, mut other, mut refused) = (0, 0, 0);
+    for _ in 0..4_000 {
+        let (m, n) = (1 + random.index(8), 1 + random.index(3));
+        let text = Draft::new(random, m, n).bytes();
+        let zeros = in_each_place(&text, b"0");
+        let record = programs::draw(&zeros);
+        let drawn = programs::draw(&text);
+        match &programs::verify(&text, &record)[..] {
+            b"OK\n" if zeros == text => assert_eq!(record, drawn),
+            b"OK\n" if record == drawn => own += 1,
+            b"OK\n" => other += 1,
+            answer => {
+                assert_eq!(answer, b"NO,12,0\n", "{}", text.escape_ascii());
+                refused += 1;
+            }
+        }
+    }
+    let enough = own > 500 && other > 20 && refused > 1_500;
+    assert!(enough, "{own}, {other}, {refused}");
+}
+
+/// The known records drawn as 0 are those of their texts with 0 in the place of each value below detection.
+#[test]
+fn known_records_drawn_as_0() {
+    for redrawn in drawn_as_0::all() {
+        let text = redrawn.reference.as_bytes();
+        let zeros = in_each_place(text, b"0");
+        assert_ne!(zeros, text, "{}", redrawn.name);
+        let name = redrawn.name;
+        assert_eq!(
+            programs::draw(&zeros),
+            redrawn.drawn_as_0.as_bytes(),
+            "{name}"
+        );
+        let rows = TypedRows::read(&reference::read(text).expect("a text within the rules"));
+        assert_eq!(rows, redrawn.rows, "{name}");
+    }
 }
 
 /// Whole texts are accepted, but for single readings.

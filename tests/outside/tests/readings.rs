@@ -257,6 +257,22 @@ fn sweep_of_values() {
     assert!(counts[&0] > (plain + below) as u32, "{counts:?}");
 }
 
+/// `<v` reads as the whole part of v/2, which is within the range, in a reading of every type.
+#[test]
+fn every_value_below_detection_reads_as_half() {
+    let mut read = 0;
+    sweeps::readings_below_detection(|channel, number, text| {
+        let values = readings::read(text, &[*channel]).expect("a reading in range");
+        let [reads] = values[..] else {
+            panic!("{} values", values.len());
+        };
+        assert!((2 * reads..2 * reads + 2).contains(&number), "<{number}");
+        assert!((channel.low..=channel.high).contains(&reads), "<{number}");
+        read += 1;
+    });
+    assert_eq!(read, sweeps::BELOW_DETECTION);
+}
+
 #[test]
 fn sweep_of_bytes() {
     let counts = count_numbers(|visit| {

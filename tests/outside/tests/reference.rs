@@ -175,6 +175,22 @@ fn sweeps_reach_both_answers() {
     assert!(reached.into_iter().eq(0..=6));
 }
 
+/// `<v` reads as the whole part of v/2, which is within the range, in a row of every type.
+#[test]
+fn every_value_below_detection_reads_as_half() {
+    let mut read = 0;
+    sweeps::rows_below_detection(|channel, numbers, text| {
+        let table = reference::read(text).expect("a text in range").table();
+        assert_eq!(table.len(), numbers.len());
+        for (&number, reads) in numbers.iter().zip(table) {
+            assert!((2 * reads..2 * reads + 2).contains(&number), "<{number}");
+            assert!((channel.low..=channel.high).contains(&reads), "<{number}");
+            read += 1;
+        }
+    });
+    assert_eq!(read, sweeps::BELOW_DETECTION);
+}
+
 /// The numbers within the range of each type, and those from 1 to its high after `<`.
 #[test]
 fn numbers_within_the_ranges() {

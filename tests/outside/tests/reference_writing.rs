@@ -269,7 +269,7 @@ fn rows_of_a_text() {
     let text = b"REF,2,TOC,CND\nA,0,<5\nBC,6,0\n";
     let read: Reference = reference::read(text).expect("a text within the rules");
     let table = LabelledRows::read(&read, text);
-    assert_eq!(table.rows.set.places, [0, 0, 6, 0]);
+    assert_eq!(table.rows.set.places, [0, 2, 6, 0]);
     assert_eq!((table.rows.set.m, table.rows.set.n), (2, 2));
     assert_eq!(table.rows.types, [1, 4]);
     assert_eq!(table.labels.bytes, b"ABC");

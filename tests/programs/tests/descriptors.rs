@@ -280,7 +280,7 @@ fn a_pipe_that_nobody_reads_is_told() {
 /// line on values below detection.
 #[test]
 fn messages_that_cannot_be_written_change_nothing() {
-    let below = REFERENCE.replace(",0", ",<7");
+    let below = REFERENCE.replace(",0", ",<1");
     for (name, reference, output) in [
         ("draw", REFERENCE, RECORD),
         ("draw", "REF,0\n", "NO,2,1\n"),

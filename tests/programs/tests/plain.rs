@@ -20,10 +20,10 @@ use std::path::Path;
 const SEED: u64 = 1_900;
 const INPUTS: u64 = 400;
 
-/// The rows of document 01's example, with values below detection in the place of each 0.
-const BELOW: &str = "REF,2,TOC,CND\nA,<5,<40\nB,6,<4000\nC,<2000,8\n";
-const NOTE: &str = "4 values below detection are printed as plain numbers, the first on line 2: \
-                    value 1 (TOC), '<5', as 0";
+/// The rows of document 01's example, with values below detection that read as its numbers.
+const BELOW: &str = "REF,2,TOC,CND\nA,0,0\nB,<13,<1\nC,<1,<16\n";
+const NOTE: &str = "4 values below detection are printed as plain numbers, the first on line 3: \
+                    value 1 (TOC), '<13', as 6";
 
 /// What the command says of an accepted text with this name: nothing where no value is below detection.
 fn note(told: &str, text: &[u8], read: &Reference) -> String {
@@ -79,9 +79,9 @@ fn the_examples() {
     assert_eq!(noted, [true, true, false]);
     for (point, told) in EXAMPLES.iter().zip([
         "2 values below detection are printed as plain numbers, the first on line 6: value 1 (TOC), \
-         '<10', as 0",
+         '<10', as 5",
         "7 values below detection are printed as plain numbers, the first on line 4: value 1 (TOC), \
-         '<5', as 0",
+         '<5', as 2",
         "",
     ]) {
         let mut command = Way::Command.command("plain", &[format!("{point}.ref")]);
@@ -328,10 +328,20 @@ fn help_says_what_becomes_of_values_below_detection() {
     for part in [
         "Usage: envelope plain [REF]",
         "below detection, <v, is printed as the number that it reads as",
+        "half the limit rounded down: <50 and <51 as 25, <1 as 0",
         "on standard error",
         "the same table with the same types and labels",
         "The detection limits are gone",
     ] {
         assert!(text.contains(part), "{part}");
     }
+}
+
+#[test]
+fn help_says_that_records_drawn_with_zeros_are_redrawn() {
+    let help = envelope(&["help", "redraw"], b"");
+    let words: Vec<&str> = help.text().split_whitespace().collect();
+    let told = "A record that was drawn when values below detection counted as 0 is refused by 12 where its \
+                figures differ: redraw every folder that has such records once.";
+    assert!(words.join(" ").contains(told));
 }

@@ -311,7 +311,7 @@ fn a_mistyped_row_stands_out() {
     assert!(shown.contains("\nradius          670.2 steps\n"), "{shown}");
     let marked: Vec<&str> = shown.lines().filter(|line| line.contains("LOOK")).collect();
     let cells = cells(marked[0]);
-    assert_eq!(cells[..4], ["4", "GL-02B", "50.00%", "68.1 steps"]);
+    assert_eq!(cells[..4], ["4", "GL-02B", "50.00%", "67.7 steps"]);
     assert_eq!(marked.len(), 1, "{shown}");
     assert!(shown.ends_with(
         "\nWithout row 4, GL-02B, the radius is less than half: is one of its values mistyped?\n"
@@ -371,8 +371,8 @@ fn more_rows_with_weight_than_are_taken_away() {
     let lines: String = (1..=32).map(|row| format!("W,{row},2048\n")).collect();
     let (radius, bound) = (figures.scaled_squared_radius, figures.scaled_lower_bound);
     let record = format!(
-        "ENV,2,FLW,FLW\nC,{},0\nR,{radius},{bound},7,B\n{lines}",
-        figures.scaled_centre[0]
+        "ENV,2,FLW,FLW\nC,{},{}\nR,{radius},{bound},7,B\n{lines}",
+        figures.scaled_centre[0], figures.scaled_centre[1]
     );
     let ended = show(&[text.as_bytes(), record.as_bytes()]);
     let expected = Expected::new(text.as_bytes(), Some((&weights, 7)));
@@ -382,7 +382,7 @@ fn more_rows_with_weight_than_are_taken_away() {
 
 #[test]
 fn one_row_and_equal_rows() {
-    for rows in ["A,-7,0\n", "A,-7,0\nB,-7,<2000\nC,-7,0\n"] {
+    for rows in ["A,-7,0\n", "A,-7,1\nB,-7,<3\nC,-7,<2\n"] {
         let text = format!("REF,2,ORP,TOC\n{rows}");
         let ended = assert_drawn(text.as_bytes());
         assert!(ended.text().contains("\nradius          0.0 steps\n"));
