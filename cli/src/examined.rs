@@ -11,6 +11,8 @@ const ALERT_SETTINGS: Refusal = Refusal {
     number: 14,
     line: 0,
 };
+/// The refusal of a record that does not agree with the rows.
+pub const DISAGREES: u32 = 12;
 
 /// Which text of a command.
 #[derive(Clone, Copy, Debug, PartialEq, Eq)]
@@ -31,6 +33,8 @@ pub struct Refused<'t> {
     pub line: u32,
     /// The codes of the reference text's channels, where that text is accepted.
     pub codes: Vec<u8>,
+    /// Whether it is a record that agrees with the rows where each value below detection counts as 0.
+    pub agrees_with_zeros: bool,
 }
 
 impl Refused<'_> {
@@ -78,6 +82,7 @@ impl<'t> Reference<'t> {
                 refusal,
                 line: refusal.line,
                 codes: Vec::new(),
+                agrees_with_zeros: false,
             }),
         }
     }
@@ -104,8 +109,24 @@ impl<'t> Reference<'t> {
 
     /// The envelope of a record that agrees with the rows.
     pub fn record(&self, text: &'t Text) -> Result<Envelope, Refused<'t>> {
-        let read = cundarivo::read_record(&self.table, self.m, self.n, &self.codes, &text.bytes);
-        read.map_err(|refusal| self.refused(Kind::Record, text, refusal))
+        self.read_record(&self.table, text)
+            .map_err(|refusal| Refused {
+                agrees_with_zeros: refusal.number == DISAGREES && self.agrees_with_zeros(text),
+                ..self.refused(Kind::Record, text, refusal)
+            })
+    }
+
+    fn read_record(&self, table: &[i32], text: &Text) -> Result<Envelope, Refusal> {
+        cundarivo::read_record(table, self.m, self.n, &self.codes, &text.bytes)
+    }
+
+    /// Whether a record agrees with the rows of the text with 0 in the place of each value below detection.
+    fn agrees_with_zeros(&self, record: &Text) -> bool {
+        let mut table = vec![0; self.table.len()];
+        let mut codes = vec![0; self.codes.len()];
+        let zeros = with_zeros(&self.text.bytes);
+        let read = cundarivo::read_reference(&zeros, &mut table, &mut codes);
+        read.is_ok() && self.read_record(&table, record).is_ok()
     }
 
     /// Whether the readings together are a text: judged as one reading they are refused by 1 where they are
@@ -149,8 +170,21 @@ impl<'t> Reference<'t> {
             refusal,
             line: refusal.line,
             codes: self.codes.clone(),
+            agrees_with_zeros: false,
         }
     }
+}
+
+/// A reference text with 0 in the place of each value below detection.
+fn with_zeros(text: &[u8]) -> Vec<u8> {
+    let mut zeros = Vec::with_capacity(text.len());
+    for part in text.split_inclusive(|byte| matches!(byte, b',' | b'\n')) {
+        match part {
+            [b'<', .., end] => zeros.extend([b'0', *end]),
+            _ => zeros.extend(part),
+        }
+    }
+    zeros
 }
 
 /// The first line of a text, the first two, and so on, each with its byte 10 where it has one.

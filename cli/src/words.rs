@@ -100,11 +100,12 @@ fn hint(refused: &Refused<'_>) -> String {
         refusal,
         line,
         codes,
+        agrees_with_zeros,
     } = refused;
     match (refusal.number, kind) {
         (1, _) | (_, Kind::Readings) => size(*kind, text),
         (_, Kind::Reference) => reference::hint(&text.bytes, *refusal),
-        (_, Kind::Record) => record::hint(&text.bytes, *refusal, codes),
+        (_, Kind::Record) => record::hint(&text.bytes, *refusal, codes, *agrees_with_zeros),
         (_, Kind::Settings) => settings::hint(&text.bytes, *line),
     }
 }

@@ -124,7 +124,7 @@ fn hints_are_short_lines_of_printable_characters() {
             heading::form(Line::of(&line), "REF"),
             reference::hint(&text, refusal),
             reference::hint(&line, refusal),
-            record::hint(&line, refusal, &CODES),
+            record::hint(&line, refusal, &CODES, random.index(2) == 0),
             reading::hint(refusal, &line, &CODES),
             settings::hint(&line, place),
             refused_reading(refusal, &line, &CODES),
@@ -188,7 +188,7 @@ fn something_is_seen_on_a_refused_line_of_a_record() {
         let text = random.damaged(RECORD);
         let read = cundarivo::read_record(&[0, 0, 6, 0, 0, 8], 3, 2, &[1, 4], &text);
         if let Err(refusal @ Refusal { number: 11, .. }) = read {
-            let hint = record::hint(&text, refusal, &[1, 4]);
+            let hint = record::hint(&text, refusal, &[1, 4], false);
             require_short(&hint, &text);
             let forms = ["line 2 is", "line 3 is", "from line 4", "the heading is"];
             assert!(

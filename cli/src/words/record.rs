@@ -2,6 +2,7 @@
 
 use super::line::{self, Line};
 use super::{counted, field, heading, number};
+use crate::examined::DISAGREES;
 use crate::refusals;
 use crate::types;
 use cundarivo::{ROWS, Refusal};
@@ -10,12 +11,18 @@ use std::ops::RangeInclusive;
 /// The most digits of a number.
 const DIGITS: usize = 19;
 
-/// `codes` are those of the reference text.
-pub fn hint(text: &[u8], refusal: Refusal, codes: &[u8]) -> String {
+/// What is said of a record that agrees with the rows where each value below detection counts as 0.
+const AGREES_WITH_ZEROS: &str = "the record agrees with these rows where each value below detection \
+     counts as 0, as in earlier records; such a value now counts as half its limit, rounded down: draw \
+     the record again from this reference text";
+
+/// `codes` are those of the reference text; `agrees_with_zeros` is that of `Refused`.
+pub fn hint(text: &[u8], refusal: Refusal, codes: &[u8], agrees_with_zeros: bool) -> String {
     let heading = Line::numbered(text, 1);
     match refusal.number {
         11 => form(text, refusal.line),
-        12 => disagreement(heading, codes),
+        DISAGREES if agrees_with_zeros => AGREES_WITH_ZEROS.to_string(),
+        DISAGREES => disagreement(heading, codes),
         number => refusals::remedy(number).to_string(),
     }
 }
@@ -147,5 +154,5 @@ fn disagreement(heading: Option<Line<'_>>, codes: &[u8]) -> String {
         }
         false => format!("the record has the tags {record}, and the reference text {reference}"),
     };
-    format!("{seen}; {}", refusals::remedy(12))
+    format!("{seen}; {}", refusals::remedy(DISAGREES))
 }

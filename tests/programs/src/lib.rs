@@ -37,6 +37,14 @@ pub const EXAMPLES: [&str; 3] = ["purified-water", "water-for-injection", "chill
 pub const REFERENCE: &str = "REF,2,TOC,CND\nA,0,0\nB,6,0\nC,0,8\n";
 pub const RECORD: &str = "ENV,2,TOC,CND\nC,196608,262144\nR,107374182400,107374182400,2,S\n\
                           W,2,32768\nW,3,32768\n";
+/// Rows that are those of the example where values below detection count as 0. They count as half, which gives
+/// another ball: beside these rows the example's record is one that was drawn with zeros.
+pub const BELOW_DETECTION: &str = "REF,2,TOC,CND\nA,0,0\nB,6,<4\nC,<4,8\n";
+/// What the command says of such a record, besides its name.
+pub const DRAWN_WITH_ZEROS: &str = "refused by 12: record that disagrees with the rows\n  \
+    the record agrees with these rows where each value below detection counts as 0, as in earlier \
+    records; such a value now counts as half its limit, rounded down: draw the record again from this \
+    reference text\n";
 /// A reading of its centre.
 pub const READING: &str = "LOOP-1,TOC,3,CND,4\n";
 pub const SETTINGS: &str = "1,1\n2,3\n";

@@ -1,14 +1,15 @@
 //! `envelope redraw`: what it draws, leaves alone, turns back and tells.
 
-use programs::call::run;
+use outside::drawn_as_0::in_each_place;
+use programs::call::{Way, run};
 use programs::folder::Folder;
-use programs::process::{command, end, redirected};
+use programs::process::{Ended, command, end, redirected};
 use programs::redrawn::{
     ONE_ROW, ONE_ROW_RECORD, ONE_ROW_TOLD, REFERENCE_TOLD, assert_counts, assert_told, command_of,
     other_names, redraw,
 };
 use programs::script::path;
-use programs::{EXAMPLES, RECORD, REFERENCE, example};
+use programs::{BELOW_DETECTION, DRAWN_WITH_ZEROS, EXAMPLES, READING, RECORD, REFERENCE, example};
 use std::ffi::OsStr;
 use std::fs::{self, File, Permissions};
 use std::os::unix::ffi::OsStrExt;
@@ -165,6 +166,87 @@ fn what_was_there_before_is_told() {
         let (_, told) = ended.text().split_once("; before: ").expect("a change");
         assert_eq!(told.lines().next(), Some(before), "{old:?}");
     }
+}
+
+/// The rows of document 01's example, and one that lies in its ball whether it counts as 0 or as half.
+const INSIDE: &str = "REF,2,TOC,CND\nA,0,0\nB,6,0\nC,0,8\nD,<4,<4\n";
+/// Four corners, and a first row in their ball, from which the drawing goes to other corners where it counts
+/// as half.
+const CORNERS: &str = "REF,2,TOC,CND\nA,<18,1\nB,0,0\nC,10,10\nD,0,10\nE,10,0\n";
+
+/// A folder with records of two texts, drawn where values below detection counted as 0.
+fn drawn_with_zeros(texts: [(&str, &str); 2]) -> Folder {
+    let folder = Folder::new();
+    for (name, text) in texts {
+        folder.write(format!("{name}.ref"), text);
+        let record = outside::programs::draw(&in_each_place(text.as_bytes(), b"0"));
+        folder.write(format!("{name}.env"), record);
+    }
+    folder
+}
+
+/// Runs a program in a folder on the reference text and the record of a name. `judge` takes a reading besides.
+fn run_in(folder: &Folder, program: &str, name: &str) -> Ended {
+    let files = ["ref", "env"].map(|kind| format!("{name}.{kind}"));
+    let mut command = Way::Command.command(program, &files);
+    end(command.current_dir(folder.path()), READING.as_bytes())
+}
+
+/// Asserts what `verify` and `judge` print of texts whose record agrees.
+fn assert_agree(folder: &Folder, name: &str) {
+    run_in(folder, "verify", name).assert_printed("OK\n", 0);
+    run_in(folder, "judge", name).assert_printed("QUIET\n", 0);
+}
+
+/// One has other figures, and is refused until it is redrawn; the other is the one that is drawn.
+#[test]
+fn records_drawn_with_zeros_are_redrawn_once() {
+    let folder = drawn_with_zeros([("differs", BELOW_DETECTION), ("kept", INSIDE)]);
+    for name in ["differs", "kept"] {
+        let record = folder.read(format!("{name}.env"));
+        assert_eq!(record, RECORD.as_bytes(), "{name}");
+    }
+    for program in ["verify", "judge"] {
+        let ended = run_in(&folder, program, "differs");
+        assert_eq!((ended.text(), ended.status), ("NO,12,0\n", 1));
+        let told = format!("envelope: 'differs.env': {DRAWN_WITH_ZEROS}");
+        assert_eq!(ended.messages, told);
+    }
+    assert_agree(&folder, "kept");
+    let kept = identity(&folder, "kept.env");
+    let figures = "centre TOC 2.1 ppb, CND 0.0037 µS/cm, radius 4.3 steps";
+    let lines = [
+        &format!("drawn differs.ref: {figures}; before: {REFERENCE_TOLD}"),
+        "unchanged kept.ref",
+        "1 drawn, 1 unchanged, 0 refused, 0 failed",
+    ];
+    assert_told(&redraw(&folder), &lines, 0);
+    assert_eq!(identity(&folder, "kept.env"), kept);
+    let drawn = outside::programs::draw(BELOW_DETECTION.as_bytes());
+    assert_eq!(folder.read("differs.env"), drawn);
+    for name in ["differs", "kept"] {
+        assert_agree(&folder, name);
+    }
+    assert_counts(&redraw(&folder), [0, 2, 0, 0]);
+}
+
+/// The same ball, which other rows hold: the record agrees as it is, and is replaced by the one that is drawn.
+#[test]
+fn a_record_drawn_with_zeros_that_agrees_is_replaced_where_another_is_drawn() {
+    let folder = drawn_with_zeros([("corners", CORNERS), ("kept", INSIDE)]);
+    let before = folder.read("corners.env");
+    assert_agree(&folder, "corners");
+    let figures = "centre TOC 5.0 ppb, CND 0.0050 µS/cm, radius 7.1 steps";
+    let lines = [
+        &format!("drawn corners.ref: {figures}; before: {figures}"),
+        "unchanged kept.ref",
+        "1 drawn, 1 unchanged, 0 refused, 0 failed",
+    ];
+    assert_told(&redraw(&folder), &lines, 0);
+    let drawn = outside::programs::draw(CORNERS.as_bytes());
+    assert_eq!(folder.read("corners.env"), drawn);
+    assert_ne!(drawn, before);
+    assert_agree(&folder, "corners");
 }
 
 #[test]

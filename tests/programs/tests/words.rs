@@ -2,10 +2,15 @@
 //! hostile bytes. Beside each fixture, `NAME.said` has the status, standard output, and behind `--` the
 //! whole standard error.
 
+use outside::drawn_as_0::in_each_place;
+use outside::program_inputs::Source;
+use outside::random::{Random, count_from_environment, seed_from_environment};
 use programs::folder::Folder;
 use programs::process::{Ended, command, end};
 use programs::script::{envelope, path};
-use programs::{READING, RECORD, REFERENCE, TEXT_LIMIT, accepted};
+use programs::{
+    BELOW_DETECTION, DRAWN_WITH_ZEROS, READING, RECORD, REFERENCE, SETTINGS, TEXT_LIMIT, accepted,
+};
 use std::path::{Path, PathBuf};
 
 /// The fixtures that are accepted, of which nothing is said.
@@ -17,6 +22,10 @@ const ACCEPTED: [&str; 5] = [
     "swapped-columns-toc-cnd-headings.ref",
 ];
 const REFUSED: usize = 50;
+const SEED: u64 = 300;
+const INPUTS: u64 = 150;
+/// Each answer is met in at least one of so many.
+const INPUT_SHARE: u64 = 15;
 const READINGS: [&str; 2] = ["crlf.readings", "day.readings"];
 /// The most bytes of a line on standard error: a name of 60 bytes as `\xHH` and a hint of 400.
 const LINE_LIMIT: usize = 700;
@@ -151,9 +160,13 @@ fn every_command_tells_a_refused_text() {
 }
 
 /// Asserts what is told of a record beside the rows of document 01's example.
-fn assert_record(record: &str, (number, line): (u32, u32), hint: &str) {
+fn assert_record(record: &str, refusal: (u32, u32), hint: &str) {
+    assert_record_beside(REFERENCE, record, refusal, hint);
+}
+
+fn assert_record_beside(reference: &str, record: &str, (number, line): (u32, u32), hint: &str) {
     let folder = Folder::new();
-    let reference = folder.write("x.ref", REFERENCE);
+    let reference = folder.write("x.ref", reference);
     let words = ["verify".as_ref(), reference.as_os_str()];
     let ended = envelope(&words, record.as_bytes());
     assert_eq!(ended.text(), format!("NO,{number},{line}\n"), "{record:?}");
@@ -285,27 +298,172 @@ fn records_with_a_faulty_heading() {
     }
 }
 
+/// Of the record of document 01's example, so that it disagrees with the rows.
+const RECORD_CHANGES: [(&str, &str); 4] = [
+    ("C,196608", "C,196609"),
+    ("W,2,32768", "W,2,32767"),
+    ("W,3", "W,4"),
+    (",2,S", ",2,B"),
+];
+const OTHER_ROWS: &str = "the record does not agree with these rows: it is of others, or was changed; \
+                          draw it again from this reference text, or find the one that it is of";
+
+/// Asserts that a record is said to be of other rows, or changed.
+fn assert_other_rows(reference: &str, record: &str) {
+    assert_record_beside(reference, record, (12, 0), OTHER_ROWS);
+}
+
+fn assert_drawn_with_zeros(reference: &str, record: &str) {
+    let (_, hint) = DRAWN_WITH_ZEROS.split_once("\n  ").expect("a hint");
+    assert_record_beside(reference, record, (12, 0), hint.trim_end());
+}
+
 #[test]
 fn records_that_disagree() {
-    let again = "draw it again from this reference text, or find the one that it is of";
-    let rows = format!(
-        "the record does not agree with these rows: it is of others, or was changed; {again}"
-    );
-    for (from, to) in [
-        ("C,196608", "C,196609"),
-        ("W,2,32768", "W,2,32767"),
-        ("W,3", "W,4"),
-        (",2,S", ",2,B"),
-    ] {
-        assert_record(&RECORD.replacen(from, to, 1), (12, 0), &rows);
+    for (from, to) in RECORD_CHANGES {
+        assert_other_rows(REFERENCE, &RECORD.replacen(from, to, 1));
     }
     let one = "ENV,1,TOC\nC,196608\nR,107374182400,107374182400,2,S\nW,2,32768\nW,3,32768\n";
     let exchanged = RECORD.replacen("TOC,CND", "CND,TOC", 1);
+    let (_, again) = OTHER_ROWS.split_once("; ").expect("what to do");
     for (record, tags) in [(one, "TOC"), (&exchanged, "CND,TOC")] {
         let hint =
             format!("the record has the tags {tags}, and the reference text TOC,CND; {again}");
-        assert_record(record, (12, 0), &hint);
+        for reference in [REFERENCE, BELOW_DETECTION] {
+            assert_record_beside(reference, record, (12, 0), &hint);
+        }
     }
+}
+
+/// By every command that reads a record.
+#[test]
+fn a_record_drawn_with_zeros() {
+    let folder = Folder::new();
+    let texts = [
+        ("ref", BELOW_DETECTION),
+        ("env", RECORD),
+        ("settings", SETTINGS),
+        ("day", READING),
+    ];
+    for (name, text) in texts {
+        folder.write(name, text);
+    }
+    for words in [
+        &["verify", "ref", "env"][..],
+        &["panel", "ref", "env"],
+        &["judge", "ref", "env", "day"],
+        &["judge", "--explain", "ref", "env", "day"],
+        &["alerts", "ref", "env", "settings", "day"],
+        &["show", "ref", "env"],
+    ] {
+        let ended = end(command(path()).args(words).current_dir(folder.path()), b"");
+        assert_eq!((ended.status, ended.text()), (1, "NO,12,0\n"), "{words:?}");
+        assert_eq!(
+            ended.messages,
+            format!("envelope: 'env': {DRAWN_WITH_ZEROS}")
+        );
+    }
+}
+
+/// The moves are taken as written, here too.
+#[test]
+fn the_moves_of_a_record_drawn_with_zeros_are_its_own() {
+    let moved = RECORD.replacen(",2,S", ",3,S", 1);
+    assert_drawn_with_zeros(BELOW_DETECTION, &moved);
+}
+
+#[test]
+fn a_record_drawn_with_zeros_of_the_most_values() {
+    let rows: String = (0..256)
+        .map(|row| format!("POINT-{row:06}{}\n", ",<2000".repeat(8)))
+        .collect();
+    let tags = ["ORP"; 8].join(",");
+    let record = format!("ENV,8,{tags}\nC{}\nR,0,0,0,S\nW,1,65536\n", ",0".repeat(8));
+    assert_drawn_with_zeros(&format!("REF,8,{tags}\n{rows}"), &record);
+}
+
+#[test]
+fn a_record_changed_by_hand_beside_values_below_detection() {
+    for (from, to) in RECORD_CHANGES {
+        assert_other_rows(BELOW_DETECTION, &RECORD.replacen(from, to, 1));
+    }
+}
+
+/// Also where they count as 0, and where only some of them do.
+#[test]
+fn a_record_of_other_rows_beside_values_below_detection() {
+    for rows in [
+        "A,0,0\nB,7,0\nC,0,8\n",
+        "A,0,0\nB,6,2\nC,0,8\n",
+        "A,0,0\nB,6,4\nC,4,8\n",
+    ] {
+        let other = outside::programs::draw(format!("REF,2,TOC,CND\n{rows}").as_bytes());
+        let other = String::from_utf8(other).expect("a record");
+        assert!(other.starts_with("ENV,"), "{other}");
+        assert_other_rows(BELOW_DETECTION, &other);
+    }
+}
+
+/// There is nothing that could count as 0, or it counts as 0 either way.
+#[test]
+fn a_record_that_disagrees_beside_plain_values() {
+    assert_other_rows("REF,2,TOC,CND\nA,0,0\nB,6,2\nC,2,8\n", RECORD);
+    for (from, to) in RECORD_CHANGES {
+        assert_other_rows(
+            &REFERENCE.replace(",0", ",<1"),
+            &RECORD.replacen(from, to, 1),
+        );
+    }
+}
+
+/// A record drawn with zeros, as it is or with another digit.
+fn seeded_record(random: &mut Random, zeros: &[u8]) -> Vec<u8> {
+    let mut record = outside::programs::draw(zeros);
+    if random.once_in(2) {
+        let digits = (0..record.len()).filter(|&place| record[place].is_ascii_digit());
+        let digits: Vec<usize> = digits.collect();
+        record[random.pick(&digits)] = b'0' + random.index(10) as u8;
+    }
+    record
+}
+
+/// The hint is that of zeros exactly where the outside implementation finds the record to agree with these
+/// alone.
+#[test]
+fn seeded_records_drawn_with_zeros() {
+    let seed = seed_from_environment(SEED);
+    let mut random = Random::new(seed);
+    let inputs = count_from_environment("INPUTS", INPUTS);
+    let [mut with_zeros, mut others, mut accepted, mut malformed] = [0; 4];
+    for input in 0..inputs {
+        println!("seed {seed}, input {input}");
+        let text = Source::new(&mut random).reference.bytes();
+        let zeros = in_each_place(&text, b"0");
+        let record = seeded_record(&mut random, &zeros);
+        let answers = [&text, &zeros].map(|text| outside::programs::verify(text, &record));
+        let text = String::from_utf8(text).expect("a text");
+        let record = String::from_utf8(record).expect("a record");
+        match answers.each_ref().map(Vec::as_slice) {
+            [b"OK\n", _] => accepted += 1,
+            [b"NO,12,0\n", b"OK\n"] => {
+                assert_drawn_with_zeros(&text, &record);
+                with_zeros += 1;
+            }
+            [b"NO,12,0\n", _] => {
+                assert_other_rows(&text, &record);
+                others += 1;
+            }
+            // Not in form: another digit can be a leading zero, or a row that does not rise.
+            [answer, _] => {
+                assert!(answer.starts_with(b"NO,11,"), "{answer:?}");
+                malformed += 1;
+            }
+        }
+    }
+    let met = [with_zeros, others, accepted];
+    println!("{met:?}, not in form {malformed}");
+    let enough = met.iter().all(|&count| count >= inputs / INPUT_SHARE);
+    assert!(enough, "seed {seed}: {met:?}");
 }
 
 /// Judges readings against document 01's example.
