@@ -1,14 +1,14 @@
 -- Settings as they are split.
 --     firstAt, secondAt     k and c of a setting, by their places among the numbers
 --     split-done            numbers that are given to their places are split
-use Prim.Native.Nat.{ℕ, _+_, _*_, _/_, _≤_, _<_}
+use Prim.Native.Nat.{ℕ, _+_, _*_, _/_, _≤_, _<_, zero-le}
 use mathlib.Core.Path.{_≡_, sym, ap₂, _∙_}
 use mathlib.Core.List.{List}
 use native.Mathlib.Decide.{decLt}
 use native.Mathlib.Omega.{arith}
 use lib.ListN.{length, getD}
 use Rattle.alert.specs.Contracts.{Positive}
-use Rattle.alert.proofs.LaneSteps.{Laned}
+use Rattle.lists.specs.Placed.{Placed}
 use Rattle.alert_settings.specs.Contracts.{SplitAsked, Split}
 use Rattle.alert_settings.specs.SettingsLaws.{runs-at, settings-count, settings-at}
 
@@ -19,15 +19,15 @@ abbrev pub secondAt : List ℕ → ℕ → ℕ
 secondAt numbers j = getD numbers (2 * j + 1) 0
 
 -- each number that is given is at least 1, and so is what was there before
-positive : (F : ℕ → ℕ) (old new : List ℕ) (count : ℕ) → Laned F old new count → Positive old → ((j : ℕ) → j < count → 1 ≤ F j) → Positive new
+positive : (F : ℕ → ℕ) (old new : List ℕ) (count : ℕ) → Placed F 0 old new count → Positive old → ((j : ℕ) → j < count → 1 ≤ F j) → Positive new
 positive F old new count l before given j h = go (decLt j count)
   where
     go : Dec (j < count) → 1 ≤ getD new j 0
-    go (yes below) = omega (arith, l .given j below, given j below)
-    go (no past) = omega (arith, l .kept j (omega arith), before j h)
+    go (yes below) = omega (arith, l .given j zero-le below, given j below)
+    go (no past) = omega (arith, l .after j (omega arith), before j h)
 
 module _ (numbers ks₀ cs₀ : List ℕ) (asked : SplitAsked numbers ks₀ cs₀) (count : ℕ) (half : count ≡ length numbers / 2) where
-  pub split-done : {ks cs : List ℕ} → Laned (firstAt numbers) ks₀ ks count → Laned (secondAt numbers) cs₀ cs count → Split numbers ks cs
+  pub split-done : {ks cs : List ℕ} → Placed (firstAt numbers) 0 ks₀ ks count → Placed (secondAt numbers) 0 cs₀ cs count → Split numbers ks cs
   split-done {ks} {cs} first second =
       let within = asked .within in
       record {
@@ -40,5 +40,5 @@ module _ (numbers ks₀ cs₀ : List ℕ) (asked : SplitAsked numbers ks₀ cs�
         each = λ d j h.
             let below : j < count = omega (arith, settings-count numbers) in
             settings-at numbers j d h
-            ∙ ap₂ (λ (k c : ℕ). record { k = k; c = c }) (sym (first .given j below)) (sym (second .given j below));
+            ∙ ap₂ (λ (k c : ℕ). record { k = k; c = c }) (sym (first .given j zero-le below)) (sym (second .given j zero-le below));
       }

@@ -1,7 +1,7 @@
 -- Laws of the drawing.
 --     runFrom-spent                               the moves are at most the budget, and all of it where the weights are not Settled
 --     goes-on, stops                              the test for another move
---     start-length, start-total, start-rest       the places of the first weights, their sum, and those past the first row
+--     start-length, start-total, start-first, start-rest     the places of the first weights, their sum, the first row's and the others
 --     drawing-limits, -budget, -drawn             the three answers of a drawing
 use Prim.Native.Nat.{ℕ, _≤_, _<_}
 use mathlib.Core.Path.{_≡_, refl, _∙_}
@@ -14,7 +14,7 @@ use borrow.Author.Tests.{ltb-true, ltb-false, le-leb, lt-leb, not-true}
 use lib.Dec.{ltb}
 use lib.IntN.{ℤ}
 use lib.ListN.{length, replicate, length-set, length-replicate, getD-replicate, List·getD-eq-default}
-use lib.Seq.{getD-set-other}
+use lib.Seq.{getD-set-same, getD-set-other}
 use Rattle.integers.specs.SumLaws.{sumℕ-set, sumℕ-zero, sumℕ-cong}
 use Rattle.refusal.specs.Number.{outside-limits, budget-too-large}
 use Rattle.refusal.specs.Outcome.{refused}
@@ -64,6 +64,10 @@ start-total limit D m some most =
     let kept = sumℕ-set (zeros limit) m 0 D some (omega (arith, length-replicate {A = ℕ} limit 0)) in
     let none = sumℕ-cong m (λ i l. zero-at limit i (omega arith)) ∙ sumℕ-zero m in
     omega (arith, zero-at limit 0 (omega arith))
+
+pub start-first : (limit D : ℕ) → 0 < limit → weightOf (start limit D) 0 ≡ D
+unfolding start
+start-first limit D some = getD-set-same (replicate limit 0) 0 D 0 (omega (arith, length-replicate {A = ℕ} limit 0))
 
 -- all but the first place is 0
 pub start-rest : (limit D i : ℕ) → 0 < i → weightOf (start limit D) i ≡ 0

@@ -9,18 +9,19 @@ ghost use Rattle.drawing.specs.Draw.{start, runFrom, drawn, notDrawn};
 ghost use Rattle.geometry.specs.Contracts.{Table};
 ghost use Rattle.drawing.specs.Contracts.{Ran, DrawPromise};
 use ball::Ball;
-use ball::ball_of;
+use ball::ball_of_scores;
 use ball::empty_ball;
-use figures::centre;
 use figures::table::rows_within;
 use limits::BUDGET_MOST;
-use limits::CHANNELS;
 use limits::ROWS;
 use limits::TOTAL;
 use moves::Pair;
+use moves::kept::COLUMN_PLACES;
+use moves::kept::COLUMNS;
+use moves::scores::carry_scores;
+use moves::scores::first_scores;
 use moves::step::one_move;
-use moves::step::pair_of;
-use moves::step::shift_centre;
+use moves::step::pair_of_scores;
 use moves::step::transfer_of;
 use refusal::Outcome;
 
@@ -32,10 +33,9 @@ pub struct Drawing {
     pub moves: u32,
 }
 
-// The end of a run of moves: the weights, X, the pair of rows that the weights have, and the moves made.
+// The end of a run of moves: the weights, the pair of rows that the weights have, by e, and the moves made.
 struct Ended {
     weights: [u32; ROWS],
-    scaled_centre: [i64; CHANNELS],
     pair: Pair,
     moves: u32,
 }
@@ -59,27 +59,42 @@ fn goes_on(difference: u64, separation: u64, moves: u32, budget: u32) -> bool
     moves < budget
 }
 
-// The moves. X is carried from move to move.
+// The moves. e of each row is carried from move to move, with columns of squared distances kept beside it.
 fn run(rows: &[i32], m: usize, n: usize, budget: u32) -> Ended
     requires { ⌜ Table (now rows) m n ⌝ }
     ensures { λ r. ⌜ Ran total rowLimit (now (rows .entry)) m n budget r ⌝ }
 {
     let mut weights = all_on_first();
-    let mut scaled_centre = centre::scaled_centre(rows, m, n, &weights);
-    let mut pair = pair_of(rows, m, n, &weights, &scaled_centre);
+    let mut scores = [0u64; ROWS];
+    let mut columns = [0u32; COLUMN_PLACES];
+    let mut kept = [ROWS; COLUMNS];
+    let mut slots = [0usize; ROWS];
+    let mut next = first_scores(rows, m, n, &mut scores, &mut columns, &mut kept, &mut slots);
+    let mut pair = pair_of_scores(rows, m, n, &weights, &scores);
     let mut moves: u32 = 0;
     while goes_on(pair.difference, pair.separation, moves, budget) {
         let from = pair.near;
         let to = pair.far;
         let t = transfer_of(pair.difference, pair.separation, weights[from]);
         weights = one_move(weights, from, to, t);
-        scaled_centre = shift_centre(scaled_centre, rows, n, from, to, t);
-        pair = pair_of(rows, m, n, &weights, &scaled_centre);
+        next = carry_scores(
+            rows,
+            m,
+            n,
+            from,
+            to,
+            t,
+            &mut scores,
+            &mut columns,
+            &mut kept,
+            &mut slots,
+            next,
+        );
+        pair = pair_of_scores(rows, m, n, &weights, &scores);
         moves += 1;
     }
     Ended {
         weights,
-        scaled_centre,
         pair,
         moves,
     }
@@ -104,9 +119,8 @@ fn drawn_within(rows: &[i32], m: usize, n: usize, budget: u32) -> Drawing
 {
     let ended = run(rows, m, n, budget);
     let weights = ended.weights;
-    let scaled_centre = ended.scaled_centre;
     let pair = ended.pair;
-    let ball = ball_of(rows, m, n, &weights, scaled_centre, pair);
+    let ball = ball_of_scores(rows, m, n, &weights, pair);
     Drawing {
         outcome: Outcome::Accepted,
         ball,

@@ -3,6 +3,7 @@
 pub mod Figures
 pub mod Select
 pub mod Move
+pub mod Scores
 pub mod Table
 pub mod Places
 pub mod Contracts
@@ -11,4 +12,5 @@ pub mod TableLaws
 pub mod FigureLaws
 pub mod SelectLaws
 pub mod MoveLaws
+pub mod ScoreLaws
 pub mod Demand

@@ -7,6 +7,7 @@
 --     nearest-weighted                      the near row has weight, if a row has
 --     nearest-least                         no weighted row's score is below the near row's
 --     nearest-lowest                        every weighted row below the near row has a larger score
+--     farthest-agree, nearest-agree         two orders and scores that agree on the m rows find the same row
 --     farthest-cong, nearest-cong, largest-cong     what is found depends on the m rows alone
 -- What a pass over m rows keeps once it has seen i of them, for any order and score, and so for a pass of the code:
 --     FarSoFar                              the far row of those i rows, and its score
@@ -96,7 +97,7 @@ module _ {A : Type 0} (less : A → A → Bool) (score : ℕ → A) where
 
 -- two orders and scores that agree on the m rows
 module _ {A B : Type 0} (less : A → A → Bool) (score : ℕ → A) (less' : B → B → Bool) (score' : ℕ → B) where
-  farthest-agree : (m : ℕ) → ((j i : ℕ) → j < m → i < m → less (score j) (score i) ≡ less' (score' j) (score' i))
+  pub farthest-agree : (m : ℕ) → ((j i : ℕ) → j < m → i < m → less (score j) (score i) ≡ less' (score' j) (score' i))
       → farthest less score m ≡ farthest less' score' m
   unfolding farthest
   farthest-agree zero h = refl
@@ -170,18 +171,20 @@ module _ {A : Type 0} (less : A → A → Bool) (w : ℕ → ℕ) (score : ℕ �
       (ap (λ b. b && (eqb (w j) 0 || less (score i) (score j))) (sym (lt-ltb 0 (w i) k)) ∙ h) in
       (omega (arith, eqb-false (w j) 0 (p .0)), p .1)
 
-module _ {A : Type 0} (less : A → A → Bool) (w w' : ℕ → ℕ) (score score' : ℕ → A) where
-  replaces-cong : (m : ℕ) → ((i : ℕ) → i < m → w i ≡ w' i) → ((i : ℕ) → i < m → score i ≡ score' i)
-      → (j i : ℕ) → j < m → i < m → replaces less w score j i ≡ replaces less w' score' j i
+module _ {A B : Type 0} (less : A → A → Bool) (w : ℕ → ℕ) (score : ℕ → A) (less' : B → B → Bool) (w' : ℕ → ℕ) (score' : ℕ → B) where
+  pub nearest-agree : (m : ℕ) → ((i : ℕ) → i < m → w i ≡ w' i)
+      → ((j i : ℕ) → j < m → i < m → less (score j) (score i) ≡ less' (score' j) (score' i))
+      → nearest less w score m ≡ nearest less' w' score' m
   unfolding replaces
-  replaces-cong m h k j i l r = ap₂ _&&_ (ap (ltb 0) (h i r)) (ap₂ _||_ (ap (λ x. eqb x 0) (h j l)) (ap₂ less (k i r) (k j l)))
-
-  pub nearest-cong : (m : ℕ) → ((i : ℕ) → i < m → w i ≡ w' i) → ((i : ℕ) → i < m → score i ≡ score' i)
-      → nearest less w score m ≡ nearest less w' score' m
-  nearest-cong m h k =
+  nearest-agree m h k =
       nearest-farthest less w score m ∙
-      farthest-agree (replaces less w score) (λ i. i) (replaces less w' score') (λ i. i) m (replaces-cong m h k) ∙
-      sym (nearest-farthest less w' score' m)
+      farthest-agree (replaces less w score) (λ i. i) (replaces less' w' score') (λ i. i) m
+      (λ j i l r. ap₂ _&&_ (ap (ltb 0) (h i r)) (ap₂ _||_ (ap (λ x. eqb x 0) (h j l)) (k i j r l))) ∙
+      sym (nearest-farthest less' w' score' m)
+
+pub nearest-cong : {A : Type 0} (less : A → A → Bool) (w w' : ℕ → ℕ) (score score' : ℕ → A) (m : ℕ) → ((i : ℕ) → i < m → w i ≡ w' i)
+    → ((i : ℕ) → i < m → score i ≡ score' i) → nearest less w score m ≡ nearest less w' score' m
+nearest-cong less w w' score score' m h k = nearest-agree less w score less w' score' m h (λ j i l r. ap₂ less (k j l) (k i r))
 
 module _ {A : Type 0} {less : A → A → Bool} (strict : Strict less) (w : ℕ → ℕ) (score : ℕ → A) where
   replaces-strict : Strict (replaces less w score)

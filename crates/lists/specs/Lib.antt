@@ -2,3 +2,4 @@
 pub mod Each
 pub mod Gathered
 pub mod Padded
+pub mod Placed

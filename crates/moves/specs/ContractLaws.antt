@@ -1,22 +1,26 @@
--- What moving t from one row to another keeps, for any two rows and any t that the first has.
+-- What moving t from one row to another keeps, for any two rows and any t that the first has; and the scores beside the weights.
 --     movable           weights within the machine's bound can be moved
 --     weights-moved     the weights still sum to D
---     centre-moved      X carried beside them is still theirs
-use Prim.Native.Nat.{ℕ, _≤_, _<_}
-use mathlib.Core.Path.{_≡_, sym, _∙_, ap}
+--     scored-within     e is within the limit on s
+--     scored-first      the scores of all weight on the first row
+--     carriable         t can move in them
+--     scored-moved      the scores carried beside the weights are still theirs
+use Prim.Native.Nat.{ℕ, _+_, _*_, _≤_, _<_}
+use mathlib.Core.Path.{_≡_, sym, _∙_, ap₂}
 use mathlib.Core.List.{List}
 use native.Mathlib.Omega.{arith}
-use lib.IntN.{ℤ, pos, _+ℤ_, _-ℤ_, _*ℤ_}
-use Rattle.geometry.specs.Contracts.{WeightsOf, IsCentre}
-use Rattle.geometry.specs.Figures.{scaledCentre}
+use native.Mathlib.Nat.{mul-le-mul-right, zero-add}
+use lib.IntN.{ℤ}
+use lib.ListN.{length}
+use Rattle.geometry.specs.Contracts.{Table, WeightsOf}
 use Rattle.geometry.specs.Move.{weightOf, moveWeight}
-use Rattle.geometry.specs.MoveLaws.{moveWeight-length, moveWeight-total, moveWeight-centre}
-use Rattle.geometry.specs.Places.{centreOf}
-use Rattle.geometry.specs.PlacesLaws.{centreList-at, centreList-cong}
+use Rattle.geometry.specs.MoveLaws.{moveWeight-length, moveWeight-total}
+use Rattle.geometry.specs.ScoreLaws.{score-part, score-first, score-moved, score-within}
+use Rattle.geometry.specs.Scores.{weightedSquaredDistance}
 use Rattle.geometry.specs.Table.{coordinate}
 use Rattle.geometry.specs.TableLaws.{weights-within, weight-most}
-use Rattle.limits.specs.Limits.{total, channelLimit}
-use Rattle.moves.specs.Contracts.{Movable, shiftCentre}
+use Rattle.limits.specs.Limits.{total}
+use Rattle.moves.specs.Contracts.{scoreOf, columnOf, Movable, ScoresWithin, Scored, Raised, Carriable, Carried}
 
 module _ {D m : ℕ} {ws : List ℕ} (g : WeightsOf D m ws) {t from to : ℕ} (hf : from < m) (ht : to < m) (capped : t ≤ weightOf ws from) where
   pub movable : D ≤ total → Movable t from to ws
@@ -36,15 +40,45 @@ module _ {D m : ℕ} {ws : List ℕ} (g : WeightsOf D m ws) {t from to : ℕ} (h
         sum = moveWeight-total ws m t from to (g .places) hf ht capped ∙ g .sum;
       }
 
-  pub centre-moved : (rows : List ℤ) (n : ℕ) {x : List ℤ} → n ≤ channelLimit → IsCentre rows m n ws x
-      → IsCentre rows m n (moveWeight t from to ws) (shiftCentre rows n from to t x)
-  unfolding shiftCentre
-  centre-moved rows n {x} channels e = centreList-cong n _ _ channels at
-    where
-      at : (k : ℕ) → k < n
-          → centreOf x k +ℤ pos t *ℤ (coordinate rows n to k -ℤ coordinate rows n from k)
-          ≡ scaledCentre (coordinate rows n) (weightOf (moveWeight t from to ws)) m k
-      at k l =
-          ap (λ y. y +ℤ pos t *ℤ (coordinate rows n to k -ℤ coordinate rows n from k))
-          (ap (λ y. centreOf y k) e ∙ centreList-at n (scaledCentre (coordinate rows n) (weightOf ws) m) k channels l)
-          ∙ sym (moveWeight-centre ws m t from to (g .places) hf ht capped (coordinate rows n) k)
+-- ---- scores
+
+pub scored-within : {D : ℕ} {rows : List ℤ} {m n : ℕ} {ws scores : List ℕ} → 0 < D → D ≤ total → Table rows m n → WeightsOf D m ws
+    → Scored rows m n ws scores → ScoresWithin m scores
+scored-within some most t g s =
+    record { places = s .places; most = λ i l. omega (arith, s .are i l, score-within t some g i l, most) }
+
+-- all weight on the first row: the scores have risen from 0 by that weight times its column
+pub scored-first : {rows : List ℤ} {m n D : ℕ} {ws before scores : List ℕ} → 0 < m → m ≤ length before → weightOf ws 0 ≡ D
+    → ((j : ℕ) → 0 < j → weightOf ws j ≡ 0) → ((i : ℕ) → i < m → scoreOf before i ≡ 0) → Raised rows m n 0 D before scores → Scored rows m n ws scores
+scored-first {rows} {m} {n} {D} {ws} {before} {scores} some places first rest zeros raised =
+    record { places = omega (arith, raised .same-length); are = each }
+  where
+    above : {j : ℕ} → (j ≡ 0 → ⊥) → 0 < j
+    above apart = omega arith
+
+    each : (i : ℕ) → i < m → scoreOf scores i ≡ weightedSquaredDistance m n (coordinate rows n) (weightOf ws) i
+    each i l =
+        raised .are i l ∙ ap₂ (λ (z d : ℕ). z + d * columnOf rows n 0 i) (zeros i l) (sym first) ∙ zero-add (weightOf ws 0 * columnOf rows n 0 i)
+        ∙ sym (score-first m n (coordinate rows n) (weightOf ws) 0 some (λ j h apart. rest j (above apart)) i)
+
+-- e of every row holds its part of the row that loses t, since that row has t
+pub carriable : {D : ℕ} {rows : List ℤ} {m n : ℕ} {ws scores : List ℕ} {t from to : ℕ} → 0 < D → D ≤ total → Table rows m n → WeightsOf D m ws
+    → Scored rows m n ws scores → from < m → to < m → t ≤ weightOf ws from → Carriable rows m n from to t scores
+carriable {D} {rows} {m} {n} {ws} {scores} {t} {from} some most table g s hf ht capped =
+    record {
+      table = table;
+      from-within = hf;
+      to-within = ht;
+      factor = omega (arith, capped, weight-most (weights-within most g) from hf);
+      within = scored-within some most table g s;
+      held = λ i l.
+          omega (arith, mul-le-mul-right (columnOf rows n from i) capped, score-part m n (coordinate rows n) (weightOf ws) i from hf, s .are i l);
+    }
+
+pub scored-moved : {rows : List ℤ} {m n : ℕ} {ws scores later : List ℕ} {t from to : ℕ} → m ≤ length ws → from < m → to < m → t ≤ weightOf ws from
+    → Scored rows m n ws scores → Carried rows m n from to t scores later → Scored rows m n (moveWeight t from to ws) later
+scored-moved {rows} {m} {n} {ws} {scores} {later} {t} {from} {to} places hf ht capped s carried =
+    record {
+      places = omega (arith, carried .same-length, s .places);
+      are = λ i l. omega (arith, carried .are i l, s .are i l, score-moved m n (coordinate rows n) ws t from to places hf ht capped i);
+    }

@@ -1,61 +1,62 @@
-// The far and the near row, each by one pass over the rows in order, so that ties go to the lowest row.
+// The far and the near row by their scores, each by one pass over the rows in order, so that ties go to the lowest row.
+ghost use Prim.Native.Nat.{_≤_, _<_};
+ghost use mathlib.Core.Path.{_≡_};
+ghost use lib.IntN.{pos};
 ghost use lib.Dec.{ltb};
 ghost use Rattle.geometry.specs.Select.{farthest, nearest};
 ghost use Rattle.geometry.specs.Move.{weightOf};
-ghost use Rattle.geometry.specs.Contracts.{CentreWithin, Table, WeightsOf};
-ghost use Rattle.limits.specs.Limits.{total};
-ghost use Rattle.moves.specs.Contracts.{FoundRow, score};
+ghost use Rattle.geometry.specs.Contracts.{WeightsOf};
+ghost use Rattle.limits.specs.Limits.{total, distanceLimit};
+ghost use Rattle.moves.specs.Contracts.{FoundRow, ScoresWithin, scoreOf};
 use crate::Selected;
-use figures::distance;
 
-// The row with the largest s of all rows.
-pub fn farthest_row(rows: &[i32], m: usize, n: usize, scaled_centre: &[i64]) -> Selected
-    requires { ⌜ Table (now rows) m n × CentreWithin n (now «scaled_centre») ⌝ }
-    ensures { λ r. ⌜ FoundRow total (now (rows .entry)) m n (now («scaled_centre» .entry)) (farthest ltb (score total (now (rows .entry)) n (now («scaled_centre» .entry))) m) r ⌝ }
+// A score as a signed number, whose comparison and choice take the machine one step less.
+fn signed(score: u64) -> i64
+    requires { ⌜ score ≤ distanceLimit total ⌝ }
+    ensures { λ r. ⌜ r ≡ pos score ⌝ }
+{
+    score as i64
+}
+
+// The row with the largest score of all rows.
+pub fn farthest_row(scores: &[u64], m: usize) -> Selected
+    requires { ⌜ (0 < m) × ScoresWithin m (now scores) ⌝ }
+    ensures { λ r. ⌜ FoundRow (now (scores .entry)) m (farthest ltb (scoreOf (now (scores .entry))) m) r ⌝ }
 {
     let mut row = 0;
-    let mut scaled_squared_distance = distance::scaled_squared_distance(rows, n, 0, scaled_centre);
+    let mut score = signed(scores[0]);
     let mut i = 1;
     while i < m {
-        let candidate = distance::scaled_squared_distance(rows, n, i, scaled_centre);
-        if scaled_squared_distance < candidate {
+        let candidate = signed(scores[i]);
+        if score < candidate {
             row = i;
-            scaled_squared_distance = candidate;
+            score = candidate;
         }
         i += 1;
     }
     Selected {
         row,
-        scaled_squared_distance,
+        score: scores[row],
     }
 }
 
-// The row with the smallest s among the rows of weight above 0. What is kept before the first of them is above every s.
-pub fn nearest_row(
-    rows: &[i32],
-    m: usize,
-    n: usize,
-    weights: &[u32],
-    scaled_centre: &[i64],
-) -> Selected
-    requires { ⌜ Table (now rows) m n × (CentreWithin n (now «scaled_centre») × WeightsOf total m (now weights)) ⌝ }
-    ensures { λ r. ⌜ FoundRow total (now (rows .entry)) m n (now («scaled_centre» .entry)) (nearest ltb (weightOf (now (weights .entry))) (score total (now (rows .entry)) n (now («scaled_centre» .entry))) m) r ⌝ }
+// The row with the smallest score among the rows of weight above 0. What is kept before the first of them is above every score.
+pub fn nearest_row(scores: &[u64], weights: &[u32], m: usize) -> Selected
+    requires { ⌜ ScoresWithin m (now scores) × WeightsOf total m (now weights) ⌝ }
+    ensures { λ r. ⌜ FoundRow (now (scores .entry)) m (nearest ltb (weightOf (now (weights .entry))) (scoreOf (now (scores .entry))) m) r ⌝ }
 {
     let mut row = 0;
-    let mut scaled_squared_distance = u64::MAX;
+    let mut score = u64::MAX;
     let mut i = 0;
     while i < m {
         if 0 < weights[i] {
-            let candidate = distance::scaled_squared_distance(rows, n, i, scaled_centre);
-            if candidate < scaled_squared_distance {
+            let candidate = scores[i];
+            if candidate < score {
                 row = i;
-                scaled_squared_distance = candidate;
+                score = candidate;
             }
         }
         i += 1;
     }
-    Selected {
-        row,
-        scaled_squared_distance,
-    }
+    Selected { row, score }
 }

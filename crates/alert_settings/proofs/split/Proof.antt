@@ -1,29 +1,29 @@
 -- The loop gives each place of the two slices its number. A place past the settings stays as it was.
-use Prim.Native.Nat.{_-_, _≤_}
+use Prim.Native.Nat.{_-_, _≤_, zero-le}
 use mathlib.Core.Path.{refl}
 use native.Mathlib.Omega.{arith}
 use borrow.Author.Needs.{needs}
-use Rattle.alert.proofs.LaneSteps.{Laned, laned-none, laned-next}
+use Rattle.lists.specs.Placed.{Placed, placed-none, placed-next}
 use Rattle.alert_settings.proofs.SplitSteps.{firstAt, secondAt, split-done}
 use Rattle.alert_settings.proofs.split.Statement.{statement}
 use Rattle.alert_settings.proofs.split.Tie as tie
 
 abbrev Inv-loop : tie.InvT-loop
-Inv-loop settings ks₀ cs₀ count j₀ ks cs j = Laned (firstAt settings) ks₀ ks j × Laned (secondAt settings) cs₀ cs j × (j ≤ count)
+Inv-loop settings ks₀ cs₀ count j₀ ks cs j = Placed (firstAt settings) 0 ks₀ ks j × Placed (secondAt settings) 0 cs₀ cs j × (j ≤ count)
 
 abbrev μ-loop : tie.MeasureT-loop
 μ-loop settings ks₀ cs₀ count j₀ ks cs j = count - j
 
 loop-holds : tie.Need-loop-holds Inv-loop μ-loop
-loop-holds c = (laned-none _, laned-none _, omega arith)
+loop-holds c = (placed-none, placed-none, omega arith)
 
 loop-again : tie.Need-loop-again Inv-loop μ-loop
 loop-again c =
     let at-loop = c .before .before .before in
     let asked = at-loop .before .pre in
     let inv = at-loop .loop .inv in (
-      laned-next _ (inv .0) _ (omega (arith, asked .ks-places)) refl,
-      laned-next _ (inv .1) _ (omega (arith, asked .cs-places)) refl,
+      placed-next (inv .0) _ zero-le (omega (arith, asked .ks-places)) refl,
+      placed-next (inv .1) _ zero-le (omega (arith, asked .cs-places)) refl,
       omega arith,
     )
 

@@ -7,7 +7,7 @@ use Rattle.drawing.proofs.drawn_within.Tie as tie
 returns : tie.Need-returns
 returns c =
     let at-weights2 = c .before in
-    drew (at-weights2 .before .before .before .before .run .ensures) (c .ball-of .ensures)
+    drew (at-weights2 .before .before .before .run .ensures) (c .ball-of-scores .ensures)
 
 pub drawn-within-spec : {M : Type 1} → statement M
 drawn-within-spec =

@@ -20,10 +20,10 @@ set-lowers ws j k v l h = go (ℕ-discrete k j)
     go (yes e) = subst (λ i. getD (set ws j v) i 0 ≤ getD ws i 0) (sym e) (omega (arith, getD-set-same ws j v 0 l))
     go (no e) = omega (arith, getD-set-other ws j k v 0 e)
 
-add-changed : tie.Need-add-changed
-add-changed c =
+add-weights : tie.Need-add-weights
+add-weights c =
     let a = c .args in
-    omega (arith, set-lowers (a .weights) (a .from) (a .to) (getD (a .weights) (a .from) 0 - a .t) (omega arith) (omega arith))
+    omega (arith, set-lowers (a .t1) (a .from) (a .to) (getD (a .t1) (a .from) 0 - a .t) (omega arith) (omega arith))
 
 returns : tie.Need-returns
 unfolding moveWeight
@@ -40,7 +40,7 @@ one-move-spec =
     (λ c. search needs)
     (λ c. search needs)
     (λ c. search needs)
-    add-changed
+    add-weights
     (λ c. search needs)
     (λ c. search needs)
     returns)
