@@ -5,10 +5,12 @@
 --     type-short               and the tag of each code of a table with short tags
 --     TagsApart b types        no tag of the table starts with this byte
 --     house-apart              none of document 01's starts with `N`
+--     house-free               no comma stands in document 01's tags
 --     tag-within               what holds a tag in three places counts at most three
---     tag-taken                the first of the three places hold the tag
+--     tag-taken, tag-length    the first of the three places hold the tag, as many as its length
+--     tag-first                what is compared with them is compared with the tag
 use Prim.Native.Nat.{ℕ, zero, suc, _≤_}
-use mathlib.Core.Path.{_≡_, refl, sym, ap, subst, _∙_}
+use mathlib.Core.Path.{_≡_, refl, sym, ap, ap₂, subst, _∙_}
 use mathlib.Core.Bool.{Bool, true, false, not, cond, _&&_}
 use mathlib.Core.List.{List, [], _∷_}
 use borrow.Author.Tests.{leb-true, not-true}
@@ -17,6 +19,7 @@ use lib.ListN.{length, getD, take}
 use Rattle.integers.specs.Tests.{both}
 use Rattle.lists.specs.Padded.{padded-take}
 use Rattle.text.specs.Ascii.{byte}
+use Rattle.text.specs.Parts.{comma, same, free}
 use Rattle.channel.specs.Channel.{ChannelType, noType, Types, typeOf, tagOf, typeIn, typesOf, houseTypes, channelTypes}
 use Rattle.channel.specs.Contracts.{tagPlaces}
 use Rattle.limits.specs.Limits.{tagLimit}
@@ -80,6 +83,10 @@ pub house-apart : TagsApart (byte "N") channelTypes
 unfolding everyTag houseTypes
 house-apart = record { apart = λ code. not-true (eqb (getD (tagOf channelTypes code) 0 0) (byte "N")) (every-tag (isApart (byte "N")) refl houseTypes refl code) }
 
+pub house-free : (code : ℕ) → free comma (tagOf channelTypes code) ≡ true
+unfolding everyTag houseTypes free
+house-free code = every-tag (free comma) refl houseTypes refl code
+
 -- ---- a tag in three places
 
 module _ (r : Tag) (tag : List ℕ) (e : r ≡ tagPlaces tag) (short : length tag ≤ tagLimit) where
@@ -88,3 +95,9 @@ module _ (r : Tag) (tag : List ℕ) (e : r ≡ tagPlaces tag) (short : length ta
 
   pub tag-taken : take (r .length) (r .bytes) ≡ tag
   tag-taken = ap (λ (t : Tag). take (t .length) (t .bytes)) e ∙ padded-take tagLimit tag short
+
+  pub tag-length : r .length ≡ length tag
+  tag-length = ap (λ (t : Tag). t .length) e
+
+  pub tag-first : (l : List ℕ) → same (take (r .length) (r .bytes)) (take (r .length) l) ≡ same tag (take (length tag) l)
+  tag-first l = ap₂ (λ t k. same t (take k l)) tag-taken tag-length

@@ -3,13 +3,15 @@
 // the functions here.
 ghost use mathlib.Core.Path.{_≡_};
 ghost use Prim.Native.Nat.{_≤_, _<_};
-ghost use lib.ListN.{length, getD, take};
+ghost use lib.ListN.{length, getD, take, drop};
 ghost use Rattle.lent.specs.Filled.{filled};
 ghost use Rattle.text.specs.Parts.{same};
+ghost use Rattle.text.specs.Contracts.{FieldRead};
 ghost use Rattle.channel.specs.Channel.{channelTypes, codeOf, tagOf, known, codesKnown, houseTypes, houseCount, typeIn, noType};
 ghost use Rattle.channel.specs.Contracts.{rangeOf, tagIn, tagAt};
 ghost use Rattle.limits.specs.Limits.{tagLimit};
 use limits::TAG_MOST;
+use text::parts::field_end;
 
 // the code of a type: one byte
 pub type Code = u8;
@@ -41,6 +43,12 @@ pub struct Range {
 pub struct Tag {
     pub bytes: [u8; TAG_MOST],
     pub length: usize,
+}
+
+// Whether the field that starts somewhere in a line is a tag, and where it ends.
+pub struct TagAt {
+    pub agrees: bool,
+    pub end: usize,
 }
 
 // The place of a code in the tables, or their length for a code of no type.
@@ -128,11 +136,36 @@ fn has_bytes(field: &[u8], tag: Tag) -> bool
     field[2] == bytes[2]
 }
 
-// Whether a field is the tag of the type with this code.
-pub fn is_tag(field: &[u8], code: Code) -> bool
-    ensures { λ r. ⌜ r ≡ same (tagOf channelTypes code) (now (field .entry)) ⌝ }
+// Whether a tag stands at an index of a line.
+fn stands_at(line: &[u8], at: usize, tag: Tag) -> bool
+    requires { ⌜ (tag .length ≤ tagLimit) × (at ≤ length (now line)) ⌝ }
+    ensures { λ r. ⌜ r ≡ same (take (tag .length) (tag .bytes)) (take (tag .length) (drop at (now (line .entry)))) ⌝ }
 {
-    has_bytes(field, tag_of(code))
+    let next = at + tag.length;
+    if line.len() < next {
+        return false;
+    }
+    has_bytes(&line[at..next], tag)
+}
+
+// Whether the field of a line that starts at `at` is the tag of the type with this code, and where it ends.
+pub fn read_tag(line: &[u8], at: usize, code: Code) -> TagAt
+    requires { ⌜ at ≤ length (now line) ⌝ }
+    ensures { λ r. ⌜ FieldRead (same (tagOf channelTypes code)) (now (line .entry)) at (r .agrees) (r .end) ⌝ }
+{
+    let tag = tag_of(code);
+    if !stands_at(line, at, tag) {
+        return TagAt {
+            agrees: false,
+            end: field_end(line, at),
+        };
+    }
+    let next = at + tag.length;
+    let end = field_end(line, next);
+    TagAt {
+        agrees: end == next,
+        end,
+    }
 }
 
 // The code of the type with this tag, 0 where there is none.

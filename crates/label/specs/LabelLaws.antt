@@ -2,13 +2,12 @@
 --     digit-at                         the digit of a byte, by the three tests
 --     digit-most                       a digit is at most labelByteCount
 --     key-long, key-short              the key of a field that is too long for a label, and of any other
+--     key-none                         a field whose bytes have no key has none
 --     key-stop, key-further, key-done  the key from an index on, by the digit of the byte there, and at the end
 --     digit-below, digit-fits          one digit more is one power of keyBase more; no more than a label has are below keyBase ^ labelLimit
 --     key-label                        the key is 0 where the field is no label, and only there
 --     label-short                      a label has at most 12 bytes
---     label-empty, label-long          a field of no bytes, or of more than 12, is no label
---     label-within                     any other is one by its bytes
---     bytes-stop, bytes-further, bytes-done  whether the bytes from an index on may stand in a label, by the digit of the byte there, and at the end
+--     label-empty                      a field of no bytes is no label
 --     key-injective                    labels with the same key are the same
 --     label-free                       a label has no byte that may not stand in one
 --     no-digit, no-hyphen              a byte that stands in no label is no digit and no hyphen
@@ -24,7 +23,7 @@ use lib.Dec.{eqb, leb}
 use lib.ListN.{length, getD, drop, drop-of-length-le}
 use lib.Seq.{drop-cons}
 use Rattle.text.specs.Parts.{free}
-use Rattle.integers.specs.Tests.{both, clash, neither}
+use Rattle.integers.specs.Tests.{both, clash, neither, cond-same}
 use Rattle.number.specs.Number.{hyphen, digitZero, digitNine, isDigit}
 use Rattle.label.specs.Label.{letterA, letterZ, isLetter, isLabelByte, labelBytes, isLabel}
 use Rattle.limits.specs.Limits.{labelLimit}
@@ -89,6 +88,10 @@ key-long f h = ap (λ t. cond t (keyFrom f 0) 0) h
 pub key-short : (f : List ℕ) → leb (length f) labelLimit ≡ true → labelKey f ≡ keyFrom f 0
 unfolding labelKey
 key-short f h = ap (λ t. cond t (keyFrom f 0) 0) h
+
+pub key-none : (f : List ℕ) → keyFrom f 0 ≡ 0 → labelKey f ≡ 0
+unfolding labelKey
+key-none f h = ap (λ k. cond (leb (length f) labelLimit) k 0) h ∙ cond-same (leb (length f) labelLimit) 0
 
 pub key-done : (f : List ℕ) (i k : ℕ) → length f ≤ i → keyFrom (drop i f) k ≡ k
 unfolding keyFrom
@@ -164,41 +167,9 @@ label-parts l h =
 pub label-short : (l : List ℕ) → isLabel l ≡ true → length l ≤ labelLimit
 label-short l e = leb-true (length l) labelLimit (label-parts l e .0)
 
--- ---- labels by their bytes
-
-module _ (l : List ℕ) where
-  pub label-empty : length l ≡ 0 → isLabel l ≡ false
-  unfolding isLabel
-  label-empty h = ap (λ n. (leb 1 n && leb n labelLimit) && labelBytes l) h
-
-  -- a field that is not empty
-  module _ (some : 1 ≤ length l) where
-    by-limit : (t : Bool) → leb (length l) labelLimit ≡ t → isLabel l ≡ (t && labelBytes l)
-    unfolding isLabel
-    by-limit t h = ap₂ (λ x y. (x && y) && labelBytes l) (le-leb 1 (length l) some) h
-
-    pub label-long : leb (length l) labelLimit ≡ false → isLabel l ≡ false
-    label-long = by-limit false
-
-    pub label-within : leb (length l) labelLimit ≡ true → isLabel l ≡ labelBytes l
-    label-within = by-limit true
-
-pub bytes-done : (f : List ℕ) (i : ℕ) → length f ≤ i → labelBytes (drop i f) ≡ true
-unfolding labelBytes
-bytes-done f i h = ap labelBytes (drop-of-length-le f h)
-
-module _ (f : List ℕ) (i d : ℕ) (h : i < length f) (e : d ≡ labelDigit (getD f i 0)) where
-  bytes-at : (t : Bool) → leb 1 d ≡ t → labelBytes (drop i f) ≡ (t && labelBytes (drop (i + 1) f))
-  unfolding labelBytes
-  bytes-at t p =
-      ap labelBytes (drop-cons f i 0 h)
-      ∙ ap₂ (λ x j. x && labelBytes (drop j f)) (sym (digit-read (getD f i 0) .positive) ∙ ap (leb 1) (sym e) ∙ p) (sym (add-one i))
-
-  pub bytes-stop : d ≡ 0 → labelBytes (drop i f) ≡ false
-  bytes-stop z = bytes-at false (ap (leb 1) z)
-
-  pub bytes-further : (d ≡ 0 → ⊥) → labelBytes (drop i f) ≡ labelBytes (drop (i + 1) f)
-  bytes-further n = bytes-at true (le-leb 1 d (omega arith))
+pub label-empty : (l : List ℕ) → length l ≡ 0 → isLabel l ≡ false
+unfolding isLabel
+label-empty l h = ap (λ n. (leb 1 n && leb n labelLimit) && labelBytes l) h
 
 -- ---- labels by their keys
 

@@ -1,14 +1,16 @@
 // Labels: 1 to 12 bytes of A-Z, 0-9 and hyphen. There are 37 such bytes and 38^12 is below 2^64, so that a label is told from
 // every other one by a number.
+pub mod marks;
 pub mod row;
 
 ghost use mathlib.Core.Path.{_≡_};
-ghost use lib.Dec.{leb};
+ghost use Prim.Native.Nat.{min};
 ghost use lib.ListN.{length};
 ghost use Rattle.limits.specs.Limits.{labelLimit};
-ghost use Rattle.label.specs.Label.{isLabel};
 ghost use Rattle.label.specs.Key.{labelDigit, labelKey};
+ghost use Rattle.label.specs.Contracts.{FirstFieldRead};
 use limits::LABEL_MOST;
+use text::parts::field_end;
 
 // how many bytes may stand in a label: 26 letters, 10 digits and the hyphen
 const LABEL_BYTE_COUNT: u64 = 26 + 10 + 1;
@@ -20,11 +22,21 @@ const BEFORE_LETTERS: u8 = b'A' - 1;
 
 const BEFORE_DIGITS: u8 = b'0' - 27;
 
-// Whether a field is short enough for a label.
-fn is_short(field: &[u8]) -> bool
-    ensures { λ r. ⌜ r ≡ leb (length (now (field .entry))) labelLimit ⌝ }
+// A line's first field: the number of the label that it is, 0 where it is none, and where it ends.
+pub struct LabelField {
+    pub key: u64,
+    pub end: usize,
+}
+
+// How many bytes from the start of a line on can be those of a label.
+fn label_room(line: &[u8]) -> usize
+    ensures { λ r. ⌜ r ≡ min (length (now (line .entry))) labelLimit ⌝ }
 {
-    field.len() <= LABEL_MOST
+    if line.len() < LABEL_MOST {
+        line.len()
+    } else {
+        LABEL_MOST
+    }
 }
 
 // 1 to 26 for a letter, 27 to 36 for a digit, 37 for a hyphen, 0 for any other byte.
@@ -39,42 +51,35 @@ fn label_digit(byte: u8) -> u64
     }
 }
 
-// The number of a label, 0 where the field is no label.
-pub fn label_key(field: &[u8]) -> u64
-    ensures { λ r. ⌜ r ≡ labelKey (now (field .entry)) ⌝ }
+// The first field of a line, its bytes gone through once: past the bytes of a label it ends, or it is none.
+pub fn label_field(line: &[u8]) -> LabelField
+    ensures { λ r. ⌜ FirstFieldRead labelKey (now (line .entry)) (r .key) (r .end) ⌝ }
 {
-    if !is_short(field) {
-        return 0;
-    }
+    let room = label_room(line);
     let mut key: u64 = 0;
     let mut i = 0;
-    while i < field.len() {
-        let digit = label_digit(field[i]);
+    while i < room {
+        let digit = label_digit(line[i]);
         if digit == 0 {
-            return 0;
+            break;
         }
         key = key * KEY_BASE + digit;
         i += 1;
     }
-    key
+    let end = field_end(line, i);
+    if end != i {
+        return LabelField { key: 0, end };
+    }
+    LabelField { key, end }
 }
 
-// Whether a field is a label.
-pub fn is_label(field: &[u8]) -> bool
-    ensures { λ r. ⌜ r ≡ isLabel (now (field .entry)) ⌝ }
+// The number of a label, 0 where the field is no label: it is none where a comma stands in it.
+pub fn label_key(field: &[u8]) -> u64
+    ensures { λ r. ⌜ r ≡ labelKey (now (field .entry)) ⌝ }
 {
-    if field.len() == 0 {
-        return false;
+    let first = label_field(field);
+    if first.end < field.len() {
+        return 0;
     }
-    if !is_short(field) {
-        return false;
-    }
-    let mut i = 0;
-    while i < field.len() {
-        if label_digit(field[i]) == 0 {
-            return false;
-        }
-        i += 1;
-    }
-    true
+    first.key
 }

@@ -1,6 +1,6 @@
 -- The two laws of plain numbers, `plain-print` and `print-plain`, by which each number has exactly one written form; and what leads to
 -- them.
---     range-digit, below-digit, above-digit      a byte from that of 0 to that of 9 is a digit, and no other
+--     range-digit, below-digit                   a byte from that of 0 to that of 9 is a digit, and none below it
 --     digit-step, digit-none                     the first byte of a field of digits is a digit, or the field is no number
 --     digit-read                                 the first byte of a field that is a number (`Digit`)
 --     digits-past                                digits after other digits
@@ -15,7 +15,7 @@
 --     print-magnitude                            what is read as n is what n is printed as
 --     print-led                                  a printed number without a sign starts with a digit
 --     print-natural, print-negative              a printed number, by its magnitude and the test of its sign
---     plain-empty, plain-signed, plain-unsigned  a plain number, by its first byte
+--     plain-signed, plain-unsigned               a plain number, by its first byte
 --     plain-print                                a printed number is read as itself
 --     print-plain                                what is read as z is what z is printed as
 --     print-free                                 only digits and the hyphen stand in a printed number
@@ -36,7 +36,7 @@ use lib.ListN.{length, getD, drop, length-append}
 use lib.Seq.{append-snoc}
 use lib.Signed.{ltZ}
 use Rattle.integers.specs.Absolute.{abs-nonneg}
-use Rattle.integers.specs.Tests.{clash, unlike, both, range-in, range-under, range-over}
+use Rattle.integers.specs.Tests.{clash, unlike, both, range-in, range-under}
 use Rattle.text.specs.Ascii.{byte}
 use Rattle.text.specs.Parts.{free}
 use Rattle.number.specs.Number.{hyphen, digitZero, digitNine, isDigit, digitsFrom, magnitudeOf, negated, plain, decimal, printMagnitude, print}
@@ -48,9 +48,6 @@ range-digit b h k = range-in digitZero digitNine b h k
 
 pub below-digit : (b : ℕ) → b < digitZero → isDigit b ≡ false
 below-digit b h = range-under digitZero digitNine b h
-
-pub above-digit : (b : ℕ) → digitNine < b → isDigit b ≡ false
-above-digit b h = range-over digitZero digitNine b h
 
 -- the byte b is a digit, and with it after those of n the digits l make m
 pub record Digit (b : ℕ) (l : List ℕ) (n m : ℕ) : Type 0 where
@@ -255,11 +252,6 @@ print-magnitude (b ∷ l) n h = go (eqb b digitZero) refl
         print-nonzero b l n apart (sym (magnitude-first (b ∷ l) (omega arith) apart) ∙ h)
 
 -- ---- plain numbers
-
-pub plain-empty : (l : List ℕ) → length l ≡ 0 → plain l ≡ none
-unfolding plain
-plain-empty [] h = refl
-plain-empty (b ∷ l) h = absurd (omega arith)
 
 pub plain-signed : (l : List ℕ) → 0 < length l → getD l 0 0 ≡ hyphen → plain l ≡ negated (magnitudeOf (drop 1 l))
 unfolding plain

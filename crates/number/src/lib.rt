@@ -2,8 +2,12 @@
 // and out of every range, and one of at most 19 digits is told from a longer one.
 ghost use mathlib.Core.Path.{_≡_};
 ghost use Prim.Native.Nat.{_≤_};
-ghost use Rattle.number.specs.Number.{digitZero, digitNine, digitsFrom, magnitudeOf, plain};
-ghost use Rattle.number.specs.Contracts.{magnitudeLimit, grown, magnitudeRead, plainRead};
+ghost use lib.ListN.{length};
+ghost use Rattle.text.specs.Contracts.{FieldRead};
+ghost use Rattle.number.specs.Number.{digitZero, digitNine, isDigit};
+ghost use Rattle.number.specs.Contracts.{magnitudeLimit, grown, LeadingDigits, unsignedField, withSign, plainField};
+use text::parts::field_end;
+use text::parts::past_byte;
 
 // 10^19: the least number of more than 19 digits
 pub const MAGNITUDE_MOST: u64 = 10_000_000_000_000_000_000;
@@ -29,6 +33,24 @@ pub enum Plain {
     Number { negative: bool, magnitude: u64 },
 }
 
+// The digits that stand somewhere in a line, as a number, and the index after them.
+struct Run {
+    magnitude: u64,
+    end: usize,
+}
+
+// What the field that starts somewhere in a line holds, and where it ends.
+struct MagnitudeAt {
+    magnitude: Magnitude,
+    end: usize,
+}
+
+// The same for a field that may be a plain number.
+pub struct PlainAt {
+    pub number: Plain,
+    pub end: usize,
+}
+
 // The magnitude with one more digit.
 fn with_digit(magnitude: u64, byte: u8) -> u64
     requires { ⌜ (magnitude ≤ magnitudeLimit) × (digitZero ≤ byte) × (byte ≤ digitNine) ⌝ }
@@ -41,68 +63,103 @@ fn with_digit(magnitude: u64, byte: u8) -> u64
     }
 }
 
-fn digits(field: &[u8]) -> Magnitude
-    ensures { λ r. ⌜ r ≡ magnitudeRead (digitsFrom (now (field .entry)) 0) ⌝ }
+// Whether a byte is that of a digit.
+fn is_digit(byte: u8) -> bool
+    ensures { λ r. ⌜ r ≡ isDigit byte ⌝ }
+{
+    if byte < ZERO {
+        return false;
+    }
+    byte <= NINE
+}
+
+// The digits that stand from `at` on, and the index after them.
+fn leading_digits(line: &[u8], at: usize) -> Run
+    requires { ⌜ at ≤ length (now line) ⌝ }
+    ensures { λ r. ⌜ LeadingDigits (now (line .entry)) at (r .magnitude) (r .end) ⌝ }
 {
     let mut magnitude: u64 = 0;
-    let mut i = 0;
-    while i < field.len() {
-        let byte = field[i];
-        if byte < ZERO {
-            return Magnitude::Malformed;
-        }
-        if NINE < byte {
-            return Magnitude::Malformed;
+    let mut i = at;
+    while i < line.len() {
+        let byte = line[i];
+        if !is_digit(byte) {
+            return Run { magnitude, end: i };
         }
         magnitude = with_digit(magnitude, byte);
         i += 1;
     }
-    Magnitude::Saturated(magnitude)
+    Run { magnitude, end: i }
 }
 
-// A number without a sign: digits without a leading zero.
-fn unsigned(field: &[u8]) -> Magnitude
-    ensures { λ r. ⌜ r ≡ magnitudeRead (magnitudeOf (now (field .entry))) ⌝ }
+// The field of a line that starts at `at` as a number without a sign: digits without a leading zero.
+fn unsigned_at(line: &[u8], at: usize) -> MagnitudeAt
+    requires { ⌜ at ≤ length (now line) ⌝ }
+    ensures { λ r. ⌜ FieldRead unsignedField (now (line .entry)) at (r .magnitude) (r .end) ⌝ }
 {
-    if field.len() == 0 {
-        return Magnitude::Malformed;
+    let run = leading_digits(line, at);
+    let digits_end = run.end;
+    let end = field_end(line, digits_end);
+    let malformed = MagnitudeAt {
+        magnitude: Magnitude::Malformed,
+        end,
+    };
+    if digits_end != end {
+        return malformed;
     }
-    if 1 < field.len() {
-        if field[0] == ZERO {
-            return Magnitude::Malformed;
+    if at == end {
+        return malformed;
+    }
+    if at + 1 < end {
+        if line[at] == ZERO {
+            return malformed;
         }
     }
-    digits(field)
+    MagnitudeAt {
+        magnitude: Magnitude::Saturated(run.magnitude),
+        end,
+    }
 }
 
-pub fn plain_number(field: &[u8]) -> Plain
-    ensures { λ r. ⌜ r ≡ plainRead (plain (now (field .entry))) ⌝ }
+// The number with this sign: none is `-0`.
+fn with_sign(negative: bool, whole: Magnitude) -> Plain
+    ensures { λ r. ⌜ r ≡ withSign negative whole ⌝ }
 {
-    if field.len() == 0 {
-        return Plain::Malformed;
-    }
-    if field[0] != HYPHEN {
-        let whole = unsigned(field);
-        return match whole {
-            Magnitude::Malformed => Plain::Malformed,
-            Magnitude::Saturated(magnitude) => Plain::Number {
-                negative: false,
-                magnitude,
-            },
-        };
-    }
-    let rest = unsigned(&field[1..]);
-    match rest {
+    match whole {
         Magnitude::Malformed => Plain::Malformed,
         Magnitude::Saturated(magnitude) => {
-            if magnitude == 0 {
+            if negative & (magnitude == 0) {
                 Plain::Malformed
             } else {
                 Plain::Number {
-                    negative: true,
+                    negative,
                     magnitude,
                 }
             }
         }
     }
+}
+
+// The field of a line that starts at `at` as a plain number, and where it ends.
+pub fn plain_number_at(line: &[u8], at: usize) -> PlainAt
+    requires { ⌜ at ≤ length (now line) ⌝ }
+    ensures { λ r. ⌜ FieldRead plainField (now (line .entry)) at (r .number) (r .end) ⌝ }
+{
+    let sign = past_byte(line, at, HYPHEN);
+    let unsigned = unsigned_at(line, sign.next);
+    let whole = unsigned.magnitude;
+    PlainAt {
+        number: with_sign(sign.found, whole),
+        end: unsigned.end,
+    }
+}
+
+// A field as a plain number: no comma stands in one.
+pub fn plain_number(field: &[u8]) -> Plain
+    ensures { λ r. ⌜ r ≡ plainField (now (field .entry)) ⌝ }
+{
+    let read = plain_number_at(field, 0);
+    if read.end < field.len() {
+        return Plain::Malformed;
+    }
+    read.number
 }

@@ -8,11 +8,10 @@ ghost use Rattle.text.specs.Parts.{comma, partsFrom};
 ghost use Rattle.channel.specs.Channel.{channelTypes, codesKnown};
 ghost use Rattle.reading_line.specs.Contracts.{PairsRead, LineRead};
 use channel::Code;
-use label::is_label;
-use text::parts::field_end;
+use label::label_field;
 use text::parts::line_end;
 use value::Value;
-use value::read_value;
+use value::read_value_at;
 
 // What a line is: not in form, in form with a tag that is not the envelope's, in form and of its tags with a value outside its
 // range, or within every range.
@@ -38,22 +37,22 @@ fn read_pairs(line: &[u8], at: usize, codes: &[Code], n: usize, places: &mut [i3
         if line.len() < from {
             return Line::Malformed;
         }
-        let tag_end = field_end(line, from);
-        if line.len() == tag_end {
+        let code = codes[i];
+        let tag = channel::read_tag(line, from, code);
+        if line.len() == tag.end {
             return Line::Malformed;
         }
-        let code = codes[i];
-        tags_agree = channel::is_tag(&line[from..tag_end], code) & tags_agree;
-        let value_at = tag_end + 1;
-        let end = field_end(line, value_at);
+        tags_agree = tag.agrees & tags_agree;
+        let value_at = tag.end + 1;
         let range = channel::range_of(code);
-        let value = read_value(&line[value_at..end], range);
+        let read = read_value_at(line, value_at, range);
+        let value = read.value;
         match value {
             Value::Malformed => return Line::Malformed,
             Value::OutOfRange => out_of_range = true,
             Value::Reads(whole) => places[i] = whole,
         }
-        from = end + 1;
+        from = read.end + 1;
         i += 1;
     }
     if from <= line.len() {
@@ -75,11 +74,11 @@ pub fn read_line(line: &[u8], codes: &[Code], n: usize, places: &mut [i32]) -> L
     ensures { λ r.
         ⌜ LineRead channelTypes (take n (now (codes .entry))) (now (line .entry)) (now (places .entry)) (now (places .exit)) r ⌝ }
 {
-    let label_end = field_end(line, 0);
-    if !is_label(&line[..label_end]) {
+    let label = label_field(line);
+    if label.key == 0 {
         return Line::Malformed;
     }
-    let read = read_pairs(line, label_end + 1, codes, n, places);
+    let read = read_pairs(line, label.end + 1, codes, n, places);
     match read {
         Line::Malformed => Line::Malformed,
         Line::TagDiffers => {

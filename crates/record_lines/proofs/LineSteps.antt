@@ -1,5 +1,5 @@
 -- The lines of a record that are read field by field: a word and numbers, and the `C` line.
---     numberOf, number-read                       a field from what is kept of a number
+--     number-read                                 a field from what is kept of a number
 --     number-none, number-some                    what an answer to a field says of it
 --     numbersFirst k fields                       the numbers of the first k fields, if there are so many
 --     NumbersSoFar, numbers-none, numbers-next    the numbers of a line as they are read
@@ -33,38 +33,32 @@ use Rattle.text.specs.PartsLaws.{parts-none, parts-some, parts-from, first-part
 use Rattle.number.specs.Number.{plain, print}
 use Rattle.number.specs.Contracts.{magnitudeLimit, saturated, plainRead}
 use Rattle.number.specs.ContractLaws.{saturated-small}
-use Rattle.number.specs.declared.Plain.{Plain}
 use Rattle.number.specs.declared.Plain.the-variants as written
 use Rattle.record_lines.specs.Lines.{shortNumber, recordNumber, andNumber, numbersOf, numbersLine, centreWord, centreLine}
 use Rattle.record_lines.specs.LinesLaws.{fields-numbers}
-use Rattle.record_lines.specs.Contracts.{heldSigned, held, numberRead, nextOf, numbersStarting, numbersNext, NumbersRead, isThere, CentreRead}
+use Rattle.record_lines.specs.Contracts.{heldSigned, held, keptNumber, numberRead, nextOf, numbersStarting, numbersNext, NumbersRead, isThere, CentreRead}
 use Rattle.record_lines.specs.ContractLaws.{held-fits}
-use Rattle.record_lines.specs.declared.line.Number.{Number}
 use Rattle.record_lines.specs.declared.line.Number.the-variants as number
 
 -- ---- one field
 
-abbrev pub numberOf : Plain → Number
-numberOf written.Malformed = number.Malformed
-numberOf (written.Number negative magnitude) = cond (ltb magnitude magnitudeLimit) (number.Held (heldSigned negative magnitude)) number.Malformed
-
-pub number-read : (field : List ℕ) → numberOf (plainRead (plain field)) ≡ numberRead (recordNumber field)
+pub number-read : (field : List ℕ) → keptNumber (plainRead (plain field)) ≡ numberRead (recordNumber field)
 unfolding recordNumber
 number-read field = go (plain field)
   where
     -- whatever its sign
     kept : (z : ℤ) (negative : Bool) → plainRead (some z) ≡ written.Number negative (saturated (natAbs z)) → held z ≡ heldSigned negative (natAbs z)
-        → (t : Bool) → ltb (natAbs z) magnitudeLimit ≡ t → numberOf (plainRead (some z)) ≡ numberRead (shortNumber (some z))
+        → (t : Bool) → ltb (natAbs z) magnitudeLimit ≡ t → keptNumber (plainRead (some z)) ≡ numberRead (shortNumber (some z))
     kept z negative p h true e =
-        ap numberOf (p ∙ ap (written.Number negative) (saturated-small (natAbs z) (ltb-true (natAbs z) magnitudeLimit e))) ∙ ap₂ (λ t y. cond t (number.Held y) number.Malformed) e (sym h)
+        ap keptNumber (p ∙ ap (written.Number negative) (saturated-small (natAbs z) (ltb-true (natAbs z) magnitudeLimit e))) ∙ ap₂ (λ t y. cond t (number.Held y) number.Malformed) e (sym h)
         ∙ sym (ap (λ t. numberRead (cond t (some z) none)) e)
     kept z negative p h false e =
         let k : ltb (saturated (natAbs z)) magnitudeLimit ≡ false =
         le-ltb (saturated (natAbs z)) magnitudeLimit (omega (arith, ltb-false (natAbs z) magnitudeLimit e)) in
-        ap numberOf p ∙ ap (λ t. cond t (number.Held (heldSigned negative (saturated (natAbs z)))) number.Malformed) k
+        ap keptNumber p ∙ ap (λ t. cond t (number.Held (heldSigned negative (saturated (natAbs z)))) number.Malformed) k
         ∙ sym (ap (λ t. numberRead (cond t (some z) none)) e)
 
-    go : (o : Option ℤ) → numberOf (plainRead o) ≡ numberRead (shortNumber o)
+    go : (o : Option ℤ) → keptNumber (plainRead o) ≡ numberRead (shortNumber o)
     go none = refl
     go (some (pos k)) = kept (pos k) false refl refl (ltb k magnitudeLimit) refl
     go (some (negsuc k)) = kept (negsuc k) true refl refl (ltb (suc k) magnitudeLimit) refl

@@ -2,7 +2,8 @@
 -- 2^63 - 1 or 2^32 - 1; no figure within the limits on an envelope, D being 65,536, is so large.
 --     heldLimit, heldWeightLimit              2^63 - 1 and 2^32 - 1
 --     heldSigned negative magnitude, held z   what an i64 keeps of a number
---     numberRead o                            a field of a record as it is read
+--     keptNumber p                            what a record keeps of a number that is read, if it has at most 19 digits
+--     numberRead o, numberField l             a number of a record, and a field of one, as they are read
 --     heldWeight w                            what a u32 keeps of a weight
 --     nextOf numbers next                     this index, 0 where there are no numbers
 --     numbersStarting word count line         the numbers at the start of a line of a word and so many numbers, if it starts with them
@@ -13,13 +14,17 @@
 --     resultRead, weightRead                  an `R` and a `W` line as they are read
 use Prim.Native.Nat.{ℕ, suc, min}
 use mathlib.Core.Path.{_≡_}
-use mathlib.Core.Bool.{Bool, true, false}
+use mathlib.Core.Bool.{Bool, true, false, cond}
 use mathlib.Core.List.{List, _++_, map}
 use mathlib.Core.Option.{Option, none, some}
+use lib.Dec.{ltb}
 use lib.IntN.{ℤ, pos, negsuc, negℤ}
 use lib.ListN.{length, take, drop}
 use Rattle.text.specs.Parts.{comma, cut, partStart}
-use Rattle.record_lines.specs.Lines.{Result, Weight, numbersLine, centreLine}
+use Rattle.number.specs.Contracts.{magnitudeLimit}
+use Rattle.number.specs.declared.Plain.{Plain}
+use Rattle.number.specs.declared.Plain.the-variants as written
+use Rattle.record_lines.specs.Lines.{Result, Weight, recordNumber, numbersLine, centreLine}
 use Rattle.record_lines.specs.declared.line.Number.{Number}
 use Rattle.record_lines.specs.declared.line.Number.the-variants as number
 use Rattle.record_lines.specs.declared.line.ResultRead.{ResultRead}
@@ -44,11 +49,18 @@ heldWeightLimit = 4294967295
 abbrev pub heldWeight : ℕ → ℕ
 heldWeight w = min w heldWeightLimit
 
+abbrev pub keptNumber : Plain → Number
+keptNumber written.Malformed = number.Malformed
+keptNumber (written.Number negative magnitude) = cond (ltb magnitude magnitudeLimit) (number.Held (heldSigned negative magnitude)) number.Malformed
+
 -- ---- lines
 
 abbrev pub numberRead : Option ℤ → Number
 numberRead none = number.Malformed
 numberRead (some z) = number.Held (held z)
+
+abbrev pub numberField : List ℕ → Number
+numberField l = numberRead (recordNumber l)
 
 abbrev pub nextOf : Option (List ℤ) → ℕ → ℕ
 nextOf none next = 0

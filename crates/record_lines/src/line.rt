@@ -5,8 +5,9 @@ ghost use mathlib.Core.Option.{none};
 ghost use Prim.Native.Nat.{_≤_};
 ghost use lib.ListN.{length};
 ghost use Rattle.limits.specs.Limits.{rowLimit};
-ghost use Rattle.record_lines.specs.Lines.{recordNumber, resultLine, weightLine};
-ghost use Rattle.record_lines.specs.Contracts.{heldSigned, numberRead, NumbersRead, CentreRead, resultRead, weightRead};
+ghost use Rattle.text.specs.Contracts.{FieldRead};
+ghost use Rattle.record_lines.specs.Lines.{resultLine, weightLine};
+ghost use Rattle.record_lines.specs.Contracts.{heldSigned, keptNumber, numberField, NumbersRead, CentreRead, resultRead, weightRead};
 use crate::words::BUDGET_LETTER;
 use crate::words::CENTRE_WORD;
 use crate::words::RESULT_WORD;
@@ -16,7 +17,7 @@ use limits::BUDGET_MOST;
 use limits::ROWS;
 use number::MAGNITUDE_MOST;
 use number::Plain;
-use number::plain_number;
+use number::plain_number_at;
 use text::parts::field_end;
 use text::parts::same_bytes;
 
@@ -29,6 +30,12 @@ const WEIGHT_MOST: i64 = 4_294_967_295;
 pub enum Number {
     Malformed,
     Held(i64),
+}
+
+// What the field that starts somewhere in a line states, and where it ends.
+struct NumberAt {
+    number: Number,
+    end: usize,
 }
 
 // What an `R` line states; every figure is 0 where the line is not in form.
@@ -62,11 +69,10 @@ fn held(negative: bool, magnitude: u64) -> i64
     }
 }
 
-// The number that a field is, if it has at most 19 digits.
-fn read_number(field: &[u8]) -> Number
-    ensures { λ r. ⌜ r ≡ numberRead (recordNumber (now (field .entry))) ⌝ }
+// What a record keeps of a plain number, if it has at most 19 digits.
+fn kept(number: Plain) -> Number
+    ensures { λ r. ⌜ r ≡ keptNumber number ⌝ }
 {
-    let number = plain_number(field);
     match number {
         Plain::Malformed => Number::Malformed,
         Plain::Number {
@@ -78,6 +84,19 @@ fn read_number(field: &[u8]) -> Number
             }
             Number::Held(held(negative, magnitude))
         }
+    }
+}
+
+// The field of a line that starts at `at` as a number of a record, and where it ends.
+fn read_number_at(line: &[u8], at: usize) -> NumberAt
+    requires { ⌜ at ≤ length (now line) ⌝ }
+    ensures { λ r. ⌜ FieldRead numberField (now (line .entry)) at (r .number) (r .end) ⌝ }
+{
+    let read = plain_number_at(line, at);
+    let number = read.number;
+    NumberAt {
+        number: kept(number),
+        end: read.end,
     }
 }
 
@@ -98,13 +117,13 @@ fn read_numbers(line: &[u8], word: &[u8], count: usize, numbers: &mut [i64]) -> 
         if line.len() < from {
             return 0;
         }
-        let end = field_end(line, from);
-        let number = read_number(&line[from..end]);
+        let read = read_number_at(line, from);
+        let number = read.number;
         match number {
             Number::Malformed => return 0,
             Number::Held(whole) => numbers[i] = whole,
         }
-        from = end + 1;
+        from = read.end + 1;
         i += 1;
     }
     from

@@ -30,6 +30,8 @@ use Rattle.text.specs.LinesLaws.{printed-more}
 use Rattle.label.specs.LabelLaws.{label-short}
 use Rattle.label.specs.RowLabel.{isRowLabel, rowLabelKey, labelUsed, keyUsed}
 use Rattle.label.specs.RowLabelLaws.{row-label, row-key-label, Labelled, labelled-more, key-used}
+use Rattle.label.specs.Marks.{markCount, markPlace, Marked}
+use Rattle.label.specs.MarksLaws.{marked-none, marked-more}
 use Rattle.printing.specs.Contracts.{Put}
 use Rattle.printing.specs.ContractLaws.{put-as, put-ended}
 use Rattle.channel.specs.Channel.{channelTypes}
@@ -67,7 +69,7 @@ rowsIn lent = plainRows (lent .n) (labelsLent lent) (lent .rows)
 abbrev textOf : Lent → List Row → List ℕ
 textOf lent rows = printLines (printHeading referenceWord channelTypes (codesIn lent) ∷ map printRow rows)
 
-pub record Walk (lent : Lent) (out keys : List ℕ) (at from place i : ℕ) : Type 0 where
+pub record Walk (lent : Lent) (out keys : List ℕ) (marks : List Bool) (at from place i : ℕ) : Type 0 where
   pub most : i ≤ lent .m
   pub none : NoFault channelTypes lent i
   pub placed : place ≡ i * lent .n
@@ -76,6 +78,7 @@ pub record Walk (lent : Lent) (out keys : List ℕ) (at from place i : ℕ) : Ty
   pub labelled : Labelled (take i (labelsLent lent))
   pub keyed : take i keys ≡ map rowLabelKey (take i (labelsLent lent))
   pub key-places : length keys ≡ rowLimit
+  pub marked : Marked marks (take i keys)
   pub printed : take at out ≡ textOf lent (take i (rowsIn lent))
   pub ends-at : at ≡ length (textOf lent (take i (rowsIn lent)))
   pub room : at ≤ referenceMost i
@@ -101,9 +104,10 @@ module _ {lent : Lent} (l : Taken lent) where
     pub heading-within : r < length out′
     heading-within = omega (arith, heading-short, put .same-length)
 
-    pub walk-start : (keys : List ℕ) → length keys ≡ rowLimit → Walk lent (set out′ r lineEnd) keys (r + 1) 0 0 0
+    pub walk-start : (keys : List ℕ) (marks : List Bool) → length keys ≡ rowLimit → length marks ≡ markCount
+        → Walk lent (set out′ r lineEnd) keys marks (r + 1) 0 0 0
     unfolding printLines
-    walk-start keys long =
+    walk-start keys marks long marks-long =
         let heading = printHeading referenceWord channelTypes (codesIn lent) in
         let line = put-ended put heading-within in
         record {
@@ -115,6 +119,7 @@ module _ {lent : Lent} (l : Taken lent) where
           labelled = λ i h. absurd (omega arith);
           keyed = refl;
           key-places = long;
+          marked = marked-none marks marks-long;
           printed = line .is;
           ends-at = (let whole : r + 1 ≡ length (heading ++ (lineEnd ∷ [])) = omega (arith, line .next) in whole);
           room = heading-short;
@@ -159,7 +164,8 @@ pub record Turn (lent : Lent) (keys : List ℕ) (from place i key fault : ℕ) :
   pub is-repeated : repeated ≡ keyUsed key (take i keys)
   pub is-fault : fault ≡ faultBy (leb 1 key) within repeated
 
-module _ {lent : Lent} (l : Taken lent) {out keys : List ℕ} {at from place i : ℕ} (w : Walk lent out keys at from place i) where
+module _ {lent : Lent} (l : Taken lent) {out keys : List ℕ} {marks : List Bool} {at from place i : ℕ}
+    (w : Walk lent out keys marks at from place i) where
   -- where the label of row i ends
   abbrev end : ℕ
   end = getD (lent .ends) i 0
@@ -268,8 +274,9 @@ module _ {lent : Lent} (l : Taken lent) {out keys : List ℕ} {at from place i :
       none-more j (inr h) = w .none j h
 
       pub walk-next : {out′ : List ℕ} {r : ℕ} → Put (printRow (plainRow part (take (lent .n) numbers)) ++ (lineEnd ∷ [])) out at out′ r
-          → Walk lent out′ (set keys i key) r end (place + lent .n) (i + 1)
-      walk-next {r = r} p =
+          → {marked : List Bool} → marked ≡ set marks (markPlace key) true → Walk lent out′ (set keys i key) marked r end (place + lent .n) (i + 1)
+      walk-next {r = r} p is-marked =
+          let key-room : i < length keys = omega (arith, w .key-places, t .below, l .table .rows-most) in
           let line = printRow (lentRow lent i) ++ (lineEnd ∷ []) in
           let put = put-as p
           (ap₂ (λ (l : List ℕ) (zs : List ℤ). printRow (plainRow l zs) ++ (lineEnd ∷ [])) (label-is (t .below)) (numbers-are (t .below))) refl in
@@ -283,10 +290,11 @@ module _ {lent : Lent} (l : Taken lent) {out keys : List ℕ} {at from place i :
             left = ap (drop 1) (labels-left (t .below));
             labelled = rw label-more (labelled-more earlier label (w .labelled) labelled-here);
             keyed =
-                ap (λ (k : ℕ). take k (set keys i key)) (add-one i) ∙ take-suc-set keys i key (omega (arith, w .key-places, t .below, l .table .rows-most))
+                ap (λ (k : ℕ). take k (set keys i key)) (add-one i) ∙ take-suc-set keys i key key-room
                 ∙ ap₂ (λ (ks : List ℕ) (k : ℕ). ks ++ (k ∷ [])) (w .keyed) key-is
                 ∙ sym (ap (map rowLabelKey) label-more ∙ map-append rowLabelKey earlier (label ∷ []));
             key-places = length-set keys i key ∙ w .key-places;
+            marked = marked-more marks keys i key key-room (w .marked) is-marked;
             printed = put .is ∙ ap (λ (b : List ℕ). b ++ line) (w .printed) ∙ sym next;
             ends-at = omega (arith, put .next, w .ends-at, ap length next, length-append text line);
             room = omega (arith, put .next, w .room, line-short l i (t .below) none-here);

@@ -4,7 +4,7 @@
 ghost use mathlib.Core.Path.{_≡_};
 ghost use mathlib.Core.Bool.{_&&_};
 ghost use mathlib.Core.List.{[], _∷_, _++_, map};
-ghost use Prim.Native.Nat.{ℕ, _+_, _≤_};
+ghost use Prim.Native.Nat.{_+_, _≤_};
 ghost use lib.Dec.{eqb, leb};
 ghost use lib.ListN.{length, take};
 ghost use Rattle.refusal.specs.Outcome.{numberOf};
@@ -22,8 +22,10 @@ ghost use Rattle.reference_write.specs.Contracts.{writtenText, reference
 use channel::Code;
 use channel::range_of;
 use heading::put_heading;
+use label::marks::MARKS;
+use label::marks::mark;
+use label::marks::used_of_marked;
 use label::row::row_label_key;
-use label::row::used;
 use lent::TextWritten;
 use lent::hand_out;
 use lent::not_written;
@@ -140,6 +142,7 @@ fn put_text(
         (now (out .exit)) r ⌝ }
 {
     let mut keys = [0u64; ROWS];
+    let mut marks = [false; MARKS];
     let heading_end = put_heading(out, 0, &WORD, codes, n);
     out[heading_end] = LINE_END;
     let mut at = heading_end + 1;
@@ -153,7 +156,7 @@ fn put_text(
         let numbers = &rows[place..next];
         let key = row_label_key(label);
         let within = row_in_range(numbers, codes, n);
-        let fault = row_fault(key, within, used(&keys, i, key));
+        let fault = row_fault(key, within, used_of_marked(&keys, i, &marks, key));
         if fault != 0 {
             return TextWritten {
                 outcome: refusal::refused_at(fault, FIRST_ROW_LINE + i as u32),
@@ -162,6 +165,7 @@ fn put_text(
         }
         at = put_row(out, at, label, numbers, n);
         keys[i] = key;
+        mark(&mut marks, key);
         from = end;
         place = next;
         i += 1;

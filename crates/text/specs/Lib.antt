@@ -4,8 +4,10 @@ pub mod Ascii
 pub mod Parts
 pub mod Lines
 pub mod EndedLines
+pub mod Fields
 pub mod Contracts
 pub mod PartsLaws
 pub mod LinesLaws
+pub mod FieldsLaws
 pub mod EndedLinesLaws
 pub mod LineCountLaws

@@ -8,6 +8,7 @@
 --     cut-free                         no part has a separator
 --     cut-keeps-free, join-free        a byte that stands nowhere still stands nowhere after cutting, and after joining by another byte
 --     free-append                      a byte stands in neither of two lists
+--     free-next                        the bytes from an index on, by one more
 --     join-length                      the bytes of parts joined, by the first part
 --     join-short                       the most bytes of a part and of others, each after a separator, none of which is longer than k
 --     join-more                        one part more
@@ -17,6 +18,8 @@
 --     parts-from                       the first part from an index is up to its end, the others are those from the index after it
 --     part-end                         within the text a part ends within the text
 --     part-separator                   a part that ends before the text does ends at its separator
+--     end-past                         bytes among which no c stands end no part
+--     end-next                         a byte that is not c ends none
 --     end-found                        what a search for c from an index on finds is where the part ends
 --     free-end                         no byte c stands in a text exactly where the end of its first part is that of the text
 --     end-of-first                     a part with one after it ends at its separator, whatever follows the list
@@ -31,15 +34,15 @@
 --     part-start-drop                  the text from where part k starts is the parts from that one on, joined
 use Prim.Native.Nat.{ℕ, zero, suc, _+_, _-_, _*_, _≤_, _<_, zero-le}
 use mathlib.Core.Path.{_≡_, refl, sym, ap, ap₂, _∙_}
-use mathlib.Core.Bool.{Bool, true, false, not, cond, _&&_, and-assoc}
+use mathlib.Core.Bool.{Bool, true, false, not, cond, _&&_, and-assoc, and-true}
 use mathlib.Core.List.{List, [], _∷_, _++_, map, append-assoc}
 use native.Mathlib.Nat.{mul-suc}
 use native.Mathlib.Numerals.{add-one}
 use native.Mathlib.Omega.{arith}
 use borrow.Author.Tests.{eqb-true, eq-eqb, ne-eqb, le-leb, lt-leb, leb-false, leb-true, not-true}
 use lib.Dec.{eqb, leb}
-use lib.ListN.{length, getD, take, drop, length-append, length-drop, length-take, drop-of-length-le}
-use lib.Seq.{drop-cons, drop-drop, take-length, getD-drop}
+use lib.ListN.{length, getD, take, drop, length-append, length-drop, length-take, drop-of-length-le, take-append-drop}
+use lib.Seq.{drop-cons, drop-drop, take-length, take-suc, length-take-le, getD-drop}
 use Rattle.bytes.specs.Bytes.{indexOf, indexAfter, slice}
 use Rattle.integers.specs.Tests.{both, clash}
 use Rattle.text.specs.Parts.{textWithin, same, extend, cut, join, free, allFree, partEnd, partsFrom, partStart}
@@ -220,6 +223,15 @@ unfolding free
 free-append c [] b = refl
 free-append c (x ∷ a) b = ap (λ t. not (eqb x c) && t) (free-append c a b) ∙ sym (and-assoc (not (eqb x c)) (free c a) (free c b))
 
+pub free-next : (c : ℕ) (s : List ℕ) (at k : ℕ) {clear : Bool} → at + k < length s → clear ≡ free c (take k (drop at s))
+    → (clear && not (eqb (getD s (at + k) 0) c)) ≡ free c (take (k + 1) (drop at s))
+unfolding free
+free-next c s at k h e =
+    let l = drop at s in
+    let byte = and-true (not (eqb (getD l k 0) c)) ∙ ap (λ b. not (eqb b c)) (getD-drop at s k 0) in
+    ap₂ _&&_ e (sym byte)
+    ∙ sym (ap (λ n. free c (take n l)) (add-one k) ∙ ap (free c) (take-suc l k 0 (omega (arith, length-drop at s))) ∙ free-append c (take k l) (getD l k 0 ∷ []))
+
 pub join-free : (c d : ℕ) (ps : List (List ℕ)) → (c ≡ d → ⊥) → allFree d ps ≡ true → free d (join c ps) ≡ true
 unfolding join allFree free
 join-free c d [] h e = refl
@@ -263,6 +275,14 @@ index-append c (b ∷ l) more h = go (eqb b c) h (index-append c l more)
     go true h f = refl
     go false h f = ap suc (f (omega arith))
 
+-- what is free of it does
+index-past : (c : ℕ) (l more : List ℕ) → free c l ≡ true → indexOf c (l ++ more) ≡ length l + indexOf c more
+unfolding indexOf
+index-past c [] more h = omega arith
+index-past c (b ∷ l) more h =
+    let t = free-cons c b l h in
+    ap (λ x. indexAfter x (indexOf c (l ++ more))) (t .0) ∙ ap suc (index-past c l more (t .1)) ∙ omega arith
+
 index-free : (c : ℕ) (l : List ℕ) → (length l ≤ indexOf c l → free c l ≡ true) × (indexOf c l < length l → free c l ≡ false)
 unfolding indexOf free
 index-free c [] = (λ h. refl, λ h. absurd (omega arith))
@@ -294,6 +314,22 @@ unfolding partEnd
 part-separator c s at e p h =
     ap (λ k. getD s k 0) (p .is) ∙ sym (getD-drop at s (indexOf c (drop at s)) 0)
     ∙ index-found c (drop at s) (omega (arith, p .is, length-drop at s))
+
+pub end-past : (c : ℕ) (s : List ℕ) (at k : ℕ) → at + k ≤ length s → free c (take k (drop at s)) ≡ true → partEnd c s (at + k) ≡ partEnd c s at
+unfolding partEnd
+end-past c s at k h f =
+    let l = drop at s in
+    let long : length (take k l) ≡ k = length-take-le k l (omega (arith, length-drop at s)) in
+    let past : indexOf c l ≡ k + indexOf c (drop (at + k) s) =
+    ap (indexOf c) (sym (take-append-drop k l)) ∙ index-past c (take k l) (drop k l) f
+    ∙ ap₂ _+_ long (ap (indexOf c) (drop-drop k at s)) in
+    omega arith
+
+pub end-next : (c : ℕ) (s : List ℕ) (at : ℕ) → at < length s → (getD s at 0 ≡ c → ⊥) → partEnd c s (at + 1) ≡ partEnd c s at
+unfolding free
+end-next c s at h other =
+    end-past c s at 1 (omega arith)
+    (ap (λ l. free c (take 1 l)) (drop-cons s at 0 h) ∙ ap (λ t. not t && true) (ne-eqb (getD s at 0) c other))
 
 pub end-found : (c : ℕ) (s : List ℕ) (at e : ℕ) → e ≡ at + indexOf c (slice at (length s) s) → e ≤ length s → PartEnd c s at e
 unfolding slice partEnd

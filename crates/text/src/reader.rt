@@ -4,6 +4,7 @@ ghost use Prim.Native.Nat.{_≤_};
 ghost use lib.ListN.{length};
 ghost use Rattle.text.specs.Parts.{lineEnd};
 ghost use Rattle.text.specs.Contracts.{PartEnd};
+use crate::blocks::part_end;
 use crate::parts::LINE_END;
 
 // A walk over a text: the lent text beside the byte that it has reached.
@@ -17,7 +18,7 @@ fn find_line_end(text: &[u8], at: usize) -> usize
     requires { ⌜ at ≤ length (now text) ⌝ }
     ensures { λ r. ⌜ PartEnd lineEnd (now (text .entry)) at r ⌝ }
 {
-    bytes::scan::find(text, at, text.len(), LINE_END)
+    part_end(text, at, LINE_END)
 }
 
 impl<'a> Reader<'a> {

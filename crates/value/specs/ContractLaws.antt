@@ -6,10 +6,12 @@
 --     asHalf v, below-plain      what stands after `<` is a plain number from 1 to the high that reads as its half
 --     below-limit                what stands after `<` in range is not below 0, and at most 4,000
 --     plain-read, below-read     a number kept up to 10^19 is judged as the number itself
+--     value-led, value-other     a field as a value, by what is read after `<`, or of all of it where it has none
 --     range-found                the range of a code is within 4,000 of 0
 use Prim.Native.Nat.{ℕ, suc, _≤_, _<_}
 use mathlib.Core.Path.{_≡_, refl, sym, ap, subst, _∙_}
 use mathlib.Core.Bool.{Bool, true, false, cond}
+use mathlib.Core.List.{List, [], _∷_}
 use mathlib.Core.Option.{Option, none, some, Option·map}
 use native.Mathlib.Decide.{decLe}
 use native.Mathlib.Omega.{arith}
@@ -17,7 +19,9 @@ use lib.IntN.{ℤ, pos, negsuc, natAbs}
 use lib.Signed.{leZ}
 use Rattle.integers.specs.Absolute.{abs-neg}
 use Rattle.integers.specs.Tests.{both, clash, impossible}
-use Rattle.number.specs.Contracts.{magnitudeLimit, saturated, plainRead}
+use Rattle.text.specs.Fields.{startsWith}
+use Rattle.number.specs.Number.{plain}
+use Rattle.number.specs.Contracts.{magnitudeLimit, saturated, plainRead, plainField}
 use Rattle.number.specs.declared.Plain.{Plain}
 use Rattle.number.specs.declared.Plain.the-variants as written
 use Rattle.channel.specs.Channel.{channelTypes}
@@ -25,9 +29,9 @@ use Rattle.channel.specs.ChannelLaws.{house-sound, range-within}
 use Rattle.channel.specs.Contracts.{rangeOf}
 use Rattle.channel.specs.declared.Range.{Range}
 use Rattle.limits.specs.Limits.{coordinateLimit}
-use Rattle.value.specs.Value.{number, below, inRange, belowRange, half, valueUnder}
+use Rattle.value.specs.Value.{number, below, lessThan, inRange, belowRange, half, valueOf, valueUnder, valueRead}
 use Rattle.value.specs.ValueLaws.{far-outside, between}
-use Rattle.value.specs.Contracts.{RangeWithin, signed, plainUnder, belowUnder}
+use Rattle.value.specs.Contracts.{RangeWithin, signed, plainUnder, belowUnder, writtenUnder}
 use Rattle.value.specs.declared.Value.{Value}
 use Rattle.value.specs.declared.Value.the-variants.{Malformed, OutOfRange, Reads}
 
@@ -106,6 +110,20 @@ module _ (range : Range) (w : RangeWithin range) where
   below-read none = refl
   below-read (some (pos n)) = saturated-under (belowRange range) (below-within range w) false n (λ z. Reads (half z))
   below-read (some (negsuc k)) = saturated-under (belowRange range) (below-within range w) true (suc k) (λ z. Reads (half z))
+
+-- ---- a field, by its first byte
+
+module _ (range : Range) (w : RangeWithin range) where
+  pub value-led : (l : List ℕ) → valueRead range (lessThan ∷ l) ≡ writtenUnder range true (plainField l)
+  unfolding valueRead valueOf
+  value-led l = sym (below-read range w (plain l))
+
+  pub value-other : (l : List ℕ) → startsWith lessThan l ≡ false → valueRead range l ≡ writtenUnder range false (plainField l)
+  unfolding valueRead valueOf plain
+  value-other [] h = refl
+  value-other (b ∷ l) h =
+      ap (λ t. valueUnder range (cond t (Option·map below (plain l)) (Option·map number (plain (b ∷ l))))) h
+      ∙ sym (plain-read range w (plain (b ∷ l)))
 
 -- ---- the range of a code
 

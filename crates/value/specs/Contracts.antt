@@ -4,8 +4,9 @@
 --     under form range p        the number as a value of this form
 --     plainUnder range p        the number as a value of its own
 --     belowUnder range p        the number as one that stands after `<`
+--     writtenUnder range b p    the number as the one or the other
 use Prim.Native.Nat.{ℕ, _≤_}
-use mathlib.Core.Bool.{Bool, true, false}
+use mathlib.Core.Bool.{Bool, true, false, cond}
 use mathlib.Core.Option.{some}
 use lib.IntN.{ℤ, pos, negℤ, natAbs}
 use Rattle.number.specs.declared.Plain.{Plain}
@@ -33,3 +34,6 @@ plainUnder = under number
 
 abbrev pub belowUnder : Range → Plain → Value
 belowUnder = under below
+
+abbrev pub writtenUnder : Range → Bool → Plain → Value
+writtenUnder range after p = cond after (belowUnder range p) (plainUnder range p)

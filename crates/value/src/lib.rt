@@ -3,14 +3,17 @@
 ghost use Prim.Native.Nat.{_≤_};
 ghost use mathlib.Core.Path.{_≡_};
 ghost use lib.IntN.{pos, natAbs};
+ghost use lib.ListN.{length};
 ghost use Rattle.integers.specs.Reading.{Bounded};
 ghost use Rattle.limits.specs.Limits.{coordinateLimit};
+ghost use Rattle.text.specs.Contracts.{FieldRead};
 ghost use Rattle.value.specs.Value.{inRange, half, valueRead};
-ghost use Rattle.value.specs.Contracts.{RangeWithin, plainUnder, belowUnder};
+ghost use Rattle.value.specs.Contracts.{RangeWithin, plainUnder, belowUnder, writtenUnder};
 use channel::Range;
 use limits::COORDINATE_MOST;
 use number::Plain;
-use number::plain_number;
+use number::plain_number_at;
+use text::parts::past_byte;
 
 const LESS_THAN: u8 = b'<';
 
@@ -19,6 +22,12 @@ pub enum Value {
     Malformed,
     OutOfRange,
     Reads(i32),
+}
+
+// What the value field that starts somewhere in a line holds, and where it ends.
+pub struct ValueAt {
+    pub value: Value,
+    pub end: usize,
 }
 
 // Whether a whole number is within a range.
@@ -81,16 +90,28 @@ fn below_detection(number: Plain, range: Range) -> Value
     }
 }
 
-// A value field under a range.
-pub fn read_value(field: &[u8], range: Range) -> Value
+// A number under a range, after `<` or by itself.
+fn written_value(below: bool, number: Plain, range: Range) -> Value
     requires { ⌜ RangeWithin range ⌝ }
-    ensures { λ r. ⌜ r ≡ valueRead range (now (field .entry)) ⌝ }
+    ensures { λ r. ⌜ r ≡ writtenUnder range below number ⌝ }
 {
-    if field.len() == 0 {
-        return Value::Malformed;
+    if below {
+        below_detection(number, range)
+    } else {
+        plain_value(number, range)
     }
-    if field[0] == LESS_THAN {
-        return below_detection(plain_number(&field[1..]), range);
+}
+
+// The field of a line that starts at `at` as a value under a range, and where it ends.
+pub fn read_value_at(line: &[u8], at: usize, range: Range) -> ValueAt
+    requires { ⌜ RangeWithin range × (at ≤ length (now line)) ⌝ }
+    ensures { λ r. ⌜ FieldRead (valueRead range) (now (line .entry)) at (r .value) (r .end) ⌝ }
+{
+    let below = past_byte(line, at, LESS_THAN);
+    let plain = plain_number_at(line, below.next);
+    let number = plain.number;
+    ValueAt {
+        value: written_value(below.found, number, range),
+        end: plain.end,
     }
-    plain_value(plain_number(field), range)
 }

@@ -1,16 +1,15 @@
 -- The line is its first field and the others. The first is tested for a label, and the others are what the walk over the pairs says.
 -- A line not in form is so whatever stands in it, and one with every tag its channel's has no byte 10; where a tag differs, the
 -- end of the first line decides.
-use mathlib.Core.Path.{_≡_, sym, _∙_}
+use mathlib.Core.Path.{_≡_, subst}
 use native.Mathlib.Omega.{arith}
 use borrow.Author.Needs.{needs}
-use borrow.Author.Tests.{not-true, not-false}
 use lib.ListN.{take}
-use lib.Seq.{length-take-le}
 use denote.Ref.{now}
 use Rattle.integers.specs.Tests.{impossible}
 use Rattle.text.specs.Parts.{comma, lineEnd}
 use Rattle.text.specs.PartsLaws.{first-part-from, free-end}
+use Rattle.label.specs.ContractLaws.{field-label, field-no-label}
 use Rattle.channel.specs.Channel.{channelTypes}
 use Rattle.channel.specs.ChannelLaws.{house-sound}
 use Rattle.reading_line.specs.declared.Line.{Line}
@@ -19,36 +18,36 @@ use Rattle.reading_line.proofs.LineSteps.{FieldsRead, fields-no-label, 
 use Rattle.reading_line.proofs.read_line.Statement.{statement}
 use Rattle.reading_line.proofs.read_line.Tie as tie
 
-slice-aggregate-is-label : tie.Need-slice-aggregate-is-label
-slice-aggregate-is-label c = sym (length-take-le _ _ (c .before .field-end .ensures .high))
-
 returns : tie.Need-returns
 returns c =
-    let at-label = c .before in
-    let at-end = at-label .before .before in
-    let args = at-end .before .before .before .args in
+    let at-label = c .before .before in
+    let args = at-label .before .before .before .args in
+    let label = at-label .label-field .ensures in
     line-malformed channelTypes (take (args .n) (now (args .codes))) (now (args .line))
-    (fields-no-label channelTypes (take (args .n) (now (args .codes))) (now (args .line)) _ (first-part-from comma _ _ (at-end .field-end .ensures))
-    (sym (at-label .is-label .ensures) ∙ not-true _ (c .if1 .taken)))
+    (fields-no-label channelTypes (take (args .n) (now (args .codes))) (now (args .line)) _ (first-part-from comma _ _ (label .part))
+    (field-no-label _ _ _ label (c .if1 .taken)))
+
+abbrev past-label : tie.After-read-pairs → tie.Else1
+past-label c = c .before .before .before
 
 abbrev start-of : tie.After-read-pairs → tie.Start
 start-of c =
-    let at-is-label-arg = c .before .before .before .before in
-    at-is-label-arg .before .before .before .before
+    let at-label = past-label c .before .before in
+    at-label .before .before .before
 
 -- what the fields say, by what the pairs are told to be
 fields : (c : tie.After-read-pairs) (told : Line) → c .read-pairs .result ≡ told
     → let args = start-of c .args in
     FieldsRead channelTypes (take (args .n) (now (args .codes))) (now (args .line)) (now (args .places)) (c .read-pairs .last .1 .1 .1 .1 .0) told
 fields c told is =
-    let past-label = c .before .before in
-    let at-label = past-label .before in
-    let at-end = at-label .before .before in
-    let args = at-end .before .before .before .args in
-    rw is at (
-    fields-pairs channelTypes (take (args .n) (now (args .codes))) (now (args .line)) _ (first-part-from comma _ _ (at-end .field-end .ensures))
-    (sym (at-label .is-label .ensures) ∙ not-false _ (past-label .if1 .left)) (c .read-pairs .ensures)
-    )
+    let at-label = past-label c .before .before in
+    let args = start-of c .args in
+    let label = at-label .label-field .ensures in
+    subst
+    (λ line. FieldsRead channelTypes (take (args .n) (now (args .codes))) (now (args .line)) (now (args .places)) (c .read-pairs .last .1 .1 .1 .1 .0) line)
+    is
+    (fields-pairs channelTypes (take (args .n) (now (args .codes))) (now (args .line)) _ (first-part-from comma _ _ (label .part))
+    (field-label _ _ _ label (past-label c .if1 .left)) (c .read-pairs .ensures))
 
 returns-2 : tie.Need-returns-2
 returns-2 c =
@@ -86,8 +85,6 @@ pub read-line-spec : {M : Type 1} → statement M
 read-line-spec =
     tie.close
     (tie.spec
-    (λ c κs. search needs)
-    slice-aggregate-is-label
     (λ c κs. search needs)
     returns
     (λ c. search needs)

@@ -47,51 +47,54 @@ returns c =
 
 returns-2 : tie.Need-returns-2 Inv-loop μ-loop
 returns-2 c =
-    let at-tag-end = c .before in
-    let at-loop = at-tag-end .before .before .before in
+    let at-tag = c .before .before in
+    let at-within = at-tag .before .before in
+    let at-loop = at-within .before .before in
     pairs-few (at-loop .loop .inv) (omega (arith, codes at-loop))
-    (last-part comma _ _ _ (at-tag-end .before .if1 .left) (at-tag-end .field-end .ensures) (sym (c .if2 .taken))) (omega arith)
+    (last-part comma _ _ _ (at-within .if1 .left) (at-tag .read-tag .ensures .ends) (sym (c .if2 .taken))) (omega arith)
 
-read-value-requires : tie.Need-read-value-requires Inv-loop μ-loop
-read-value-requires c κs = range-found _ _ (c .before .range-of .ensures)
+read-value-at-requires : tie.Need-read-value-at-requires Inv-loop μ-loop
+read-value-at-requires c κs =
+    let at-more = c .before .before .before in
+    (range-found _ _ (c .range-of .ensures), omega (arith, at-more .if2 .left, at-more .before .before .read-tag .ensures .ends .high))
 
 returns-3 : tie.Need-returns-3 Inv-loop μ-loop
 returns-3 c =
     let at-value = c .before .before in
-    let at-value-end = at-value .before .before .before in
-    let at-more = at-value-end .before .before .before .before in
-    let at-tag-end = at-more .before in
-    let at-loop = at-tag-end .before .before .before in
-    pairs-malformed (at-loop .loop .inv)
-    (two-fields _ _ (at-tag-end .before .if1 .left) (at-tag-end .field-end .ensures) (at-more .if2 .left) (at-value-end .field-end2 .ensures))
-    (read-malformed _ _ (sym (c .enum-told .given .1) ∙ read-under _ (at-value .read-value .ensures) (at-value .before .before .range-of .ensures)))
+    let at-more = at-value .before .before .before .before in
+    let at-tag = at-more .before .before in
+    let at-within = at-tag .before .before in
+    let read = at-value .read-value-at .ensures in
+    pairs-malformed (at-within .before .before .loop .inv)
+    (two-fields _ _ (at-within .if1 .left) (at-tag .read-tag .ensures .ends) (at-more .if2 .left) (read .ends))
+    (read-malformed _ _ (sym (c .enum-told .given .1) ∙ read-under _ (read .is) (at-value .before .range-of .ensures)))
 
 loop-again : tie.Need-loop-again Inv-loop μ-loop
 loop-again c =
-    let at-value = c .before in
-    let at-value-end = at-value .before .before .before in
-    let at-tag = at-value-end .before in
-    let at-more = at-tag .before .before .before in
-    let at-tag-end = at-more .before in
-    let at-loop = at-tag-end .before .before .before in
+    let at-match = c .before in
+    let at-value = at-match .before in
+    let at-more = at-value .before .before .before .before in
+    let at-tag = at-more .before .before in
+    let at-within = at-tag .before .before in
+    let at-loop = at-within .before .before in
     let args = at-loop .before .before .before .args in
-    let turn = at-tag-end .before .before .loop-test .taken in
+    let read = at-value .read-value-at .ensures in
+    let tag = at-tag .read-tag .ensures in
     let within : at-loop .loop .i < length (take (args .n) (now (args .codes))) = omega (arith, codes at-loop) in
-    let fields =
-    two-fields _ _ (at-tag-end .before .if1 .left) (at-tag-end .field-end .ensures) (at-more .if2 .left) (at-value-end .field-end2 .ensures) in
-    let code = getD-take (args .n) (now (args .codes)) (at-loop .loop .i) 0 turn in
-    pairs-next (at-loop .loop .inv) within fields code (ap (λ b. b && at-loop .loop .tags-agree) (at-tag .is-tag .ensures))
+    let fields = two-fields _ _ (at-within .if1 .left) (tag .ends) (at-more .if2 .left) (read .ends) in
+    let code = getD-take (args .n) (now (args .codes)) (at-loop .loop .i) 0 (at-within .before .loop-test .taken) in
+    pairs-next (at-loop .loop .inv) within fields code (ap (λ b. b && at-loop .loop .tags-agree) (tag .is))
     (⊎-elim
     (λ w.
-    let t = read-told _ _ false (pos 0) (sym (w .1 .given .1) ∙ read-under _ (at-value .read-value .ensures) (at-value .before .before .range-of .ensures)) in
+    let t = read-told _ _ false (pos 0) (sym (w .1 .given .1) ∙ read-under _ (read .is) (at-value .before .range-of .ensures)) in
     values-outside (at-loop .loop .inv .values) within (value-here (at-loop .loop .inv) fields) code (t .0) (w .2) (w .3))
     (λ w.
     let z = w .1 .given .0 .0 in
-    let t = read-told _ _ true z (sym (w .1 .given .1) ∙ read-under _ (at-value .read-value .ensures) (at-value .before .before .range-of .ensures)) in
+    let t = read-told _ _ true z (sym (w .1 .given .1) ∙ read-under _ (read .is) (at-value .before .range-of .ensures)) in
     let x = toZ-ofZ (sfits-of {w = w32} {z = z} (w .2 .given .0 .1)) in
     values-within (at-loop .loop .inv .values) within (value-here (at-loop .loop .inv) fields) code (t .0) (x ∙ t .1 refl) (omega arith)
     (w .3) (w .4))
-    (c .match .came))
+    (at-match .match .came))
 
 returns-4 : tie.Need-returns-4 Inv-loop μ-loop
 returns-4 c =
@@ -126,21 +129,13 @@ read-pairs-spec =
     loop-holds
     (λ c. search needs)
     returns
+    (λ c. search needs)
     (λ c κs. search needs)
     (λ c. search needs)
     returns-2
     (λ c. search needs)
-    (λ c. search needs)
-    (λ c. search needs)
-    (λ c. search needs)
     (λ c κs. search needs)
-    (λ c. search needs)
-    (λ c κs. search needs)
-    (λ c κs. search needs)
-    (λ c. search needs)
-    (λ c. search needs)
-    (λ c. search needs)
-    read-value-requires
+    read-value-at-requires
     (λ c. search needs)
     (λ c. search needs)
     returns-3

@@ -16,11 +16,11 @@ use Rattle.reference_write.proofs.put_text.Statement.{statement}
 use Rattle.reference_write.proofs.put_text.Tie as tie
 
 abbrev Inv-loop : tie.InvT-loop
-Inv-loop rows n codes labels ends out₀ keys₀ heading-end at₀ from₀ place₀ i₀ out keys at from place i =
-    Walk (lentTable rows (length ends) n codes labels ends) out keys at from place i × (length out ≡ length out₀)
+Inv-loop rows n codes labels ends out₀ keys₀ marks₀ heading-end at₀ from₀ place₀ i₀ out keys marks at from place i =
+    Walk (lentTable rows (length ends) n codes labels ends) out keys marks at from place i × (length out ≡ length out₀)
 
 abbrev μ-loop : tie.MeasureT-loop
-μ-loop rows n codes labels ends out₀ keys₀ heading-end at₀ from₀ place₀ i₀ out keys at from place i = length ends - i
+μ-loop rows n codes labels ends out₀ keys₀ marks₀ heading-end at₀ from₀ place₀ i₀ out keys marks at from place i = length ends - i
 
 -- the start, from the heading, and the heading, from the loop
 abbrev at-start : tie.After-put-heading Inv-loop μ-loop → tie.Start Inv-loop μ-loop
@@ -52,7 +52,7 @@ add-at c = omega (arith, within (c .before .before))
 loop-holds : tie.Need-loop-holds Inv-loop μ-loop
 loop-holds c =
     let heading = c .before .before in
-    (walk-start (facts (at-start heading)) (at-start heading .pre .room) (heading .put-heading .ensures) _ refl, refl)
+    (walk-start (facts (at-start heading)) (at-start heading .pre .room) (heading .put-heading .ensures) _ _ refl refl, refl)
 
 -- in the loop: the label and the places of a row are within what is lent
 label-within : (c : tie.In-loop Inv-loop μ-loop)
@@ -89,33 +89,35 @@ row-in-range-requires c κs =
     let start = at-start (at-heading (in-loop .before)) in
     (omega (arith, c .before .numbers .given), facts start .typed)
 
-used-requires : tie.Need-used-requires Inv-loop μ-loop
-used-requires c κs =
-    let in-loop = c .before .before .before .before .before .before in
-    omega (arith, in-loop .before .loop .inv .0 .key-places, in-loop .loop-test .taken, facts (at-start (at-heading (in-loop .before))) .table .rows-most)
+used-of-marked-requires : tie.Need-used-of-marked-requires Inv-loop μ-loop
+used-of-marked-requires c κs =
+    let at-row = c .before .before .before in
+    let in-loop = at-row .before .before .before .before in
+    let walk = in-loop .before .loop .inv .0 in
+    (omega (arith, walk .key-places, in-loop .loop-test .taken, facts (at-start (at-heading (in-loop .before))) .table .rows-most), walk .marked)
 
 -- from where the fault of a row is known: the loop, and what the turn learnt
 abbrev at-loop : tie.After-row-fault Inv-loop μ-loop → tie.At-loop Inv-loop μ-loop
 at-loop c =
-    let at-row = c .before .before .before .before in
+    let at-row = c .before .before .before .before .before in
     let in-loop = at-row .before .before .before .before in
     in-loop .before
 
 turn : (c : tie.After-row-fault Inv-loop μ-loop)
     → let loop = at-loop c .loop in
-    let at-row = c .before .before .before .before in
+    let at-row = c .before .before .before .before .before in
     Turn (lent (at-start (at-heading (at-loop c)))) (loop .keys) (loop .from) (loop .place) (loop .i) (at-row .row-label-key .result) (c .row-fault .result)
 turn c =
-    let at-range = c .before .before .before in
+    let at-range = c .before .before .before .before in
     let at-row = at-range .before in
     let in-loop = at-row .before .before .before .before in
     record {
       below = in-loop .loop-test .taken;
       within = at-range .row-in-range .result;
-      repeated = c .before .used .result;
+      repeated = c .before .used-of-marked .result;
       is-key = at-row .row-label-key .ensures;
       is-within = at-range .row-in-range .ensures;
-      is-repeated = c .before .used .ensures;
+      is-repeated = c .before .used-of-marked .ensures;
       is-fault = c .row-fault .ensures;
     }
 
@@ -160,17 +162,23 @@ mul-keys c = omega (arith, few (at-fault c))
 array-write-keys : tie.Need-array-write-keys Inv-loop μ-loop
 array-write-keys c = omega (arith, few (at-fault c), at-loop (at-fault c) .loop .inv .0 .key-places)
 
+-- from where its number is marked: behind the row's line
+abbrev behind : tie.After-marks3 Inv-loop μ-loop → tie.After-slice-known3 Inv-loop μ-loop
+behind c = c .before .before .before
+
 add-i : tie.Need-add-i Inv-loop μ-loop
-add-i c = omega (arith, few (at-fault c))
+add-i c = omega (arith, few (at-fault (behind c)))
 
 loop-less : tie.Need-loop-less Inv-loop μ-loop
-loop-less c = omega (arith, turn (at-fault c) .below)
+loop-less c = omega (arith, turn (at-fault (behind c)) .below)
 
 loop-again : tie.Need-loop-again Inv-loop μ-loop
 loop-again c =
-    let at-put = c .before .before in
-    let loop = at-loop (at-fault c) in (
-      walk-next (facts (at-start (at-heading loop))) (loop .loop .inv .0) (turn (at-fault c)) (at-put .before .before .if1 .left) (at-put .put-row .ensures),
+    let at-put = behind c .before .before in
+    let fault = at-fault (behind c) in
+    let loop = at-loop fault in (
+      walk-next (facts (at-start (at-heading loop))) (loop .loop .inv .0) (turn fault) (at-put .before .before .if1 .left) (at-put .put-row .ensures)
+          (c .before .mark .ensures),
       at-put .put-row .ensures .same-length ∙ loop .loop .inv .1,
     )
 
@@ -204,7 +212,8 @@ put-text-spec =
     (λ c κs. search needs)
     row-in-range-requires
     (λ c. search needs)
-    used-requires
+    (λ c. search needs)
+    used-of-marked-requires
     (λ c κs. search needs)
     cast-refused-at
     add-refused-at
@@ -214,6 +223,8 @@ put-text-spec =
     put-row-requires
     mul-keys
     array-write-keys
+    (λ c. search needs)
+    (λ c κs. search needs)
     add-i
     loop-less
     loop-again

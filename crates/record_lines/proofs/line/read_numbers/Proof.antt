@@ -38,19 +38,22 @@ returns-2 c = numbers-few (c .before .before .loop .inv) (c .before .loop-test .
 returns-3 : tie.Need-returns-3 Inv-loop μ-loop
 returns-3 c =
     let at-number = c .before .before in
-    let at-end = at-number .before .before in
-    let at-test = at-end .before in
-    numbers-stop (at-test .before .before .loop .inv) (at-test .before .loop-test .taken) (at-test .if2 .left) (at-end .field-end2 .ensures)
-    (number-none _ (sym (c .enum-told .given .1) ∙ at-number .read-number .ensures))
+    let at-test = at-number .before in
+    let read = at-number .read-number-at .ensures in
+    numbers-stop (at-test .before .before .loop .inv) (at-test .before .loop-test .taken) (at-test .if2 .left) (read .ends)
+    (number-none _ (sym (c .enum-told .given .1) ∙ read .is))
 
 loop-again : tie.Need-loop-again Inv-loop μ-loop
 loop-again c =
-    let at-number = c .before .before .before in
-    let at-end = at-number .before .before in
-    let at-test = at-end .before in
-    let told = number-some _ (c .before .number .given .0 .0) (sym (c .before .number .given .1) ∙ at-number .read-number .ensures) in
-    numbers-next (at-test .before .before .loop .inv) (at-test .before .loop-test .taken) (at-test .if2 .left) (at-end .field-end2 .ensures)
-    (told .1) (ap (back w64) (told .2) ∙ toZ-ofZ (held-fits (told .0))) (omega arith) refl
+    let at-told = c .before .before in
+    let at-number = at-told .before .before in
+    let at-test = at-number .before in
+    let at-loop = at-test .before .before in
+    let start = at-loop .before .before .before .before .before .before .before in
+    let read = at-number .read-number-at .ensures in
+    let told = number-some _ (at-told .number .given .0 .0) (sym (at-told .number .given .1) ∙ read .is) in
+    numbers-next (at-loop .loop .inv) (at-test .before .loop-test .taken) (at-test .if2 .left) (read .ends)
+    (told .1) (ap (back w64) (told .2) ∙ toZ-ofZ (held-fits (told .0))) (omega (arith, start .pre, at-test .before .loop-test .taken)) refl
 
 returns-4 : tie.Need-returns-4 Inv-loop μ-loop
 returns-4 c = numbers-done (c .before .loop .inv) (c .loop-test .left)
@@ -69,10 +72,6 @@ read-numbers-spec =
     loop-holds
     (λ c. search needs)
     returns-2
-    (λ c κs. search needs)
-    (λ c. search needs)
-    (λ c. search needs)
-    (λ c. search needs)
     (λ c κs. search needs)
     (λ c. search needs)
     (λ c. search needs)
