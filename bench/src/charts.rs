@@ -7,7 +7,7 @@
 //! - panel: all 8 channels.
 
 use crate::mark::{self, binary64_root, bisected_root, whole_root};
-use crate::measure::{measure, print_header};
+use crate::measure::{Line, Lines};
 use crate::random::Random;
 use crate::readings::given;
 use crate::verdict::{CENTRE_LIMIT, DISTANCE_LIMIT};
@@ -23,35 +23,64 @@ struct Work {
 
 type Outcome = Result<Mark, Refusal>;
 
+type Plain = fn(&Work) -> Outcome;
+
 /// What the panel shows or the refusal, and the steps.
 type Shown = (Result<(), Refusal>, [i32; CHANNELS]);
 
 pub fn measure_charts(random: &mut Random) {
-    print_header("calls");
+    let lines = Lines::new("calls");
     let discs = works(random, |random| {
         DISTANCE_LIMIT - random.below(1 << 53) as u64
     });
     let dots = works(random, |_| 0);
-    measure_marks("chart disc, isqrt", &discs, |work| {
-        plain_chart(whole_root, work)
-    });
-    measure_marks("chart disc, binary64", &discs, |work| {
-        plain_chart(binary64_root, work)
-    });
-    measure_marks("chart disc, bisection", &discs, |work| {
-        plain_chart(bisected_root, work)
-    });
-    measure_marks("chart dot", &dots, |work| plain_chart(whole_root, work));
-    let name = "panel 8";
+    let ways: [(&str, &str, Plain); 3] = [
+        (
+            "isqrt",
+            "the standard library's root of whole numbers",
+            |work| plain_chart(whole_root, work),
+        ),
+        (
+            "binary64",
+            "the root of binary64, put right afterwards",
+            |work| plain_chart(binary64_root, work),
+        ),
+        ("bisection", "a root by bisection", |work| {
+            plain_chart(bisected_root, work)
+        }),
+    ];
+    for (way, root, plain) in ways {
+        let input = (format!("chart disc, {way}"), "M close to its limit");
+        measure_marks(&lines, input, &discs, root, plain);
+    }
+    let (_, root, plain) = ways[0];
+    measure_marks(&lines, ("chart dot".into(), "M of 0"), &dots, root, plain);
+    let line = Line {
+        name: "panel 8",
+        sentence: "The proved panel in whole steps against plain Rust that rounds the same, on 256 envelopes of 8 channels.",
+        pieces: (CALLS, "panel"),
+    };
     let amount = |_: &Work, shown: &Shown| one_call(shown.0.is_ok());
-    let medians = measure(name, &discs, proved_panel, plain_panel, amount);
-    medians.print_rate(name, CALLS, "panels");
+    lines.measure(&line, &discs, proved_panel, plain_panel, amount);
 }
 
-fn measure_marks(name: &str, works: &[Work], plain: impl Fn(&Work) -> Outcome) {
+fn measure_marks(
+    lines: &Lines,
+    (name, input): (String, &str),
+    works: &[Work],
+    root: &str,
+    plain: Plain,
+) {
+    let sentence = format!(
+        "The proved mark on a chart against plain Rust with {root}, on {CALLS} envelopes with {input}."
+    );
+    let line = Line {
+        name: &name,
+        sentence: &sentence,
+        pieces: (CALLS, "chart"),
+    };
     let amount = |_: &Work, outcome: &Outcome| one_call(outcome.is_ok());
-    let medians = measure(name, works, proved_chart, plain, amount);
-    medians.print_rate(name, CALLS, "charts");
+    lines.measure(&line, works, proved_chart, plain, amount);
 }
 
 fn one_call(accepted: bool) -> u64 {

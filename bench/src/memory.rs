@@ -16,7 +16,10 @@ const RECORD: &str = "ENV,2,TOC,CND\nC,196608,262144\nR,107374182400,10737418240
 const PAUSE: Duration = Duration::from_millis(5);
 
 pub fn measure_memory() {
-    println!("{:<24}{:>12}{:>12}", "name", "peak KiB", "bytes");
+    println!("{:<26}{:>12}{:>12}", "name", "peak KiB", "bytes");
+    println!(
+        "    The peak resident memory of each proved program on its largest input, compared with nothing."
+    );
     let [heading, row] = [",ORP,CND", ",-1999,<3999"].map(|channels| channels.repeat(4));
     let row = |number: usize| format!("POINT-{number:06}{row}\n");
     let rows: String = (0..256).map(row).collect();
@@ -34,7 +37,7 @@ pub fn measure_memory() {
         ("alerts", &[REFERENCE, RECORD, &settings, &line_ends]),
     ] {
         let (peak, bytes) = (peak_kibibytes(name, texts), texts.concat().len());
-        println!("{name:<24}{peak:>12}{bytes:>12}");
+        println!("{name:<26}{peak:>12}{bytes:>12}");
     }
 }
 

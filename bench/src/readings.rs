@@ -5,7 +5,7 @@
 //!   are Quiet.
 //! - of 1: the same of TOC alone.
 
-use crate::measure::{measure, print_header};
+use crate::measure::{Line, Lines};
 use crate::random::Random;
 use crate::texts::{TAGS, value};
 use crate::verdict::{self, Verdict};
@@ -30,7 +30,7 @@ type Handed = Result<(verdict::Measured, [i32; CHANNELS]), verdict::Refusal>;
 type Measure = fn(&Work<'_>) -> Handed;
 
 pub fn measure_readings(random: &mut Random) {
-    print_header("bytes");
+    let lines = Lines::new("bytes");
     for n in [8, 1] {
         let (figures, texts) = drawn(random, n);
         let work: Vec<Work<'_>> = texts
@@ -40,19 +40,51 @@ pub fn measure_readings(random: &mut Random) {
                 text,
             })
             .collect();
-        for (way, plain) in [("fields", by_fields as Judge), ("one pass", in_one_pass)] {
-            let name = format!("judge {n}, {way}");
-            let medians = measure(&name, &work, proved, plain, quiet_bytes);
-            medians.print_rate(&name, READINGS, "readings");
-        }
-        for (way, plain) in [
-            ("fields", measured_by_fields as Measure),
-            ("one pass", measured_in_one_pass),
-        ] {
-            let name = format!("measure {n}, {way}");
-            let medians = measure(&name, &work, proved_measure, plain, measured_bytes);
-            medians.print_rate(&name, READINGS, "readings");
-        }
+        measure_judges(&lines, n, &work);
+        measure_measures(&lines, n, &work);
+    }
+}
+
+/// How each plain way goes about a reading.
+const HOW: [(&str, &str); 2] = [
+    ("fields", "splits the line at commas"),
+    ("one pass", "goes over the bytes once"),
+];
+
+fn channels(n: usize) -> String {
+    format!("{n} channel{}", if n == 1 { "" } else { "s" })
+}
+
+fn measure_judges(lines: &Lines, n: usize, work: &[Work<'_>]) {
+    for ((way, how), plain) in HOW.into_iter().zip([by_fields as Judge, in_one_pass]) {
+        let sentence = format!(
+            "The proved verdict on a reading against plain Rust that {how}, on {READINGS} readings of {}, \
+             all Quiet.",
+            channels(n)
+        );
+        let line = Line {
+            name: &format!("judge {n}, {way}"),
+            sentence: &sentence,
+            pieces: (READINGS, "reading"),
+        };
+        lines.measure(&line, work, proved, plain, quiet_bytes);
+    }
+}
+
+fn measure_measures(lines: &Lines, n: usize, work: &[Work<'_>]) {
+    let ways = [measured_by_fields as Measure, measured_in_one_pass];
+    for ((way, how), plain) in HOW.into_iter().zip(ways) {
+        let sentence = format!(
+            "The proved verdict with s and the values handed out against plain Rust that {how}, on {READINGS} readings \
+             of {}, all Quiet.",
+            channels(n)
+        );
+        let line = Line {
+            name: &format!("measure {n}, {way}"),
+            sentence: &sentence,
+            pieces: (READINGS, "reading"),
+        };
+        lines.measure(&line, work, proved_measure, plain, measured_bytes);
     }
 }
 

@@ -14,7 +14,7 @@ const MOST_BYTES: usize = 38 + 90 + 52 + 12 * ROWS;
 pub fn parse(text: &[u8]) -> Result<Stated, u32> {
     let mut stated = Stated::new();
     let mut reader = Bytes { rest: text };
-    reader.heading(&mut stated).ok_or(1_u32)?;
+    (stated.n, stated.codes) = reader.heading(b"ENV").ok_or(1_u32)?;
     reader.centre(&mut stated).ok_or(2_u32)?;
     reader.figures(&mut stated).ok_or(3_u32)?;
     let mut line = WEIGHTS;
@@ -35,14 +35,16 @@ impl Bytes<'_> {
         Some(())
     }
 
-    fn heading(&mut self, stated: &mut Stated) -> Option<()> {
-        self.word(b"ENV,")?;
+    /// A heading of this word, with n and the codes of its n tags.
+    pub fn heading(&mut self, word: &[u8]) -> Option<(usize, [u8; CHANNELS])> {
+        self.word(word)?;
+        self.word(b",")?;
         let n = usize::from(self.next()?.wrapping_sub(b'0'));
         if !(1..=CHANNELS).contains(&n) {
             return None;
         }
-        stated.n = n;
-        for place in &mut stated.codes[..n] {
+        let mut codes = [0; CHANNELS];
+        for place in &mut codes[..n] {
             self.word(b",")?;
             let ends = |rest: &[u8]| matches!(rest.first(), Some(b',' | b'\n'));
             let (code, rest) = (1..).zip(TAGS).find_map(|(code, tag)| {
@@ -52,7 +54,8 @@ impl Bytes<'_> {
             *place = code;
             self.rest = rest;
         }
-        self.word(b"\n")
+        self.word(b"\n")?;
+        Some((n, codes))
     }
 
     fn centre(&mut self, stated: &mut Stated) -> Option<()> {

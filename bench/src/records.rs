@@ -2,7 +2,7 @@
 //! every row has a line. Plain Rust goes by lines and fields with the numbers of the standard
 //! library, and in one pass written for speed.
 
-use crate::measure::{measure, print_header};
+use crate::measure::{Line, Lines};
 use crate::plain;
 use crate::random::Random;
 use crate::readings::given;
@@ -37,29 +37,49 @@ type Write = fn(&Work) -> Written;
 type Reader = fn(&Work) -> Read;
 
 pub fn measure_records(random: &mut Random) {
-    print_header("bytes");
+    let lines = Lines::new("bytes");
     let work: Vec<Work> = (0..RECORDS).map(|_| Work::new(random)).collect();
     let bytes = |work: &Work, accepted: bool| {
         assert!(accepted, "an envelope that agrees with its rows");
         work.text.len() as u64
     };
-    for (way, plain) in [
-        ("fields", write_by_fields as Write),
-        ("one pass", write_in_one_pass),
-    ] {
-        let name = format!("write record, {way}");
+    let ways = [write_by_fields as Write, write_in_one_pass];
+    for ((way, how), plain) in HOW.into_iter().zip(ways) {
+        let (name, sentence) = said("write", "writing", way, how);
         let amount = |work: &Work, outcome: &Written| bytes(work, outcome.0.is_ok());
-        let medians = measure(&name, &work, proved_write, plain, amount);
-        medians.print_rate(&name, RECORDS, "records");
+        lines.measure(&line(&name, &sentence), &work, proved_write, plain, amount);
     }
-    for (way, plain) in [
-        ("fields", read_by_fields as Reader),
-        ("one pass", read_in_one_pass),
-    ] {
-        let name = format!("read record, {way}");
+    let ways = [read_by_fields as Reader, read_in_one_pass];
+    for ((way, how), plain) in HOW.into_iter().zip(ways) {
+        let (name, sentence) = said("read", "reading", way, how);
         let amount = |work: &Work, outcome: &Read| bytes(work, outcome.0.is_ok());
-        let medians = measure(&name, &work, proved_read, plain, amount);
-        medians.print_rate(&name, RECORDS, "records");
+        lines.measure(&line(&name, &sentence), &work, proved_read, plain, amount);
+    }
+}
+
+/// How each plain way goes about a record.
+const HOW: [(&str, &str); 2] = [
+    (
+        "fields",
+        "goes by lines and fields with the standard library's numbers",
+    ),
+    ("one pass", "goes over the bytes once"),
+];
+
+/// The name of a line and its sentence.
+fn said(verb: &str, doing: &str, way: &str, how: &str) -> (String, String) {
+    let sentence = format!(
+        "The proved {doing} of a record against plain Rust that {how}, agreement with the rows tested by both, on \
+         {RECORDS} records of 256 rows of 8 channels with a weight each."
+    );
+    (format!("{verb} record, {way}"), sentence)
+}
+
+fn line<'a>(name: &'a str, sentence: &'a str) -> Line<'a> {
+    Line {
+        name,
+        sentence,
+        pieces: (RECORDS, "record"),
     }
 }
 

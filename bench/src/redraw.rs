@@ -2,7 +2,7 @@
 //! Rust that does the same, a process each: with no records there, with all of them there and unchanged, and with every text
 //! changed. With CUNDARIVO_FILES in the environment, a folder of as many small texts besides.
 
-use crate::measure::{print_header, print_line};
+use crate::measure::{Line, Lines};
 use crate::random::Random;
 use std::fs;
 use std::path::{Path, PathBuf};
@@ -17,14 +17,20 @@ const ROUNDS: usize = 11;
 /// Rows and rounds of a folder of many texts.
 const SMALL_ROWS: usize = 5;
 const FEW_ROUNDS: usize = 3;
+/// What is timed of a folder, and what records are there.
+const KINDS: [(&str, &str); 3] = [
+    ("new", "with no record there"),
+    ("unchanged", "with every record there and up to date"),
+    ("changed", "with every record that of an earlier text"),
+];
 
 pub fn measure_redraw(random: &mut Random) {
-    print_header("files");
-    measure_folder("redraw", random, (FILES, ROWS), ROUNDS);
+    let lines = Lines::new("files");
+    measure_folder(&lines, "redraw", random, (FILES, ROWS), ROUNDS);
     if let Some(files) = files_asked_for() {
         let sizes = [files / 10, files].map(|files| (files, SMALL_ROWS));
         for size in sizes {
-            measure_folder("small texts", random, size, FEW_ROUNDS);
+            measure_folder(&lines, "small texts", random, size, FEW_ROUNDS);
         }
     }
 }
@@ -34,7 +40,13 @@ fn files_asked_for() -> Option<usize> {
     Some(files.parse().expect("CUNDARIVO_FILES is a whole number"))
 }
 
-fn measure_folder(name: &str, random: &mut Random, size: (usize, usize), rounds: usize) {
+fn measure_folder(
+    lines: &Lines,
+    name: &str,
+    random: &mut Random,
+    size: (usize, usize),
+    rounds: usize,
+) {
     let folders = ["proved", "plain"].map(new_folder);
     let mut times = [0; 3].map(|_| [Vec::new(), Vec::new()]);
     for round in 0..rounds {
@@ -53,12 +65,31 @@ fn measure_folder(name: &str, random: &mut Random, size: (usize, usize), rounds:
         }
         assert_same_records(&folders, size.0);
     }
-    for (kind, times) in ["new", "unchanged", "changed"].iter().zip(times) {
-        print_line(&format!("{name}, {kind}"), times, size.0 as u64);
+    for (kind, times) in KINDS.iter().zip(times) {
+        print_kind(lines, name, kind, times, size);
     }
     for folder in folders {
         fs::remove_dir_all(folder).expect("a folder of ours");
     }
+}
+
+fn print_kind(
+    lines: &Lines,
+    name: &str,
+    (kind, records): &(&str, &str),
+    times: [Vec<f64>; 2],
+    (files, rows): (usize, usize),
+) {
+    let sentence = format!(
+        "The process `envelope redraw` against a process in plain Rust that locks, reads, draws, writes and flushes \
+         the same, on {files} reference texts of {rows} rows and 4 channels, {records}."
+    );
+    let line = Line {
+        name: &format!("{name}, {kind}"),
+        sentence: &sentence,
+        pieces: (files, "file"),
+    };
+    lines.print(&line, times, files as u64);
 }
 
 fn new_folder(name: &str) -> PathBuf {

@@ -7,7 +7,7 @@
 //! Plain Rust reads as in `reader`, and writes by fields with the standard library and in one pass
 //! written for speed.
 
-use crate::measure::{measure, print_header};
+use crate::measure::{Line, Lines};
 use crate::random::Random;
 use crate::reader::Refusal;
 use crate::record::Rows;
@@ -38,13 +38,13 @@ type Written<const ROOM: usize> = (Result<usize, Refusal>, [u8; ROOM]);
 type Write<const ROOM: usize> = fn(&Work) -> Written<ROOM>;
 
 pub fn measure_references(random: &mut Random) {
-    print_header("bytes");
+    let lines = Lines::new("bytes");
     let ordinary = works(|| ordinary_text(random, ROWS, CHANNELS));
-    measure_size::<{ room(ROWS) }>("256x8", &ordinary);
+    measure_size::<{ room(ROWS) }>(&lines, "256x8", &ordinary);
     let largest = works(|| largest_written(random));
-    measure_size::<{ room(ROWS) }>("largest", &largest);
+    measure_size::<{ room(ROWS) }>(&lines, "largest", &largest);
     let small = works(|| ordinary_text(random, 20, 4));
-    measure_size::<{ room(20) }>("20x4", &small);
+    measure_size::<{ room(20) }>(&lines, "20x4", &small);
 }
 
 /// Bytes that are enough for every text of m rows.
@@ -52,30 +52,56 @@ const fn room(m: usize) -> usize {
     38 + 61 * m
 }
 
-fn measure_size<const ROOM: usize>(size: &str, work: &[Work]) {
+fn measure_size<const ROOM: usize>(lines: &Lines, size: &str, work: &[Work]) {
     let written: [Write<ROOM>; 2] = [
         |work| plain_write::<Fields<'_>, ROOM>(work),
         |work| plain_write::<Pass, ROOM>(work),
     ];
-    measure_ways(&format!("write {size}"), work, proved_write, written);
+    let said = (
+        "write",
+        "The proved writing of a reference text against plain Rust that",
+    );
+    measure_ways(lines, said, (size, work), proved_write, written);
     let printed: [Write<ROOM>; 2] = [
         |work| plain_program::<Fields<'_>, ROOM>(work),
         |work| plain_program::<Pass, ROOM>(work),
     ];
-    measure_ways(&format!("plain {size}"), work, proved_program, printed);
+    let said = (
+        "plain",
+        "The proved program `plain` as a call against plain Rust that reads by fields and",
+    );
+    measure_ways(lines, said, (size, work), proved_program, printed);
 }
 
+/// How each plain way goes about the text.
+const HOW: [(&str, &str); 2] = [
+    (
+        "fields",
+        "prints by the standard library and keeps labels in a hash set",
+    ),
+    (
+        "one pass",
+        "prints digits straight into the buffer and keeps labels as numbers",
+    ),
+];
+
 fn measure_ways<const ROOM: usize>(
-    name: &str,
-    work: &[Work],
+    lines: &Lines,
+    (verb, compared): (&str, &str),
+    (size, work): (&str, &[Work]),
     proved: Write<ROOM>,
     plain: [Write<ROOM>; 2],
 ) {
     let bytes = |_: &Work, (length, _): &Written<ROOM>| length.expect("an accepted text") as u64;
-    for (way, plain) in ["fields", "one pass"].into_iter().zip(plain) {
-        let name = format!("{name}, {way}");
-        let medians = measure(&name, work, proved, plain, bytes);
-        medians.print_rate(&name, TEXTS, "texts");
+    for ((way, how), plain) in HOW.into_iter().zip(plain) {
+        let (m, n) = (work[0].m, work[0].n);
+        let sentence = format!("{compared} {how}, on {TEXTS} texts of {m} rows and {n} channels.");
+        let line = Line {
+            name: &format!("{verb} {size}, {way}"),
+            sentence: &sentence,
+            pieces: (TEXTS, "text"),
+        };
+        lines.measure(&line, work, proved, plain, bytes);
     }
 }
 

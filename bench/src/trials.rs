@@ -9,7 +9,7 @@
 //! The call is timed against plain Rust by fields and in one pass written for speed, and the program
 //! `alerts` against the program `judge` on the same texts.
 
-use crate::measure::{measure, print_header, print_header_of};
+use crate::measure::{Line, Lines};
 use crate::random::Random;
 use crate::readings::{given, reading};
 use crate::texts::TAGS;
@@ -65,23 +65,53 @@ pub fn measure_trials(random: &mut Random) {
 
 fn measure_month(name: &str, work: &[Work<'_>]) {
     let readings = work.iter().map(Work::assert_counts).sum();
-    let bytes = |work: &Work<'_>| work.readings.len() as u64;
-    print_header("bytes");
-    for (way, plain) in [("fields", by_fields as Try), ("one pass", in_one_pass)] {
-        let name = format!("trial {name}, {way}");
+    let input = format!("{FILES} files of 65,536 bytes of readings ({name})");
+    let lines = Lines::new("bytes");
+    let ways: [(&str, &str, Try); 2] = [
+        (
+            "fields",
+            "splits lines and fields and counts each setting at each verdict",
+            by_fields,
+        ),
+        (
+            "one pass",
+            "goes over the bytes once and looks at the settings that a run reaches",
+            in_one_pass,
+        ),
+    ];
+    for (way, how, plain) in ways {
+        let sentence = format!(
+            "The proved trial of 20 alert settings against plain Rust that {how}, on {input}."
+        );
+        let line = Line {
+            name: &format!("trial {name}, {way}"),
+            sentence: &sentence,
+            pieces: (readings, "reading"),
+        };
         let amount = |work: &Work<'_>, (length, _): &Tried| {
             assert!(length.is_ok(), "an accepted trial");
-            bytes(work)
+            work.readings.len() as u64
         };
-        let medians = measure(&name, work, proved, plain, amount);
-        medians.print_rate(&name, readings, "readings");
+        lines.measure(&line, work, proved, plain, amount);
     }
-    print_header_of("alerts ms", "judge ms", "bytes");
+    measure_programs(name, &input, work);
+}
+
+fn measure_programs(name: &str, input: &str, work: &[Work<'_>]) {
+    let lines = Lines::of(["alerts", "judge"], "bytes");
+    let sentence = format!(
+        "The proved program `alerts` against the proved program `judge`, both as calls, on {input}."
+    );
+    let line = Line {
+        name: &format!("alerts {name}"),
+        sentence: &sentence,
+        pieces: (FILES, "file"),
+    };
     let amount = |work: &Work<'_>, printed: &bool| {
         assert!(printed, "room for the output");
-        bytes(work)
+        work.readings.len() as u64
     };
-    measure(&format!("alerts {name}"), work, alerts, judge, amount);
+    lines.measure(&line, work, alerts, judge, amount);
 }
 
 fn rich(random: &mut Random) -> Vec<Kind> {
