@@ -33,6 +33,7 @@ unsafe extern "C" {
 }
 
 const SIGKILL: i32 = 9;
+const SIGTERM: i32 = 15;
 const F_SETFL: i32 = 4;
 const O_RDWR: i32 = 2;
 const O_NOCTTY: i32 = 0o400;
@@ -68,6 +69,13 @@ pub fn kill_group(child: &mut Child) -> bool {
     // SAFETY: the child has not been waited for, so that the group is its own.
     unsafe { kill(-(child.id() as i32), SIGKILL) };
     child.wait().expect("an ended child").code().is_none()
+}
+
+/// Tells a child, and no other process, to end.
+pub fn terminate(child: &Child) {
+    // SAFETY: the child has not been waited for, so that the number is its own.
+    let told = unsafe { kill(child.id() as i32, SIGTERM) };
+    assert_eq!(told, 0, "a child of ours");
 }
 
 /// From here on a read of the pipe fails where nothing is there, and does not wait.
