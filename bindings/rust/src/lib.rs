@@ -171,9 +171,10 @@
 //! allocate these in this package, and the library's own calls use lent slices alone.
 //!
 //! [`programs::judge`] needs at most 640 KiB of stack, since its whole output is made there before it
-//! is handed out; the other [`programs`] at most 64 KiB, and every other call at most 32 KiB. The
-//! 2 MiB that a thread of Rust has by default are enough for each. This is measured and tested, not
-//! proved.
+//! is handed out; [`programs::draw`] at most 96 KiB and [`draw`] at most 64 KiB, since a drawing keeps
+//! 32 KiB of squared distances there; the other [`programs`] at most 64 KiB, and every other call at
+//! most 32 KiB. The 2 MiB that a thread of Rust has by default are enough for each. This is measured
+//! and tested, not proved.
 //!
 //! # Building
 //!

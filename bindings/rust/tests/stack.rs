@@ -6,7 +6,9 @@ use std::thread;
 
 const KIBIBYTE: usize = 1_024;
 const CALLS: usize = 32 * KIBIBYTE;
+const DRAW: usize = 64 * KIBIBYTE;
 const PROGRAMS: usize = 64 * KIBIBYTE;
+const PROGRAM_DRAW: usize = 96 * KIBIBYTE;
 const JUDGE: usize = 640 * KIBIBYTE;
 
 /// What a call gives in a thread with a stack of so many bytes.
@@ -50,7 +52,7 @@ fn calls() -> Result<(), Refusal> {
         cundarivo::write_reference(&table, m, n, &codes, &labels)
     })?;
     assert_eq!(written, text);
-    let drawing = within(CALLS, || cundarivo::draw(&table, m, n, 10_000))?;
+    let drawing = within(DRAW, || cundarivo::draw(&table, m, n, 10_000))?;
     within(CALLS, || cundarivo::check(&table, m, n, &drawing.weights))?;
     let envelope = drawing.envelope(&codes);
     let figures = &envelope.figures;
@@ -74,7 +76,7 @@ fn calls() -> Result<(), Refusal> {
 fn draw_plain_verify_panel_and_alerts() {
     let text = reference();
     assert_eq!(within(PROGRAMS, || programs::plain(&text)), text);
-    let record = within(PROGRAMS, || programs::draw(&text));
+    let record = within(PROGRAM_DRAW, || programs::draw(&text));
     assert!(record.starts_with(b"ENV,8"));
     let verified = within(PROGRAMS, || programs::verify(&text, &record));
     assert_eq!(verified, b"OK\n");

@@ -22,7 +22,7 @@ const TAKEN_TOGETHER: usize = 4;
 const OTHER_DESCRIPTORS: u64 = 16;
 /// What is taken for the most descriptors where the system does not tell.
 const USUAL_DESCRIPTORS: u64 = 1_024;
-/// The bytes of a worker's stack, of which a drawing needs 64 KiB; without them the environment has a say.
+/// The bytes of a worker's stack, of which a drawing needs 96 KiB; without them the environment has a say.
 const STACK: usize = 2 << 20;
 
 /// What became of a text, with its place in the list of names.
