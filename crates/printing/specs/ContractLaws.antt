@@ -21,7 +21,7 @@ use native.Mathlib.Omega.{arith}
 use lib.Dec.{eqb}
 use lib.IntN.{ℤ, pos, natAbs}
 use lib.ListN.{length, getD, set, take, drop, length-append, length-set}
-use lib.Seq.{length-take-le, getD-take, append-snoc, set-split, take-suc, take-set-le, take-suc-set, take-add, drop-at}
+use lib.Seq.{length-take-le, getD-take, append-snoc, set-split, take-suc, take-set-le, take-suc-set, take-add, drop-at, drop-set-lt, drop-drop}
 use Rattle.text.specs.Parts.{comma, lineEnd, join, free, allFree}
 use Rattle.text.specs.PartsLaws.{join-short, join-more, join-free}
 use Rattle.number.specs.Number.{hyphen, digitZero, isDigit, decimal, printMagnitude, print}
@@ -29,21 +29,28 @@ use Rattle.number.specs.NumberLaws.{decimal-more, print-free, print-short}
 use Rattle.printing.specs.Contracts.{numberDigits, fieldRoom, numbersAfter, Put}
 
 pub put-none : (out : List ℕ) (at : ℕ) → Put [] out at out at
-put-none out at = record { next = omega arith; is = sym (append-nil (take at out)); same-length = refl }
+put-none out at = record { next = omega arith; is = sym (append-nil (take at out)); rest = refl; same-length = refl }
 
 pub put-byte : (out : List ℕ) (at b : ℕ) → at < length out → Put (b ∷ []) out at (set out at b) (at + 1)
 put-byte out at b h =
     record {
       next = refl;
       is = ap (λ (i : ℕ). take i (set out at b)) (add-one at) ∙ take-suc-set out at b h;
+      rest = drop-set-lt (at + 1) out at b (omega arith);
       same-length = length-set out at b;
     }
 
+-- what follows an index, from a later one on
+rest-later : (a b : List ℕ) (r k s : ℕ) → s ≡ r + k → drop r b ≡ drop r a → drop s b ≡ drop s a
+rest-later a b r k s e h =
+    ap (λ (i : ℕ). drop i b) e ∙ sym (drop-drop k r b) ∙ ap (drop k) h ∙ drop-drop k r a ∙ ap (λ (i : ℕ). drop i a) (sym e)
+
 pub put-then : {w v a b c : List ℕ} {at r s : ℕ} → Put w a at b r → Put v b r c s → Put (w ++ v) a at c s
-put-then {w} {v} {a} {at = at} first second =
+put-then {w} {v} {a} {b} {at = at} {r} {s} first second =
     record {
       next = omega (arith, length-append w v);
       is = second .is ∙ ap (λ (l : List ℕ). l ++ v) (first .is) ∙ append-assoc (take at a) w v;
+      rest = second .rest ∙ rest-later a b r (length v) s (second .next) (first .rest);
       same-length = second .same-length ∙ first .same-length;
     }
 
@@ -52,6 +59,7 @@ put-as {a = a} {b} {at} f word index =
     record {
       next = sym index ∙ f .next ∙ ap (λ (l : List ℕ). at + length l) word;
       is = ap (λ (k : ℕ). take k b) (sym index) ∙ f .is ∙ ap (λ (l : List ℕ). take at a ++ l) word;
+      rest = ap (λ (k : ℕ). drop k b) (sym index) ∙ f .rest ∙ ap (λ (k : ℕ). drop k a) index;
       same-length = f .same-length;
     }
 
@@ -86,6 +94,7 @@ pub record Printing (word out₀ : List ℕ) (at end : ℕ) (out : List ℕ) (re
   pub high : place ≤ end
   pub so-far : lastDigits (place - at) rest ++ take (end - place) (drop place out) ≡ word
   pub kept : take at out ≡ take at out₀
+  pub past : drop end out ≡ drop end out₀
   pub same-length : length out ≡ length out₀
 
 pub printing-none : (n : ℕ) (out : List ℕ) (at end : ℕ) → end ≡ at + length (printMagnitude n) → end ≤ length out
@@ -101,6 +110,7 @@ printing-none n out at end e h =
       so-far =
           ap₂ (λ (k m : ℕ). lastDigits k n ++ take m (drop end out)) width none ∙ append-nil (lastDigits (length (printMagnitude n)) n) ∙ print-last n;
       kept = refl;
+      past = refl;
       same-length = refl;
     }
 
@@ -128,6 +138,7 @@ module _ {word out₀ : List ℕ} {at end : ℕ} where
             ∙ ap (λ (k : ℕ). lastDigits k rest ++ take (end - place) (drop place out)) before
             ∙ f .so-far;
         kept = take-set-le at out p b (omega arith) ∙ f .kept;
+        past = drop-set-lt end out p b (omega arith) ∙ f .past;
         same-length = length-set out p b ∙ f .same-length;
       }
 
@@ -143,6 +154,7 @@ module _ {word out₀ : List ℕ} {at end : ℕ} where
         is =
             ap (λ (k : ℕ). take k out) whole ∙ take-add place (end - place) out
             ∙ ap₂ _++_ (ap (λ (k : ℕ). take k out) there ∙ f .kept) (ap (λ (k : ℕ). lastDigits k rest ++ digits) none ∙ f .so-far);
+        rest = f .past;
         same-length = f .same-length;
       }
 

@@ -201,7 +201,8 @@ fn drawings_of_many_moves() {
     assert!(settled > 8, "{settled}");
 }
 
-/// Every output of the examples in buffers of every length from none to one more than its own.
+/// Every output of the examples in buffers of every length from none to one more than its own, and of
+/// those around the room that is enough for every output.
 #[test]
 fn every_length_of_output() {
     let random = &mut Random::new(82);
@@ -209,7 +210,8 @@ fn every_length_of_output() {
     for (program, texts) in examples_of_each() {
         let run = Run::new(program, &texts);
         let length = run.output.len();
-        for places in 0..=length + 1 {
+        let enough_for_all = product::OUTPUT_BYTES - 1..=product::OUTPUT_BYTES + 1;
+        for places in (0..=length + 1).chain(enough_for_all) {
             let number = run.compare(random, places);
             assert_eq!(number == 13, places < length, "{}", run.shown());
             short += u32::from(number == 13);
