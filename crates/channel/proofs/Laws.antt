@@ -1,31 +1,24 @@
--- The code's constant tables against document 01's table: a table of the code is a column of it, as computing shows, and what stands
--- at a place of a column is of the type at this place.
---     type-place         the type of a code stands at the place before its number
---     type-none          a code whose place is past the table has no type
---     known-place          a code is known where its place is one of the table's
---     number-read          a number of the type of a code, read from its column
---     three-read           a tag in three places, read from the columns of its bytes
---     code-step          the code of a tag is of the type at a place, or among those after it
+-- The code of a type and its place in document 01's table.
+--     type-place     the type of a code stands at the place before its number
+--     type-past      a code past the table has no type, and code 0 neither
+--     place-last     a place of the table that is none of the first seven is the last
+--     type-none      a code whose place is past the table has no type
+--     known-place    a code is known where its place is one of the table's
+--     code-step      the code of a tag is of the type at a place, or among those after it
 use Prim.Native.Nat.{ℕ, zero, suc, _+_, _-_, _≤_, _<_}
-use mathlib.Core.Path.{_≡_, refl, sym, ap, ap₂, _∙_}
+use mathlib.Core.Path.{_≡_, refl, sym, ap, _∙_}
 use mathlib.Core.Bool.{Bool, true, cond, _&&_}
-use mathlib.Core.List.{List, [], _∷_, map}
+use mathlib.Core.List.{List, [], _∷_}
 use native.Mathlib.Numerals.{add-one}
 use native.Mathlib.Omega.{arith}
 use borrow.Author.Tests.{eqb-true, eq-eqb, ne-eqb, le-ltb}
 use lib.Dec.{eqb, leb, ltb}
-use lib.IntN.{ℤ, natAbs}
-use lib.ListN.{length, getD, drop, List·getD-map, List·getD-eq-default}
+use lib.ListN.{length, getD, drop, List·getD-eq-default}
 use lib.Seq.{drop-cons}
-use mir.Syntax.{w32}
-use Rattle.integers.specs.Absolute.{back32}
-use Rattle.integers.specs.Reading.{back}
 use Rattle.text.specs.Parts.{same}
-use Rattle.integers.specs.Tests.{both}
+use Rattle.integers.specs.Tests.{both, Apart, apart-past}
 use Rattle.channel.specs.Channel.{ChannelType, houseTypes, houseCount, channelTypes, codeIn, noType, typeIn, typeOf, known}
 use Rattle.channel.specs.ChannelLaws.{house-sound, known-type}
-use Rattle.limits.specs.Limits.{coordinateLimit, tagLimit}
-use Rattle.lists.specs.Padded.{padded}
 
 -- ---- the place of a code
 
@@ -54,7 +47,16 @@ type-place code h =
     let e : code ≡ suc (0 + (code - 1)) = omega arith in
     ap (typeIn houseTypes) e ∙ counted-type houseTypes 0 refl (code - 1)
 
--- ---- what is read from a column
+pub type-past : (code : ℕ) → (1 ≤ code → houseCount < code) → typeIn houseTypes code ≡ noType
+unfolding houseTypes typeIn
+type-past zero past = refl
+type-past (suc code) past =
+    type-place (suc code) (omega arith) ∙ List·getD-eq-default houseTypes noType {n = suc code - 1} (omega (arith, past (omega arith)))
+
+pub place-last : (at : ℕ) → at < houseCount → Apart (Unit {0}) at 0 7 → at ≡ 7
+place-last at within apart = omega (arith, within, apart-past (Unit {0}) at 0 7 apart (omega arith))
+
+-- ---- a code by its place
 
 -- the code of a type is above 0, and past the table there is none
 some-code : (at : ℕ) → leb 1 (getD houseTypes at noType .code) ≡ ltb at houseCount
@@ -78,23 +80,7 @@ module _ (code at : ℕ) (e : typeIn houseTypes code ≡ getD houseTypes at noTy
   unfolding typeOf
   known-place = sym (known-type channelTypes house-sound code ∙ ap (λ (t : ChannelType). leb 1 (t .code)) e ∙ some-code at)
 
-  pub number-read : (f : ChannelType → ℤ) → natAbs (f (typeIn houseTypes code)) ≤ coordinateLimit
-      → back w32 (getD (map f houseTypes) at (f noType)) ≡ f (typeIn houseTypes code)
-  number-read f h =
-      let is : getD (map f houseTypes) at (f noType) ≡ f (typeIn houseTypes code) = List·getD-map f houseTypes at noType ∙ ap f (sym e) in
-      ap (back w32) is ∙ back32 (f (typeIn houseTypes code)) (omega arith)
-
--- ---- the tags
-
-padded-three : (l : List ℕ) → getD l 0 0 ∷ getD l 1 0 ∷ getD l 2 0 ∷ [] ≡ padded tagLimit l
-unfolding padded
-padded-three [] = refl
-padded-three (a ∷ []) = refl
-padded-three (a ∷ b ∷ []) = refl
-padded-three (a ∷ b ∷ c ∷ l) = refl
-
-pub three-read : {a b c : ℕ} (l : List ℕ) → a ≡ getD l 0 0 → b ≡ getD l 1 0 → c ≡ getD l 2 0 → a ∷ b ∷ c ∷ [] ≡ padded tagLimit l
-three-read l first second third = ap₂ _∷_ first (ap₂ (λ b c. b ∷ c ∷ []) second third) ∙ padded-three l
+-- ---- the code of a tag
 
 pub code-step : (types : List ChannelType) (tag : List ℕ) (at : ℕ) → at < length types
     → codeIn (drop at types) tag

@@ -1,6 +1,6 @@
-// Document 01, "Channel types": constant tables of code, tag, low and high. A type is found by its tag, compared as bytes; its
-// range and its tag are found by its code. Code 0 stands for no type. Whoever keeps, compares or copies codes does it by `Code` and
-// the functions here.
+// Document 01, "Channel types": constant tables of code, low and high, and the tags. A type is found by its tag, compared as bytes; its
+// range and its tag are found by its code. Code 0 stands for no type. Whoever keeps, compares or copies codes does it by `Code` and the
+// functions here. A place of a table is named in each arm of a match: of a table with a computed index all places are written to the stack.
 ghost use mathlib.Core.Path.{_≡_};
 ghost use Prim.Native.Nat.{_≤_, _<_};
 ghost use lib.ListN.{length, getD, take, drop};
@@ -19,15 +19,6 @@ pub type Code = u8;
 const TYPES: usize = 8;
 
 const CODES: [Code; TYPES] = [1, 2, 3, 4, 5, 6, 7, 8];
-
-const TAG_LENGTHS: [u8; TYPES] = [3, 2, 2, 3, 3, 2, 3, 3];
-
-// the first, second and third bytes of the tags TOC, TC, IC, CND, TMP, PH, FLW, ORP
-const TAG_FIRST: [u8; TYPES] = *b"TTICTPFO";
-
-const TAG_SECOND: [u8; TYPES] = *b"OCCNMHLR";
-
-const TAG_THIRD: [u8; TYPES] = *b"C\0\0DP\0WP";
 
 const LOW: [i32; TYPES] = [0, 0, 0, 0, -200, 0, 0, -2000];
 
@@ -75,23 +66,85 @@ pub fn is_known(code: Code) -> bool
 pub fn range_of(code: Code) -> Range
     ensures { λ r. ⌜ r ≡ rangeOf channelTypes code ⌝ }
 {
-    let at = place(code);
-    if TYPES <= at {
-        return Range { low: 0, high: 0 };
-    }
-    Range {
-        low: LOW[at],
-        high: HIGH[at],
+    match code {
+        1 => Range {
+            low: LOW[0],
+            high: HIGH[0],
+        },
+        2 => Range {
+            low: LOW[1],
+            high: HIGH[1],
+        },
+        3 => Range {
+            low: LOW[2],
+            high: HIGH[2],
+        },
+        4 => Range {
+            low: LOW[3],
+            high: HIGH[3],
+        },
+        5 => Range {
+            low: LOW[4],
+            high: HIGH[4],
+        },
+        6 => Range {
+            low: LOW[5],
+            high: HIGH[5],
+        },
+        7 => Range {
+            low: LOW[6],
+            high: HIGH[6],
+        },
+        8 => Range {
+            low: LOW[7],
+            high: HIGH[7],
+        },
+        _ => Range { low: 0, high: 0 },
     }
 }
 
+// The bytes of the tag of the type at a place, and byte 0 past them.
+fn tag_bytes(at: usize) -> [u8; TAG_MOST]
+    requires { ⌜ at < houseCount ⌝ }
+    ensures { λ r. ⌜ r ≡ tagAt houseTypes at .bytes ⌝ }
+{
+    match at {
+        0 => *b"TOC",
+        1 => *b"TC\0",
+        2 => *b"IC\0",
+        3 => *b"CND",
+        4 => *b"TMP",
+        5 => *b"PH\0",
+        6 => *b"FLW",
+        _ => *b"ORP",
+    }
+}
+
+// How many they are.
+fn tag_length(at: usize) -> usize
+    requires { ⌜ at < houseCount ⌝ }
+    ensures { λ r. ⌜ r ≡ tagAt houseTypes at .length ⌝ }
+{
+    match at {
+        0 => 3,
+        1 => 2,
+        2 => 2,
+        3 => 3,
+        4 => 3,
+        5 => 2,
+        6 => 3,
+        _ => 3,
+    }
+}
+
+// The tag of the type at a place.
 fn tag_at(at: usize) -> Tag
     requires { ⌜ at < houseCount ⌝ }
     ensures { λ r. ⌜ r ≡ tagAt houseTypes at ⌝ }
 {
     Tag {
-        bytes: [TAG_FIRST[at], TAG_SECOND[at], TAG_THIRD[at]],
-        length: TAG_LENGTHS[at] as usize,
+        bytes: tag_bytes(at),
+        length: tag_length(at),
     }
 }
 

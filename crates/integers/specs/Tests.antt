@@ -9,15 +9,18 @@
 --     cond-same                             a test that makes no difference
 --     cond-some                             what a choice against nothing answers
 --     range-in, range-under, range-over     whether a number is between two others
+--     Apart A b low k                       A, and b is none of k numbers, of which low is the first: what is left of a match on b after arms for these
+--     apart-before, apart-past              A; where b is not below these numbers it is past them
+--     range-apart                           where they are the numbers between two others, b is not between those
 --     sameInteger, sameFlag                 the tests that two integers, two truth values are the same
 --     integer-eq, integer-refl              what the first says
 --     flag-eq, flag-refl                    what the second says
-use Prim.Native.Nat.{ℕ, suc, _≤_, _<_}
+use Prim.Native.Nat.{ℕ, zero, suc, _+_, _≤_, _<_}
 use mathlib.Core.Path.{_≡_, refl, sym, ap, ap₂, _∙_}
 use mathlib.Core.Bool.{Bool, true, false, not, cond, _&&_, _||_, and-false}
 use mathlib.Core.Option.{Option, none, some}
 use native.Mathlib.Omega.{arith}
-use borrow.Author.Tests.{le-leb, lt-leb, eqb-true, eq-eqb}
+use borrow.Author.Tests.{le-leb, lt-leb, leb-true, leb-false, eqb-true, eq-eqb}
 use lib.Dec.{eqb, leb}
 use lib.IntN.{ℤ, pos, negsuc}
 
@@ -67,6 +70,28 @@ module _ (low high b : ℕ) where
 
   pub range-over : high < b → (leb low b && leb b high) ≡ false
   range-over h = ap (λ t. leb low b && t) (lt-leb b high h) ∙ and-false (leb low b)
+
+unfoldable pub Apart : Type 0 → ℕ → ℕ → ℕ → Type 0
+Apart A b low zero = A
+Apart A b low (suc k) = Apart A b low k × (b ≡ low + k → ⊥)
+
+module _ (A : Type 0) (b low : ℕ) where
+  pub apart-before : (k : ℕ) → Apart A b low k → A
+  unfolding Apart
+  apart-before zero apart = apart
+  apart-before (suc k) apart = apart-before k (apart .0)
+
+  pub apart-past : (k : ℕ) → Apart A b low k → low ≤ b → low + k ≤ b
+  unfolding Apart
+  apart-past zero apart l = omega (arith, l)
+  apart-past (suc k) apart l = omega (arith, apart-past k (apart .0) l, apart .1)
+
+  pub range-apart : (high k : ℕ) → high < low + k → Apart A b low k → (leb low b && leb b high) ≡ false
+  range-apart high k all apart = go (leb low b) refl
+    where
+      go : (t : Bool) → leb low b ≡ t → (leb low b && leb b high) ≡ false
+      go true e = range-over low high b (omega (arith, all, apart-past k apart (leb-true low b e)))
+      go false e = range-under low high b (leb-false low b e)
 
 -- ---- the same
 

@@ -11,7 +11,8 @@ use channel::Code;
 use label::label_field;
 use text::parts::line_end;
 use value::Value;
-use value::read_value_at;
+use value::read_written_at;
+use value::written_value;
 
 // What a line is: not in form, in form with a tag that is not the envelope's, in form and of its tags with a value outside its
 // range, or within every range.
@@ -45,14 +46,15 @@ fn read_pairs(line: &[u8], at: usize, codes: &[Code], n: usize, places: &mut [i3
         tags_agree = tag.agrees & tags_agree;
         let value_at = tag.end + 1;
         let range = channel::range_of(code);
-        let read = read_value_at(line, value_at, range);
-        let value = read.value;
+        let written = read_written_at(line, value_at);
+        let number = written.number;
+        let value = written_value(written.below, number, range);
         match value {
             Value::Malformed => return Line::Malformed,
             Value::OutOfRange => out_of_range = true,
             Value::Reads(whole) => places[i] = whole,
         }
-        from = read.end + 1;
+        from = written.end + 1;
         i += 1;
     }
     if from <= line.len() {

@@ -19,7 +19,7 @@ pub record PartEnd (c : ℕ) (s : List ℕ) (at e : ℕ) : Type 0 where
   pub high : e ≤ length s
 
 abbrev pub blockLength : ℕ
-blockLength = 16
+blockLength = 8
 
 pub record LineAfter (text : List ℕ) (at r : ℕ) : Type 0 where
   pub low : at < r

@@ -6,7 +6,7 @@ ghost use Rattle.text.specs.Parts.{free};
 ghost use Rattle.text.specs.Contracts.{PartEnd, blockLength};
 
 // how many bytes a block has: those that the machine compares at once
-const BLOCK: usize = 16;
+const BLOCK: usize = 8;
 
 // Whether the byte stands nowhere in the block that starts at `at`. Every byte of it is compared, so that all are at once.
 fn block_free(text: &[u8], at: usize, byte: u8) -> bool

@@ -7,6 +7,7 @@
 --     below-limit                what stands after `<` in range is not below 0, and at most 4,000
 --     plain-read, below-read     a number kept up to 10^19 is judged as the number itself
 --     value-led, value-other     a field as a value, by what is read after `<`, or of all of it where it has none
+--     value-at                   a field as a value, by the number that is read in it
 --     range-found                the range of a code is within 4,000 of 0
 use Prim.Native.Nat.{ℕ, suc, _≤_, _<_}
 use mathlib.Core.Path.{_≡_, refl, sym, ap, subst, _∙_}
@@ -20,6 +21,8 @@ use lib.Signed.{leZ}
 use Rattle.integers.specs.Absolute.{abs-neg}
 use Rattle.integers.specs.Tests.{both, clash, impossible}
 use Rattle.text.specs.Fields.{startsWith}
+use Rattle.text.specs.FieldsLaws.{read-past}
+use Rattle.text.specs.Contracts.{FieldRead}
 use Rattle.number.specs.Number.{plain}
 use Rattle.number.specs.Contracts.{magnitudeLimit, saturated, plainRead, plainField}
 use Rattle.number.specs.declared.Plain.{Plain}
@@ -31,7 +34,7 @@ use Rattle.channel.specs.declared.Range.{Range}
 use Rattle.limits.specs.Limits.{coordinateLimit}
 use Rattle.value.specs.Value.{number, below, lessThan, inRange, belowRange, half, valueOf, valueUnder, valueRead}
 use Rattle.value.specs.ValueLaws.{far-outside, between}
-use Rattle.value.specs.Contracts.{RangeWithin, signed, plainUnder, belowUnder, writtenUnder}
+use Rattle.value.specs.Contracts.{RangeWithin, signed, plainUnder, belowUnder, writtenUnder, WrittenRead}
 use Rattle.value.specs.declared.Value.{Value}
 use Rattle.value.specs.declared.Value.the-variants.{Malformed, OutOfRange, Reads}
 
@@ -124,6 +127,11 @@ module _ (range : Range) (w : RangeWithin range) where
   value-other (b ∷ l) h =
       ap (λ t. valueUnder range (cond t (Option·map below (plain l)) (Option·map number (plain (b ∷ l))))) h
       ∙ sym (plain-read range w (plain (b ∷ l)))
+
+  pub value-at : {s : List ℕ} {at : ℕ} {after : Bool} {p : Plain} {r : Value} {e : ℕ} → WrittenRead s at after p e
+      → r ≡ writtenUnder range after p → FieldRead (valueRead range) s at r e
+  value-at written is =
+      read-past _ (valueRead range) (writtenUnder range) lessThan (λ z. omega arith) value-led value-other _ _ (written .past) (written .read) is
 
 -- ---- the range of a code
 

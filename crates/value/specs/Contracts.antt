@@ -5,15 +5,19 @@
 --     plainUnder range p        the number as a value of its own
 --     belowUnder range p        the number as one that stands after `<`
 --     writtenUnder range b p    the number as the one or the other
+--     WrittenRead s at b p e    p is the number in the field of s that starts at index at and ends at index e, after `<` where b holds
 use Prim.Native.Nat.{ℕ, _≤_}
 use mathlib.Core.Bool.{Bool, true, false, cond}
+use mathlib.Core.List.{List}
 use mathlib.Core.Option.{some}
 use lib.IntN.{ℤ, pos, negℤ, natAbs}
+use Rattle.text.specs.Contracts.{PastByte, FieldRead}
+use Rattle.number.specs.Contracts.{plainField}
 use Rattle.number.specs.declared.Plain.{Plain}
 use Rattle.number.specs.declared.Plain.the-variants as written
 use Rattle.limits.specs.Limits.{coordinateLimit}
 use Rattle.channel.specs.declared.Range.{Range}
-use Rattle.value.specs.Value.{Written, number, below, valueUnder}
+use Rattle.value.specs.Value.{Written, number, below, lessThan, valueUnder}
 use Rattle.value.specs.declared.Value.{Value}
 use Rattle.value.specs.declared.Value.the-variants.{Malformed}
 
@@ -37,3 +41,8 @@ belowUnder = under below
 
 abbrev pub writtenUnder : Range → Bool → Plain → Value
 writtenUnder range after p = cond after (belowUnder range p) (plainUnder range p)
+
+pub record WrittenRead (s : List ℕ) (at : ℕ) (after : Bool) (p : Plain) (e : ℕ) : Type 0 where
+  pub start : ℕ
+  pub past : PastByte lessThan s at after start
+  pub read : FieldRead plainField s start p e

@@ -1,14 +1,14 @@
 // A value field under a range, read: the one place where a written value meets its range, and where one below detection, `<` and a
-// number, becomes the number that it reads as.
+// number, becomes the number that it reads as. The number is read by one call and held against its range by another: together they are
+// too long for the compiler to put them into the loops over the fields.
 ghost use Prim.Native.Nat.{_≤_};
 ghost use mathlib.Core.Path.{_≡_};
 ghost use lib.IntN.{pos, natAbs};
 ghost use lib.ListN.{length};
 ghost use Rattle.integers.specs.Reading.{Bounded};
 ghost use Rattle.limits.specs.Limits.{coordinateLimit};
-ghost use Rattle.text.specs.Contracts.{FieldRead};
-ghost use Rattle.value.specs.Value.{inRange, half, valueRead};
-ghost use Rattle.value.specs.Contracts.{RangeWithin, plainUnder, belowUnder, writtenUnder};
+ghost use Rattle.value.specs.Value.{inRange, half};
+ghost use Rattle.value.specs.Contracts.{RangeWithin, plainUnder, belowUnder, writtenUnder, WrittenRead};
 use channel::Range;
 use limits::COORDINATE_MOST;
 use number::Plain;
@@ -24,9 +24,10 @@ pub enum Value {
     Reads(i32),
 }
 
-// What the value field that starts somewhere in a line holds, and where it ends.
-pub struct ValueAt {
-    pub value: Value,
+// The number of the value field that starts somewhere in a line, whether `<` stands before it, and where the field ends.
+pub struct WrittenAt {
+    pub below: bool,
+    pub number: Plain,
     pub end: usize,
 }
 
@@ -91,7 +92,7 @@ fn below_detection(number: Plain, range: Range) -> Value
 }
 
 // A number under a range, after `<` or by itself.
-fn written_value(below: bool, number: Plain, range: Range) -> Value
+pub fn written_value(below: bool, number: Plain, range: Range) -> Value
     requires { ⌜ RangeWithin range ⌝ }
     ensures { λ r. ⌜ r ≡ writtenUnder range below number ⌝ }
 {
@@ -102,16 +103,17 @@ fn written_value(below: bool, number: Plain, range: Range) -> Value
     }
 }
 
-// The field of a line that starts at `at` as a value under a range, and where it ends.
-pub fn read_value_at(line: &[u8], at: usize, range: Range) -> ValueAt
-    requires { ⌜ RangeWithin range × (at ≤ length (now line)) ⌝ }
-    ensures { λ r. ⌜ FieldRead (valueRead range) (now (line .entry)) at (r .value) (r .end) ⌝ }
+// The field of a line that starts at `at` as a number, after `<` or by itself, and where it ends.
+pub fn read_written_at(line: &[u8], at: usize) -> WrittenAt
+    requires { ⌜ at ≤ length (now line) ⌝ }
+    ensures { λ r. ⌜ WrittenRead (now (line .entry)) at (r .below) (r .number) (r .end) ⌝ }
 {
     let below = past_byte(line, at, LESS_THAN);
     let plain = plain_number_at(line, below.next);
     let number = plain.number;
-    ValueAt {
-        value: written_value(below.found, number, range),
+    WrittenAt {
+        below: below.found,
+        number,
         end: plain.end,
     }
 }

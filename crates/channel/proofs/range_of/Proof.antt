@@ -1,36 +1,51 @@
--- `channel::range_of` meets its contract: the tables of low and high are columns of document 01's table, read at the place of the
--- code's type; a code whose place is past them has no type.
+-- `channel::range_of` meets its contract: at each code of document 01's table the definition computes to its range, and any other code
+-- has no type.
+use mathlib.Core.Path.{sym, ap}
 use borrow.Author.Needs.{needs}
-use mathlib.Core.Path.{sym, ap, ap₂}
-use native.Mathlib.Omega.{arith}
-use lib.IntN.{ℤ}
-use Rattle.channel.specs.Channel.{houseTypes, channelTypes, typeOf}
-use Rattle.channel.specs.ChannelLaws.{house-sound, range-within}
+use Rattle.integers.specs.Tests.{Apart, apart-past}
+use Rattle.channel.specs.Channel.{ChannelType, houseTypes, channelTypes, typeIn, typeOf}
+use Rattle.channel.specs.Contracts.{rangeOf}
 use Rattle.channel.specs.declared.Range.{Range}
-use Rattle.channel.proofs.Laws.{type-none, number-read}
+use Rattle.channel.proofs.Laws.{type-past}
 use Rattle.channel.proofs.range_of.Statement.{statement}
 use Rattle.channel.proofs.range_of.Tie as tie
 
-from-to : ℤ → ℤ → Range
-from-to l h = record { low = l; high = h }
+of-type : ChannelType → Range
+of-type t = record { low = t .low; high = t .high }
 
-returns : tie.Need-returns
-unfolding from-to typeOf
-returns c =
-    sym (ap (λ t. from-to (t .low) (t .high))
-    (type-none (c .before .before .args .code) (c .before .place .result) (c .before .place .ensures) (omega arith)))
-
-returns-2 : tie.Need-returns-2
-unfolding houseTypes from-to typeOf
-returns-2 c =
-    let code = c .before .before .before .before .args .code in
-    let at = c .before .before .before .place in
-    let within = range-within channelTypes house-sound code in
-    ap₂ from-to
-    (number-read code (at .result) (at .ensures) (λ t. t .low) (within .0))
-    (number-read code (at .result) (at .ensures) (λ t. t .high) (within .1))
+returns-9 : tie.Need-returns-9
+unfolding Apart of-type typeOf
+returns-9 c =
+    let code = c .before .args .code in
+    sym (ap of-type (type-past code (apart-past (Unit {0}) code 1 8 (c .match .rest))))
 
 pub range-of-spec : {M : Type 1} → statement M
+unfolding houseTypes typeIn typeOf
 range-of-spec =
     tie.close
-    (tie.spec (λ c κs. search needs) returns (λ c. search needs) (λ c. search needs) (λ c. search needs) (λ c. search needs) returns-2)
+    (tie.spec
+    (λ c. search needs)
+    (λ c. search needs)
+    (λ c. search needs)
+    (λ c. search needs)
+    (λ c. search needs)
+    (λ c. search needs)
+    (λ c. search needs)
+    (λ c. search needs)
+    (λ c. search needs)
+    (λ c. search needs)
+    (λ c. search needs)
+    (λ c. search needs)
+    (λ c. search needs)
+    (λ c. search needs)
+    (λ c. search needs)
+    (λ c. search needs)
+    (λ c. sym (ap (rangeOf channelTypes) (c .before .before .match .keys1)))
+    (λ c. sym (ap (rangeOf channelTypes) (c .before .before .match .keys2)))
+    (λ c. sym (ap (rangeOf channelTypes) (c .before .before .match .keys3)))
+    (λ c. sym (ap (rangeOf channelTypes) (c .before .before .match .keys4)))
+    (λ c. sym (ap (rangeOf channelTypes) (c .before .before .match .keys5)))
+    (λ c. sym (ap (rangeOf channelTypes) (c .before .before .match .keys6)))
+    (λ c. sym (ap (rangeOf channelTypes) (c .before .before .match .keys7)))
+    (λ c. sym (ap (rangeOf channelTypes) (c .before .before .match .keys8)))
+    returns-9)

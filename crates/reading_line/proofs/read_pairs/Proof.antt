@@ -1,7 +1,7 @@
 -- The loop's invariant: the values so far are those of the walk over the values alone, two fields a turn are passed, and the tags
 -- of all agree where those so far do and those of the fields from here on. A field that is missing, too many or no value decides
 -- the answer. What is left of n falls.
-use Prim.Native.Nat.{_-_, _<_}
+use Prim.Native.Nat.{_+_, _-_, _<_}
 use mathlib.Core.Path.{_≡_, refl, sym, ap, _∙_}
 use mathlib.Core.Logic.{⊎-elim}
 use mathlib.Core.Bool.{true, false, _&&_}
@@ -14,10 +14,12 @@ use lib.Seq.{length-take-le, getD-take}
 use denote.Ref.{now}
 use mir.Syntax.{w32}
 use mir.Facts.{toZ-ofZ}
+use Rattle.text.specs.Contracts.{FieldRead}
 use Rattle.text.specs.Parts.{comma, partsFrom}
 use Rattle.text.specs.PartsLaws.{parts-none, parts-some, last-part}
 use Rattle.channel.specs.Channel.{channelTypes}
-use Rattle.value.specs.ContractLaws.{range-found}
+use Rattle.value.specs.Value.{valueRead}
+use Rattle.value.specs.ContractLaws.{range-found, value-at}
 use Rattle.value.proofs.ValuesSteps.{read-under, read-malformed, read-told, values-outside, values-within}
 use Rattle.reading_line.proofs.LineSteps.{two-fields, PairsSoFar, pairs-none, pairs-next, value-here, pairs-malformed, pairs-few, pairs-many, pairs-done}
 use Rattle.reading_line.proofs.read_pairs.Statement.{statement}
@@ -53,32 +55,49 @@ returns-2 c =
     pairs-few (at-loop .loop .inv) (omega (arith, codes at-loop))
     (last-part comma _ _ _ (at-within .if1 .left) (at-tag .read-tag .ensures .ends) (sym (c .if2 .taken))) (omega arith)
 
-read-value-at-requires : tie.Need-read-value-at-requires Inv-loop μ-loop
-read-value-at-requires c κs =
+read-written-at-requires : tie.Need-read-written-at-requires Inv-loop μ-loop
+read-written-at-requires c κs =
     let at-more = c .before .before .before in
-    (range-found _ _ (c .range-of .ensures), omega (arith, at-more .if2 .left, at-more .before .before .read-tag .ensures .ends .high))
+    omega (arith, at-more .if2 .left, at-more .before .before .read-tag .ensures .ends .high)
+
+-- what is read of the value's field under the range of its code
+read-here : (c : tie.After-written-value Inv-loop μ-loop) → let at-range = c .before .before in
+    let at-tag = at-range .before .before .before .before .before in
+    let at-loop = at-tag .before .before .before .before in
+    FieldRead (valueRead (at-range .range-of .result)) (now (at-loop .before .before .before .args .line)) (at-tag .read-tag .result .end + 1)
+    (c .written-value .result) (c .before .read-written-at .result .end)
+read-here c =
+    value-at _ (range-found _ _ (c .before .before .range-of .ensures)) (c .before .read-written-at .ensures) (c .written-value .ensures)
 
 returns-3 : tie.Need-returns-3 Inv-loop μ-loop
 returns-3 c =
     let at-value = c .before .before in
-    let at-more = at-value .before .before .before .before in
+    let at-more = at-value .before .before .before .before .before in
     let at-tag = at-more .before .before in
     let at-within = at-tag .before .before in
-    let read = at-value .read-value-at .ensures in
+    let read = read-here at-value in
     pairs-malformed (at-within .before .before .loop .inv)
     (two-fields _ _ (at-within .if1 .left) (at-tag .read-tag .ensures .ends) (at-more .if2 .left) (read .ends))
-    (read-malformed _ _ (sym (c .enum-told .given .1) ∙ read-under _ (read .is) (at-value .before .range-of .ensures)))
+    (read-malformed _ _ (sym (c .enum-told .given .1) ∙ read-under _ (read .is) (at-value .before .before .range-of .ensures)))
+
+mul-whole : tie.Need-mul-whole Inv-loop μ-loop
+mul-whole c =
+    let at-value = c .before .before .before in
+    let at-more = at-value .before .before .before .before .before in
+    let at-within = at-more .before .before .before .before in
+    let start = at-within .before .before .before .before .before in
+    omega arith
 
 loop-again : tie.Need-loop-again Inv-loop μ-loop
 loop-again c =
     let at-match = c .before in
     let at-value = at-match .before in
-    let at-more = at-value .before .before .before .before in
+    let at-more = at-value .before .before .before .before .before in
     let at-tag = at-more .before .before in
     let at-within = at-tag .before .before in
     let at-loop = at-within .before .before in
     let args = at-loop .before .before .before .args in
-    let read = at-value .read-value-at .ensures in
+    let read = read-here at-value in
     let tag = at-tag .read-tag .ensures in
     let within : at-loop .loop .i < length (take (args .n) (now (args .codes))) = omega (arith, codes at-loop) in
     let fields = two-fields _ _ (at-within .if1 .left) (tag .ends) (at-more .if2 .left) (read .ends) in
@@ -86,11 +105,11 @@ loop-again c =
     pairs-next (at-loop .loop .inv) within fields code (ap (λ b. b && at-loop .loop .tags-agree) (tag .is))
     (⊎-elim
     (λ w.
-    let t = read-told _ _ false (pos 0) (sym (w .1 .given .1) ∙ read-under _ (read .is) (at-value .before .range-of .ensures)) in
+    let t = read-told _ _ false (pos 0) (sym (w .1 .given .1) ∙ read-under _ (read .is) (at-value .before .before .range-of .ensures)) in
     values-outside (at-loop .loop .inv .values) within (value-here (at-loop .loop .inv) fields) code (t .0) (w .2) (w .3))
     (λ w.
     let z = w .1 .given .0 .0 in
-    let t = read-told _ _ true z (sym (w .1 .given .1) ∙ read-under _ (read .is) (at-value .before .range-of .ensures)) in
+    let t = read-told _ _ true z (sym (w .1 .given .1) ∙ read-under _ (read .is) (at-value .before .before .range-of .ensures)) in
     let x = toZ-ofZ (sfits-of {w = w32} {z = z} (w .2 .given .0 .1)) in
     values-within (at-loop .loop .inv .values) within (value-here (at-loop .loop .inv) fields) code (t .0) (x ∙ t .1 refl) (omega arith)
     (w .3) (w .4))
@@ -135,13 +154,14 @@ read-pairs-spec =
     returns-2
     (λ c. search needs)
     (λ c κs. search needs)
-    read-value-at-requires
+    read-written-at-requires
+    (λ c κs. range-found _ _ (c .before .range-of .ensures))
     (λ c. search needs)
     (λ c. search needs)
     returns-3
     (λ c. search needs)
     (λ c. search needs)
-    (λ c. search needs)
+    mul-whole
     (λ c. search needs)
     (λ c. search needs)
     (λ c. search needs)
