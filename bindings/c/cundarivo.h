@@ -89,10 +89,11 @@
  *
  *   The library has no variables of its own and allocates no memory, so that any number of threads may call
  *   it at the same time. It needs memcpy and memset of the C library.
- *   cundarivo_program_judge needs at most 640 KiB of stack, since its whole output is made there before it is
- *   handed out; cundarivo_program_draw at most 96 KiB and cundarivo_draw at most 64 KiB, since a drawing keeps
- *   32 KiB of squared distances there; every other cundarivo_program_... at most 64 KiB, and every other call
- *   at most 32 KiB. This is measured of the built library and tested, not proved.
+ *   cundarivo_program_judge needs at most 640 KiB of stack, since its whole output is made there, before it is
+ *   handed out, where the buffer has no room for every output; cundarivo_program_draw at most 96 KiB and
+ *   cundarivo_draw at most 64 KiB, since a drawing keeps 32 KiB of squared distances there; every other
+ *   cundarivo_program_... at most 64 KiB, and every other call at most 32 KiB. This is measured of the built
+ *   library and tested, not proved.
  *   It is built for x86-64 and its System V calling convention (Linux).
  */
 #ifndef CUNDARIVO_H

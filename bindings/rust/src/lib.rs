@@ -170,11 +170,11 @@
 //! of threads may call it at the same time. It allocates nothing: the calls that answer with lists
 //! allocate these in this package, and the library's own calls use lent slices alone.
 //!
-//! [`programs::judge`] needs at most 640 KiB of stack, since its whole output is made there before it
-//! is handed out; [`programs::draw`] at most 96 KiB and [`draw`] at most 64 KiB, since a drawing keeps
-//! 32 KiB of squared distances there; the other [`programs`] at most 64 KiB, and every other call at
-//! most 32 KiB. The 2 MiB that a thread of Rust has by default are enough for each. This is measured
-//! and tested, not proved.
+//! [`programs::judge`] needs at most 640 KiB of stack, since its whole output is made there, before it
+//! is handed out, where it is lent less than room for every output; [`programs::draw`] at most 96 KiB
+//! and [`draw`] at most 64 KiB, since a drawing keeps 32 KiB of squared distances there; the other
+//! [`programs`] at most 64 KiB, and every other call at most 32 KiB. The 2 MiB that a thread of Rust
+//! has by default are enough for each. This is measured and tested, not proved.
 //!
 //! # Building
 //!

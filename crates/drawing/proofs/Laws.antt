@@ -24,9 +24,10 @@ use Rattle.limits.specs.Limits.{total, rowLimit}
 use Rattle.integers.specs.Reading.{Bounded}
 use Rattle.geometry.specs.Contracts.{Table, WeightsOf}
 use Rattle.geometry.specs.MoveLaws.{separation-positive, moveWeight-length, moved-by}
-use Rattle.moves.specs.Contracts.{Paired, Movable, ScoresWithin, Scored, columnLimit, Keeping, Raised, Carriable, Carried}
+use Rattle.scores.specs.Contracts.{ScoresWithin, columnLimit, Keeping, Raised, Carriable, Carried}
+use Rattle.scores.specs.ColumnLaws.{columns-none}
+use Rattle.moves.specs.Contracts.{Paired, Movable, Scored}
 use Rattle.moves.specs.ContractLaws.{movable, weights-moved, scored-first, carriable, scored-moved}
-use Rattle.moves.specs.ColumnLaws.{columns-none}
 use Rattle.moves.specs.declared.Pair.{Pair}
 use Rattle.ball.specs.declared.Ball.{Ball}
 use Rattle.drawing.specs.declared.Ended.{Ended}

@@ -16,14 +16,14 @@ use limits::BUDGET_MOST;
 use limits::ROWS;
 use limits::TOTAL;
 use moves::Pair;
-use moves::kept::COLUMN_PLACES;
-use moves::kept::COLUMNS;
-use moves::scores::carry_scores;
-use moves::scores::first_scores;
 use moves::step::one_move;
 use moves::step::pair_of_scores;
 use moves::step::transfer_of;
 use refusal::Outcome;
+use scores::carried::carry_scores;
+use scores::carried::first_scores;
+use scores::kept::COLUMN_PLACES;
+use scores::kept::COLUMNS;
 
 // What a drawing answers. Where accepted, `ball.settled` tells the ending: Settled, else Budget. A refusal has every figure 0.
 pub struct Drawing {

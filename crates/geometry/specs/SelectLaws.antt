@@ -1,4 +1,5 @@
--- Laws of `farthest`, `nearest` and `largest`. `Strict less` says that `less` is a strict order, in which elements may tie.
+-- Laws of `farthest`, `nearest` and `largest`. `Strict less` says that `less` is a strict order, in which elements may tie; `ltb-strict`: that of
+-- the naturals is one.
 --     farthest-one, nearest-one             of one row, row 0
 --     farthest-taken, farthest-kept         one row more is the far row, or is not; nearest alike
 --     farthest-within, nearest-within       the row found is one of the m rows
@@ -13,9 +14,12 @@
 --     FarSoFar                              the far row of those i rows, and its score
 --     far-start                             at row 0, before and after it is seen
 --     far-replaced, far-kept, far-done      one row more takes its place, or does not; the last row is seen
+--     far-passed, far-among, far-within     k rows more, none of which does; the same pass over more or fewer rows; the row is one of them
+--     far-next, near-next                   the same rows, their number said otherwise
+--     Picked                                what a pass has at its end
 --     Unmet, Met, NearSoFar                 the near row of those i rows and its score, if one of them has weight
 --     near-start                            before the first row
---     near-light                            one row more, without weight
+--     near-light, near-passed, near-among   one row more, without weight; k such rows; the same pass over more or fewer rows
 --     near-replaced, near-kept, near-done   one row more, with weight, takes its place, or does not; the last row is seen
 -- Over ℕ with `ltb`, as facts of numbers:
 --     farthest-mostℕ, farthest-lowestℕ, nearest-leastℕ, nearest-lowestℕ
@@ -256,11 +260,31 @@ module _ {A : Type 0} {less : A → A → Bool} {score : ℕ → A} {m : ℕ} wh
           best-is = q ∙ f .best-is ∙ ap score (sym p);
         }
 
+  pub far-next : {i i' row : ℕ} {best : A} → FarSoFar less score m i row best → i ≡ i' → FarSoFar less score m i' row best
+  far-next {row = row} {best} f e = subst (λ x. FarSoFar less score m x row best) e f
+
   pub far-done : {i row : ℕ} {best : A} → FarSoFar less score m i row best → m ≤ i → 0 < m → Picked score m (farthest less score m) row best
   far-done {i} f h some =
       let all : i ≡ m = omega (arith, f .most) in
       let found = f .row-is ∙ ap (farthest less score) all in
       record { row-is = found; within = subst (λ j. j < m) (sym found) (farthest-within less score m some); best-is = f .best-is }
+
+  pub far-among : {i row : ℕ} {best : A} → FarSoFar less score m i row best → (m' : ℕ) → i ≤ m' → FarSoFar less score m' i row best
+  far-among f m' l = record { most = l; row-is = f .row-is; best-is = f .best-is }
+
+  pub far-within : {i row : ℕ} {best : A} → FarSoFar less score m i row best → 0 < m → row < m
+  unfolding farthest
+  far-within {i} f some = go i (f .most) (f .row-is)
+    where
+      go : (i : ℕ) {row : ℕ} → i ≤ m → row ≡ farthest less score i → row < m
+      go zero l e = omega (arith, e)
+      go (suc i) l e = omega (arith, e, farthest-within less score (suc i) (omega arith))
+
+  pub far-passed : (k : ℕ) {i row : ℕ} {best : A} → FarSoFar less score m i row best → i + k ≤ m
+      → ((j : ℕ) → j < k → less best (score (i + j)) ≡ false) → FarSoFar less score m (i + k) row best
+  far-passed zero f l h = far-next f (omega arith)
+  far-passed (suc k) f l h =
+      far-next (far-kept (far-passed k f (omega arith) (λ j b. h j (omega arith))) (omega arith) refl (h k (omega arith)) refl refl) (omega arith)
 
 -- before the first row of weight above 0: `above` is kept, above every score
 pub record Unmet {A : Type 0} (w : ℕ → ℕ) (above : A) (i row : ℕ) (best : A) : Type 0 where
@@ -353,6 +377,18 @@ module _ {A : Type 0} {less : A → A → Bool} {w : ℕ → ℕ} {score : ℕ �
                 row-is = p ∙ k .row-is ∙ sym (nearest-kept less w score i (against k ∙ not-below));
                 best-is = q ∙ k .best-is ∙ ap score (sym p);
               }
+
+  pub near-among : {i row : ℕ} {best : A} → NearSoFar less w score above m i row best → (m' : ℕ) → i ≤ m' → NearSoFar less w score above m' i row best
+  near-among f m' l = record { most = l; so-far = f .so-far }
+
+  pub near-next : {i i' row : ℕ} {best : A} → NearSoFar less w score above m i row best → i ≡ i' → NearSoFar less w score above m i' row best
+  near-next {row = row} {best} f e = subst (λ x. NearSoFar less w score above m x row best) e f
+
+  pub near-passed : (k : ℕ) {i row : ℕ} {best : A} → NearSoFar less w score above m i row best → i + k ≤ m
+      → ((j : ℕ) → j < k → w (i + j) ≤ 0) → NearSoFar less w score above m (i + k) row best
+  near-passed zero f l h = near-next f (omega arith)
+  near-passed (suc k) f l h =
+      near-next (near-light (near-passed k f (omega arith) (λ j b. h j (omega arith))) (omega arith) (h k (omega arith)) refl refl) (omega arith)
 
   -- some row has weight
   pub near-done : {i row : ℕ} {best : A} → NearSoFar less w score above m i row best → m ≤ i → 0 < sumℕ m w

@@ -19,7 +19,8 @@ use Rattle.geometry.specs.Contracts.{Table, WeightsOf}
 use Rattle.geometry.specs.MoveLaws.{difference-within}
 use Rattle.geometry.specs.SelectLaws.{Picked, farthest-cong, farthest-mostℕ, nearest-cong}
 use Rattle.limits.specs.Limits.{separationLimit, total}
-use Rattle.moves.specs.Contracts.{FoundRow, Paired, scoreOf}
+use Rattle.scores.specs.Contracts.{scoreOf}
+use Rattle.moves.specs.Contracts.{FoundRow, Paired}
 use Rattle.moves.specs.declared.Selected.{Selected}
 
 pub found : {scores : List ℕ} {m pick row score : ℕ} → Picked (scoreOf scores) m pick row score

@@ -1,13 +1,20 @@
--- What moving t from one row to another keeps, for any two rows and any t that the first has; and the scores beside the weights.
+-- Tests of the rows of a block; what moving t from one row to another keeps, for any two rows and any t that the first has; and the scores
+-- beside the weights.
+--     each-none         a test of no row
+--     each-more         and of one row more
+--     each-at           what holds of each row of a block holds of a row of it
 --     movable           weights within the machine's bound can be moved
 --     weights-moved     the weights still sum to D
 --     scored-within     e is within the limit on s
 --     scored-first      the scores of all weight on the first row
 --     carriable         t can move in them
 --     scored-moved      the scores carried beside the weights are still theirs
-use Prim.Native.Nat.{ℕ, _+_, _*_, _≤_, _<_}
-use mathlib.Core.Path.{_≡_, sym, _∙_, ap₂}
+use Prim.Native.Nat.{ℕ, zero, suc, _+_, _*_, _≤_, _<_}
+use mathlib.Core.Path.{_≡_, refl, sym, _∙_, ap, ap₂}
+use mathlib.Core.Bool.{Bool, true, _&&_}
 use mathlib.Core.List.{List}
+use native.Mathlib.Decide.{decLt}
+use native.Mathlib.Numerals.{add-one}
 use native.Mathlib.Omega.{arith}
 use native.Mathlib.Nat.{mul-le-mul-right, zero-add}
 use lib.IntN.{ℤ}
@@ -19,8 +26,34 @@ use Rattle.geometry.specs.ScoreLaws.{score-part, score-first, score-moved, scor
 use Rattle.geometry.specs.Scores.{weightedSquaredDistance}
 use Rattle.geometry.specs.Table.{coordinate}
 use Rattle.geometry.specs.TableLaws.{weights-within, weight-most}
+use Rattle.integers.specs.Tests.{both}
 use Rattle.limits.specs.Limits.{total}
-use Rattle.moves.specs.Contracts.{scoreOf, columnOf, Movable, ScoresWithin, Scored, Raised, Carriable, Carried}
+use Rattle.scores.specs.Contracts.{scoreOf, columnOf, ScoresWithin, Raised, Carriable, Carried}
+use Rattle.moves.specs.Contracts.{eachFrom, Movable, Scored}
+
+-- ---- blocks of rows
+
+module _ (test : ℕ → Bool) (at : ℕ) where
+  pub each-none : true ≡ eachFrom test at 0
+  unfolding eachFrom
+  each-none = refl
+
+  pub each-more : (k : ℕ) {so-far here : Bool} → so-far ≡ eachFrom test at k → here ≡ test (at + k) → (so-far && here) ≡ eachFrom test at (k + 1)
+  unfolding eachFrom
+  each-more k e f = ap₂ _&&_ e f ∙ ap (eachFrom test at) (sym (add-one k))
+
+  pub each-at : (k : ℕ) → eachFrom test at k ≡ true → (j : ℕ) → j < k → test (at + j) ≡ true
+  unfolding eachFrom
+  each-at zero e j l = absurd (omega arith)
+  each-at (suc k) e j l =
+      let p = both (eachFrom test at k) (test (at + k)) e in
+      go (each-at k (p .0) j) (p .1) (decLt j k)
+    where
+      go : (j < k → test (at + j) ≡ true) → test (at + k) ≡ true → Dec (j < k) → test (at + j) ≡ true
+      go earlier last (yes below) = earlier below
+      go earlier last (no past) = ap (λ i. test (at + i)) (omega arith) ∙ last
+
+-- ---- a move
 
 module _ {D m : ℕ} {ws : List ℕ} (g : WeightsOf D m ws) {t from to : ℕ} (hf : from < m) (ht : to < m) (capped : t ≤ weightOf ws from) where
   pub movable : D ≤ total → Movable t from to ws

@@ -1,11 +1,9 @@
-// One move (document 01): the far and the near row, g and d², t, the weights after it, and the scores by which the rows are told apart.
-pub mod column;
-pub mod kept;
-pub mod scores;
+// One move (document 01): the far and the near row by their scores, g and d², t, and the weights after it.
+pub mod distances;
 pub mod select;
 pub mod step;
 
-// A row that a pass over the rows found, and its score.
+// The row that a pass over the rows holds, and its score.
 pub struct Selected {
     pub row: usize,
     pub score: u64,

@@ -9,7 +9,7 @@ ghost use Rattle.integers.specs.Reading.{Bounded};
 ghost use Rattle.geometry.specs.Contracts.{Table, WeightsOf, IsCentre};
 ghost use Rattle.moves.specs.Contracts.{Paired, Movable, Scored};
 use crate::Pair;
-use crate::scores::fill_distances;
+use crate::distances::fill_distances;
 use crate::select::farthest_row;
 use crate::select::nearest_row;
 use figures::distance::squared_distance;
@@ -63,17 +63,18 @@ pub fn pair_of_scores(rows: &[i32], m: usize, n: usize, weights: &[u32], scores:
     }
 }
 
-// t: the whole part of (g + d² - 1)/(2d²), never more than the near row's weight.
+// t: the whole part of (g + d² - 1)/(2d²), never more than the near row's weight. Where the quotient is not below the weight no division is
+// made; no smaller of the two is taken, of which the compiler would not keep that it has 32 bits.
 pub fn transfer_of(difference: u64, separation: u64, weight: u32) -> u32
     requires { ⌜ (0 < separation) × ((separation ≤ separationLimit) × (difference ≤ differenceLimit total)) ⌝ }
     ensures { λ r. ⌜ Bounded weight r (cappedStep difference separation weight) ⌝ }
 {
-    let most = weight as u64;
-    let t = (difference + separation - 1) / (2 * separation);
-    if t < most {
-        return t as u32;
+    let divisor = 2 * separation;
+    let dividend = difference + separation - 1;
+    if (weight as u64) * divisor <= dividend {
+        return weight;
     }
-    weight
+    (dividend / divisor) as u32
 }
 
 // The weights after t has moved from one row to another (formula 31).

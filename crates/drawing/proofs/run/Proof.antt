@@ -10,7 +10,7 @@ use native.Mathlib.Nat.{le-refl}
 use lib.Dec.{ltb, lit≤}
 use Rattle.geometry.specs.Move.{isSettled}
 use Rattle.limits.specs.Limits.{total}
-use Rattle.moves.specs.Contracts.{Keeping}
+use Rattle.scores.specs.Contracts.{Keeping}
 use Rattle.drawing.proofs.Laws.{SoFar, scores-none, keeping-none, start-good, start-scored, begins, ends, more, apart, can-move, can-carry, moved-good, moved-scored, again}
 use Rattle.drawing.proofs.run.Statement.{statement}
 use Rattle.drawing.proofs.run.Tie as tie

@@ -19,7 +19,8 @@ use Rattle.geometry.specs.Places.{centreList, centreOf}
 use Rattle.geometry.specs.Contracts.{CentreWithin, Table, WeightsOf}
 use Rattle.geometry.specs.FigureLaws.{centre-within, distance-centreList, distance-within}
 use Rattle.geometry.specs.TableLaws.{table-row, weights-within}
-use Rattle.moves.specs.Contracts.{FoundRow, ScoresWithin, scoreOf}
+use Rattle.scores.specs.Contracts.{ScoresWithin, scoreOf}
+use Rattle.moves.specs.Contracts.{FoundRow}
 use Rattle.moves.specs.declared.Selected.{Selected}
 use Rattle.moves.proofs.Laws.{near-most, far-score, near-score, paired}
 use Rattle.moves.proofs.step.pair_of.Statement.{statement}
