@@ -264,5 +264,5 @@ pub fn fill_codes(lent: &mut [Code], source: &[Code], count: usize)
     requires { (count ≤ length lent.old) × (count ≤ length source.now) }
     ensures { lent.new ≡ filled 0 count source.now lent.old }
 {
-    bytes::copy(&source[..count], lent);
+    lent[..count].copy_from_slice(&source[..count]);
 }

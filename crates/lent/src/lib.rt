@@ -34,7 +34,7 @@ pub fn hand_out(text: &[u8], buffer: &mut [u8]) -> TextWritten
     if buffer.len() < length {
         return not_written(refusal::BUFFER_SHORT);
     }
-    bytes::copy(text, buffer);
+    buffer[..length].copy_from_slice(text);
     TextWritten {
         outcome: Outcome::Accepted,
         length,

@@ -5,7 +5,7 @@
 --     LabelsStart text starts count          the first starts are within the text, and no label from there is too long
 --     Gathered labels bytes count ends size  these labels as they are lent, in the first places of two slices
 use Rattle.std.specs.Prelude.{ℕ, zero, suc, ◌≤◌, ◌<◌, ◌≡◌, List, [], ◌∷◌, ◌++◌, length, get_or, take, drop}
-use Rattle.bytes.specs.Bytes.{index_of}
+use Rattle.text.specs.Bytes.{index_of}
 use Rattle.limits.specs.Limits.{row_limit, label_limit}
 use Rattle.text.specs.Parts.{comma}
 use Rattle.reference.specs.Printing.{reference_most}

@@ -21,7 +21,7 @@ use borrow.Author.Tests.{eqb-true, eqb-false, ne_eqb, leb-true, leb-false}
 use Rattle.std.proofs.Math.Dec.{leb}
 use Rattle.std.proofs.Math.ListN.{get_or, take, drop}
 use Rattle.std.proofs.Math.Seq.{drop-cons}
-use Rattle.bytes.specs.Bytes.{index_of, index_after}
+use Rattle.text.specs.Bytes.{index_of, index_after}
 use Rattle.integers.specs.Tests.{clash, refuted}
 use Rattle.text.specs.Parts.{comma, same, free, part_end}
 use Rattle.text.specs.Clauses.{PartEnd, PastByte, FieldRead}

@@ -11,7 +11,7 @@
 --     parts_from c s at             the parts of s from index at on; none past the end
 --     part_start c s at k           where part k, counted from 0, of s from index at on starts; past the end where there is no such part
 use Rattle.std.specs.Prelude.{ℕ, zero, suc, ◌+◌, Bool, true, false, not, cond, ◌&&◌, List, [], ◌∷◌, ◌++◌, eqb, leb, length, drop}
-use Rattle.bytes.specs.Bytes.{index_of}
+use Rattle.text.specs.Bytes.{index_of}
 use Rattle.limits.specs.Limits.{text_limit}
 use Rattle.text.specs.Ascii.{byte}
 

@@ -42,7 +42,7 @@ use Rattle.std.proofs.lemmas.Bool.{lt-leb, not-true}
 use Rattle.std.proofs.Math.Dec.{eqb, leb}
 use Rattle.std.proofs.Math.ListN.{length, drop, length-drop}
 use Rattle.std.proofs.Math.Seq.{drop-drop, take-length}
-use Rattle.bytes.specs.Bytes.{index_of, index_after, slice}
+use Rattle.text.specs.Bytes.{index_of, index_after, slice}
 use Rattle.integers.specs.Tests.{both, clash}
 use Rattle.text.specs.Parts.{text_within, same, extend, cut, join, free, all_free, part_end, parts_from, part_start}
 use Rattle.text.specs.Clauses.{PartEnd}

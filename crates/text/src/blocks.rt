@@ -32,5 +32,5 @@ pub fn part_end(text: &[u8], at: usize, byte: u8) -> usize
         }
         from += BLOCK;
     }
-    bytes::scan::find(text, from, text.len(), byte)
+    crate::scan::find(text, from, text.len(), byte)
 }

@@ -1,0 +1,5 @@
+-- The match and the branch give the value of the definition in each case.
+use Rattle.lent.proofs.with_room.Goals as goal
+
+pub returns-else-room : goal.returns-else-room
+returns-else-room c = rw (c.enum_told-1.given.1, c.if-room.false)
