@@ -3,3 +3,4 @@
 mod blocks;
 pub mod parts;
 pub mod reader;
+pub mod scan;
