@@ -41,6 +41,8 @@ def write(path, text):
 
 
 def snake(name):
+    if name[0].isupper():
+        return name
     return re.sub(r"([a-z0-9'₀-₉])([A-Z])", lambda m: m[1] + "_" + m[2].lower(), name)
 
 

@@ -6,7 +6,7 @@ ghost use Rattle.geometry.specs.Scores.{weighted_squared_distance};
 ghost use Rattle.geometry.specs.Table.{coordinate};
 ghost use Rattle.limits.specs.Limits.{total, difference_limit};
 ghost use Rattle.ball.specs.Ball.{filled_ball, ball_of, empty_ball};
-ghost use Rattle.geometry.specs.Clauses.{Table, WeightsOf, Is_centre};
+ghost use Rattle.geometry.specs.Clauses.{Table, WeightsOf, IsCentre};
 ghost use Rattle.moves.specs.Clauses.{Paired};
 
 use figures::{bound, centre};
@@ -64,7 +64,7 @@ pub fn ball_of(
 ) -> Ball
     requires { Table rows.now m n
         × (WeightsOf total m weights.now
-        × (Is_centre rows.now m n weights.now scaled_centre
+        × (IsCentre rows.now m n weights.now scaled_centre
         × Paired total rows.now m n weights.now (scaled_squared_distance_of total m n (coordinate rows.now n) (weight_of weights.now)) pair)) }
     ensures { result ≡ ball_of total m n (coordinate rows.now n) (weight_of weights.now) }
 {

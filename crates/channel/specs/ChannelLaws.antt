@@ -3,7 +3,7 @@
 --     sound_type t               the type's code is above 0, its tag is a label, its range is sound
 --     alone t types             no type of a list has the code or the tag of t
 --     sound_list types           the test: each type of a list is sound, and has a code and a tag of its own
---     Found_type                 the type of a code is a sound type with this code, or there is none
+--     FoundType                 the type of a code is a sound type with this code, or there is none
 --     SoundTypes types          each type is sound, a code has one tag, and a tag one code
 --     types_of_code              the code of a tag in the table of a list is that in the list
 --     types_of_sound             the table of a list that passes the test is sound
@@ -41,11 +41,11 @@ abbrev pub sound_type : ChannelType → Bool
 sound_type t = (leb 1 t.code && is_label t.tag) && sound_range t
 
 -- t is a sound type with this code, or stands for none
-abbrev pub Found_type : Bool → ℕ → ChannelType → Type 0
-Found_type is_known code t = ((sound_type t ≡ true) × (t.code ≡ code) × (is_known ≡ true)) ⊎ ((t ≡ no_type) × (is_known ≡ false))
+abbrev pub FoundType : Bool → ℕ → ChannelType → Type 0
+FoundType is_known code t = ((sound_type t ≡ true) × (t.code ≡ code) × (is_known ≡ true)) ⊎ ((t ≡ no_type) × (is_known ≡ false))
 
 pub record SoundTypes (types : Types) : Type 0 where
-  pub found : (code : ℕ) → Found_type (known types code) code (type_of types code)
+  pub found : (code : ℕ) → FoundType (known types code) code (type_of types code)
   pub one_tag : (code : ℕ) → known types code ≡ true → code_of types (type_of types code).tag ≡ code
   pub one_code : (tag : List ℕ) (k : ℕ) → code_of types tag ≡ suc k → (type_of types (suc k)).tag ≡ tag
 
@@ -98,13 +98,13 @@ list_code (t ∷ types) tag k e = go (same t.tag tag) e (list_code types tag k)
     go true e r = ap (λ b. b || known_in types (suc k)) (eq-eqb t.code (suc k) e)
     go false e r = ap (λ b. eqb t.code (suc k) || b) (r e) ∙ or-true (eqb t.code (suc k))
 
-list_found : (types : List ChannelType) → sound_list types ≡ true → (code : ℕ) → Found_type (known_in types code) code (type_in types code)
+list_found : (types : List ChannelType) → sound_list types ≡ true → (code : ℕ) → FoundType (known_in types code) code (type_in types code)
 unfolding type_in known_in
 list_found [] h code = inr (refl, refl)
 list_found (t ∷ types) h code = go (eqb t.code code) refl (list_found types (first t types h).rest code)
   where
-    go : (b : Bool) → eqb t.code code ≡ b → Found_type (known_in types code) code (type_in types code)
-        → Found_type (b || known_in types code) code (cond b t (type_in types code))
+    go : (b : Bool) → eqb t.code code ≡ b → FoundType (known_in types code) code (type_in types code)
+        → FoundType (b || known_in types code) code (cond b t (type_in types code))
     go true e r = inl ((first t types h).sound, eqb-true t.code code e, refl)
     go false e r = r
 

@@ -7,7 +7,7 @@ ghost use Rattle.geometry.specs.Table.{coordinate};
 ghost use Rattle.limits.specs.Limits.{total, channel_limit, coordinate_limit, centre_limit, length_limit};
 ghost use Rattle.geometry.specs.Places.{centre_of};
 ghost use Rattle.integers.specs.Reading.{Bounded};
-ghost use Rattle.geometry.specs.Clauses.{CentreWithin, RowAt, Table, WeightsWithin, WeightsOf, Is_centre};
+ghost use Rattle.geometry.specs.Clauses.{CentreWithin, RowAt, Table, WeightsWithin, WeightsOf, IsCentre};
 
 use limits::{CHANNELS, TOTAL};
 
@@ -79,7 +79,7 @@ pub fn scaled_lower_bound(
     weights: &[u32],
     scaled_centre: &[i64; CHANNELS],
 ) -> u64
-    requires { Table rows.now m n × (WeightsOf total m weights.now × Is_centre rows.now m n weights.now scaled_centre.now) }
+    requires { Table rows.now m n × (WeightsOf total m weights.now × IsCentre rows.now m n weights.now scaled_centre.now) }
     ensures { result ≡ scaled_lower_bound total m n (coordinate rows.now n) (weight_of weights.now) }
 {
     let first = (TOTAL as u64) * weighted_squared_length(rows, m, n, weights);

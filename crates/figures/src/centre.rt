@@ -4,7 +4,7 @@ ghost use Rattle.geometry.specs.Figures.{scaled_centre};
 ghost use Rattle.geometry.specs.Move.{weight_of};
 ghost use Rattle.geometry.specs.Table.{coordinate};
 ghost use Rattle.limits.specs.Limits.{total, coordinate_limit};
-ghost use Rattle.geometry.specs.Clauses.{Table, WeightsWithin, Is_centre};
+ghost use Rattle.geometry.specs.Clauses.{Table, WeightsWithin, IsCentre};
 ghost use Rattle.figures.specs.Clauses.{Weighted};
 
 use limits::CHANNELS;
@@ -36,7 +36,7 @@ fn centre_of_channel(rows: &[i32], m: usize, n: usize, weights: &[u32], k: usize
 // X in its eight places.
 pub fn scaled_centre(rows: &[i32], m: usize, n: usize, weights: &[u32]) -> [i64; CHANNELS]
     requires { Table rows.now m n × WeightsWithin total m weights.now }
-    ensures { Is_centre rows.now m n weights.now result }
+    ensures { IsCentre rows.now m n weights.now result }
 {
     let mut scaled_centre = [0i64; CHANNELS];
     let mut k = 0;

@@ -5,7 +5,7 @@
 --     Table rows m n            the same for the row limit that the contracts fix
 --     WeightsWithin B m ws      a list of at least m weights of a sum of at most B
 --     WeightsOf D m ws          a list of at least m weights of sum D
---     Is_centre rows m n ws x    x is X of the weights, in its eight places, by equation
+--     IsCentre rows m n ws x    x is X of the weights, in its eight places, by equation
 use Rattle.std.specs.Prelude.{ℕ, ◌+◌, ◌*◌, ◌≤◌, ◌<◌, ◌≡◌, List, ℤ, pos, nat_abs, length, get_or}
 use Rattle.geometry.specs.Places.{centre_list, weights_total}
 use Rattle.geometry.specs.Figures.{scaled_centre}
@@ -41,5 +41,5 @@ pub record WeightsOf (D m : ℕ) (ws : List ℕ) : Type 0 where
   pub places : m ≤ length ws
   pub sum : weights_total m ws ≡ D
 
-abbrev pub Is_centre : List ℤ → ℕ → ℕ → List ℕ → List ℤ → Type 0
-Is_centre rows m n ws x = x ≡ centre_list n (scaled_centre (coordinate rows n) (weight_of ws) m)
+abbrev pub IsCentre : List ℤ → ℕ → ℕ → List ℕ → List ℤ → Type 0
+IsCentre rows m n ws x = x ≡ centre_list n (scaled_centre (coordinate rows n) (weight_of ws) m)

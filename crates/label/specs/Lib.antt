@@ -4,7 +4,7 @@ pub mod Key
 pub mod LabelLaws
 pub mod Clauses
 pub mod ContractLaws
-pub mod Row_label
+pub mod RowLabel
 pub mod RowLabelLaws
 pub mod Marks
 pub mod MarksLaws

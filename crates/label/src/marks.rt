@@ -1,7 +1,7 @@
 // Marks of numbers: a place for each remainder, marked where some number was met that has it. A number whose place is not marked was
 // not met; any other is compared with those that were.
 ghost use Rattle.std.specs.Prelude.{◌≡◌, true, ◌≤◌, length, set, take};
-ghost use Rattle.label.specs.Row_label.{key_used};
+ghost use Rattle.label.specs.RowLabel.{key_used};
 ghost use Rattle.label.specs.Marks.{mark_count, mark_place, Marked};
 
 use crate::row::used;

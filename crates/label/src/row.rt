@@ -1,7 +1,7 @@
 // Labels of rows: a row's label is told from those of other rows by its number. Whoever reads or writes rows tests their labels
 // here.
 ghost use Rattle.std.specs.Prelude.{◌≡◌, ◌≤◌, length, take};
-ghost use Rattle.label.specs.Row_label.{row_label_key, key_used};
+ghost use Rattle.label.specs.RowLabel.{row_label_key, key_used};
 ghost use Rattle.label.specs.Clauses.{FirstFieldRead};
 
 use crate::{LabelField, label_field, label_key};

@@ -1,9 +1,9 @@
 -- What the functions of one move give, each by an equation with its definition.
 --     each_from test at k                    whether a test holds of the k rows from `at` on
 --     block_rows                             how many rows are tested together
---     Far_held scores m i held               what is held is the far row of the first i of m rows, with its score
+--     FarHeld scores m i held               what is held is the far row of the first i of m rows, with its score
 --     no_score                               what is held as a score before the first row of weight above 0
---     Near_held scores ws m i held           what is held is the near row of the first i of m rows, with its score, if one of them has weight
+--     NearHeld scores ws m i held           what is held is the near row of the first i of m rows, with its score, if one of them has weight
 --     FoundRow scores m row r               the row that a pass over the scores found, and its score
 --     Paired D rows m n ws score r          the far and the near row with the far row's score, g and d²
 --     Movable t from to ws                  both rows are in the list, and a u32 holds what each weight becomes
@@ -29,15 +29,15 @@ abbrev pub block_rows : ℕ
 block_rows = 8
 
 -- what a pass over the rows holds once it has seen i of them
-abbrev pub Far_held : List ℕ → ℕ → ℕ → Selected → Type 0
-Far_held scores m i held = FarSoFar ltb (score_of scores) m i held.row held.score
+abbrev pub FarHeld : List ℕ → ℕ → ℕ → Selected → Type 0
+FarHeld scores m i held = FarSoFar ltb (score_of scores) m i held.row held.score
 
 -- above every score: the top bit of a u64
 abbrev pub no_score : ℕ
 no_score = 9223372036854775808
 
-abbrev pub Near_held : List ℕ → List ℕ → ℕ → ℕ → Selected → Type 0
-Near_held scores ws m i held = NearSoFar ltb (weight_of ws) (score_of scores) no_score m i held.row held.score
+abbrev pub NearHeld : List ℕ → List ℕ → ℕ → ℕ → Selected → Type 0
+NearHeld scores ws m i held = NearSoFar ltb (weight_of ws) (score_of scores) no_score m i held.row held.score
 
 -- the row that a pass found among the first m, and its score
 pub record FoundRow (scores : List ℕ) (m row : ℕ) (r : Selected) : Type 0 where

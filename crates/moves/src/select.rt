@@ -6,7 +6,7 @@ ghost use Rattle.geometry.specs.Move.{weight_of};
 ghost use Rattle.geometry.specs.Clauses.{WeightsOf};
 ghost use Rattle.limits.specs.Limits.{total, distance_limit};
 ghost use Rattle.scores.specs.Clauses.{ScoresWithin, score_of};
-ghost use Rattle.moves.specs.Clauses.{FoundRow, each_from, block_rows, Far_held, Near_held};
+ghost use Rattle.moves.specs.Clauses.{FoundRow, each_from, block_rows, FarHeld, NearHeld};
 
 use crate::Selected;
 
@@ -54,8 +54,8 @@ fn block_without_weight(weights: &[u32], at: usize) -> bool
 
 // The far row of the rows before `end`, where that of the rows before `from` is held.
 fn farther(scores: &[u64], from: usize, end: usize, held: Selected) -> Selected
-    requires { Far_held scores.now end from held × (end ≤ length scores.now) }
-    ensures { Far_held scores.now end end result }
+    requires { FarHeld scores.now end from held × (end ≤ length scores.now) }
+    ensures { FarHeld scores.now end end result }
 {
     let mut row = held.row;
     let mut score = held.score;
@@ -92,8 +92,8 @@ pub fn farthest_row(scores: &[u64], m: usize) -> Selected
 
 // The near row of the rows before `end`, if one of them has weight, where that of the rows before `from` is held.
 fn nearer(scores: &[u64], weights: &[u32], from: usize, end: usize, held: Selected) -> Selected
-    requires { Near_held scores.now weights.now end from held × (ScoresWithin end scores.now × (end ≤ length weights.now)) }
-    ensures { Near_held scores.now weights.now end end result }
+    requires { NearHeld scores.now weights.now end from held × (ScoresWithin end scores.now × (end ≤ length weights.now)) }
+    ensures { NearHeld scores.now weights.now end end result }
 {
     let mut row = held.row;
     let mut score = held.score;

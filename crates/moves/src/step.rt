@@ -5,7 +5,7 @@ ghost use Rattle.geometry.specs.Scores.{weighted_squared_distance};
 ghost use Rattle.geometry.specs.Table.{coordinate};
 ghost use Rattle.limits.specs.Limits.{total, separation_limit, difference_limit};
 ghost use Rattle.integers.specs.Reading.{Bounded};
-ghost use Rattle.geometry.specs.Clauses.{Table, WeightsOf, Is_centre};
+ghost use Rattle.geometry.specs.Clauses.{Table, WeightsOf, IsCentre};
 ghost use Rattle.moves.specs.Clauses.{Paired, Movable, Scored};
 
 use crate::Pair;
@@ -16,7 +16,7 @@ use limits::{ROWS, TOTAL};
 
 // The far and the near row of the weights whose X is `scaled_centre`, with s of the far row, g and d².
 pub fn pair_of(rows: &[i32], m: usize, n: usize, weights: &[u32], scaled_centre: &[i64]) -> Pair
-    requires { Table rows.now m n × (WeightsOf total m weights.now × Is_centre rows.now m n weights.now scaled_centre.now) }
+    requires { Table rows.now m n × (WeightsOf total m weights.now × IsCentre rows.now m n weights.now scaled_centre.now) }
     ensures { Paired total rows.now m n weights.now
         (scaled_squared_distance_of total m n (coordinate rows.now n) (weight_of weights.now)) result }
 {

@@ -105,18 +105,18 @@ content_told limit types = each_refusal limit types (λ number line. of_reading 
 -- ---- reference text and record
 
 -- the outcome is not such a refusal
-abbrev Of_texts : EnvelopeRead → Type 0
-Of_texts read = of_reading (number_of read.outcome) (line_of read.outcome) ≡ false
+abbrev OfTexts : EnvelopeRead → Type 0
+OfTexts read = of_reading (number_of read.outcome) (line_of read.outcome) ≡ false
 
 module _ (D limit : ℕ) (types : Types) (reference text : List ℕ) where
-  texts_told : Of_texts (record_against D limit types reference text)
+  texts_told : OfTexts (record_against D limit types reference text)
   unfolding record_against
   texts_told = go (content limit types reference) refl
     where
-      go : (c : Content) → content limit types reference ≡ c → Of_texts (content_against D limit types text c)
+      go : (c : Content) → content limit types reference ≡ c → OfTexts (content_against D limit types text c)
       go (faulty number line) is = content_told limit types reference number line is
       go (sound found) is =
-          each_read D limit types (table_of found) (row_count found) (channel_count found) (codes_of found) text Of_texts refl refl (λ line e. refl) refl
+          each_read D limit types (table_of found) (row_count found) (channel_count found) (codes_of found) text OfTexts refl refl (λ line e. refl) refl
           (λ e a. refl)
 
   pub refusal_of_texts : (r : Refusal) → (record_against D limit types reference text).outcome ≡ Refused r → of_reading r.number r.line ≡ false
@@ -125,21 +125,21 @@ module _ (D limit : ℕ) (types : Types) (reference text : List ℕ) where
 -- ---- readings
 
 -- a verdict that is no refusal, or such a refusal
-abbrev Of_reading : Verdict → Type 0
-Of_reading Quiet = Unit {0}
-Of_reading (Alarm excess) = Unit {0}
-Of_reading (RefusedReading r) = of_reading r.number r.line ≡ true
+abbrev OfReading : Verdict → Type 0
+OfReading Quiet = Unit {0}
+OfReading (Alarm excess) = Unit {0}
+OfReading (RefusedReading r) = of_reading r.number r.line ≡ true
 
 module _ (D : ℕ) (types : Types) (f : Figures) (within : figures_known D types f ≡ true) where
   module _ (text : List ℕ) (some_text : text_within text ≡ true) where
-    judged_told : Of_reading (judged D types f text)
+    judged_told : OfReading (judged D types f text)
     judged_told =
-        each_verdict D types f text Of_reading (clash within) (clash some_text) (λ _. refl) (λ _ _. refl) (λ _ _ _. refl)
+        each_verdict D types f text OfReading (clash within) (clash some_text) (λ _. refl) (λ _ _. refl) (λ _ _ _. refl)
         (λ reading _ _ _ _ _.
-        quiet_or_alarm (distance_of D f reading.values) f.ball.scaled_squared_radius Of_reading tt (λ _. tt))
+        quiet_or_alarm (distance_of D f reading.values) f.ball.scaled_squared_radius OfReading tt (λ _. tt))
 
     pub refusal_of_reading : (r : Refusal) → judged D types f text ≡ RefusedReading r → of_reading r.number r.line ≡ true
-    refusal_of_reading r is = subst Of_reading is judged_told
+    refusal_of_reading r is = subst OfReading is judged_told
 
 -- ---- each reading of readings
 
@@ -335,7 +335,7 @@ is_refused Accepted = false
 is_refused (Refused r) = true
 
 -- what is printed of a record, by what is printed of its figures
-figures_told : (read : EnvelopeRead) (output : Figures → List ℕ) (t : Bool) → Of_texts read
+figures_told : (read : EnvelopeRead) (output : Figures → List ℕ) (t : Bool) → OfTexts read
     → (read.outcome ≡ Accepted → refuses_texts (output read.envelope.figures) ≡ t) → refuses_texts (of_figures read output) ≡ (is_refused read.outcome || t)
 figures_told read output t texts further = go read.outcome refl
   where
@@ -361,7 +361,7 @@ unfolding numbers_after join
 accepted_told = other_told (byte "O") _ refl
 
 -- the line of a verdict, and whatever follows it
-line_told : (v : Verdict) → Of_reading v → (more : List ℕ) → refuses_texts (print_verdict v ++ more) ≡ false
+line_told : (v : Verdict) → OfReading v → (more : List ℕ) → refuses_texts (print_verdict v ++ more) ≡ false
 unfolding numbers_after join
 line_told Quiet h more = other_told (byte "Q") _ refl
 line_told (Alarm excess) h more = other_told (byte "A") _ refl

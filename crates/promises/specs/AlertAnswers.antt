@@ -2,7 +2,7 @@
 -- 1.3, 1.4 and R2.
 --     trying, trying_given               the answer where so many places are lent, against figures, and against those that are given
 --     TrialCounts, trial_counts         1.2: an accepted call fills so many places, which are within the text and within what is lent
---     Trial_number number                8, 14, 1 or 13
+--     TrialNumber number                8, 14, 1 or 13
 --     TrialAnswered                     1.3: an answer is accepted or such a refusal at line 0, in which the length is 0
 --     TrialsListed, trials_listed       each call
 --     trial_kept                        1.2: a refused call leaves every lent place as at entry
@@ -37,10 +37,10 @@ use Rattle.export_answers.specs.Clauses.{written_in_numbers}
 use Rattle.export_alerts.specs.Clauses.{trial_given}
 use Rattle.export_figures.specs.Clauses.{ending_known, figures_given}
 use Rattle.export_figures.specs.declared.FiguresGiven.{FiguresGiven}
-use Rattle.promises.specs.Lent.{Count_within}
-use Rattle.promises.specs.Listed.{Kept_where_refused, apart, is_refusal_at, refused-answer, refused_keeps}
-use Rattle.promises.specs.ListedAnswers.{Text_answered, answers_listed}
-use Rattle.promises.specs.ListedNumbers.{Written_numbers, written-numbers}
+use Rattle.promises.specs.Lent.{CountWithin}
+use Rattle.promises.specs.Listed.{KeptWhereRefused, apart, is_refusal_at, refused-answer, refused_keeps}
+use Rattle.promises.specs.ListedAnswers.{TextAnswered, answers_listed}
+use Rattle.promises.specs.ListedNumbers.{WrittenNumbers, written-numbers}
 
 abbrev pub trying : Figures → List ℕ → List ℕ → ℕ → TextWritten
 trying f settings readings places = trial_written (trial_of total channel_types f settings readings) places
@@ -52,12 +52,12 @@ trying_given given codes X settings readings places = trial_written (trial_given
 
 pub record TrialCounts : Type 0 where
   pub of_trial : (f : Figures) (settings readings : List ℕ) (places : ℕ)
-      → Count_within (trying f settings readings places).length (trial_text (trial_of total channel_types f settings readings)) places
+      → CountWithin (trying f settings readings places).length (trial_text (trial_of total channel_types f settings readings)) places
   -- in numbers the answer has the same length
   pub for_C_and_Rust : (given : FiguresGiven) (codes : List ℕ) (X : List ℤ) (settings readings : List ℕ) (places : ℕ)
-      → Count_within (trying_given given codes X settings readings places).length (trial_text (trial_given total channel_types given codes X settings readings)) places
+      → CountWithin (trying_given given codes X settings readings places).length (trial_text (trial_given total channel_types given codes X settings readings)) places
 
-trial-count : (trial : Trial) (places : ℕ) → Count_within (trial_written trial places).length (trial_text trial) places
+trial-count : (trial : Trial) (places : ℕ) → CountWithin (trial_written trial places).length (trial_text trial) places
 trial-count (faulty number) places = (zero-le, zero-le)
 trial-count (sound text) places = let most = text_most text places in (most.1, most.0)
 
@@ -71,16 +71,16 @@ trial_counts =
 -- ---- 1.3
 
 -- refused before 13
-abbrev Early_number : ℕ → Type 0
-Early_number number = (number ≡ outside_limits) ⊎ ((number ≡ alert_settings) ⊎ (number ≡ text_length))
+abbrev EarlyNumber : ℕ → Type 0
+EarlyNumber number = (number ≡ outside_limits) ⊎ ((number ≡ alert_settings) ⊎ (number ≡ text_length))
 
-abbrev pub Trial_number : ℕ → Type 0
-Trial_number number = Early_number number ⊎ (number ≡ buffer_short)
+abbrev pub TrialNumber : ℕ → Type 0
+TrialNumber number = EarlyNumber number ⊎ (number ≡ buffer_short)
 
 pub record TrialAnswered (w : TextWritten) : Type 0 where
-  pub answered : Text_answered w
-  pub numbers : (r : Refusal) → w.outcome ≡ Refused r → Trial_number r.number × (r.line ≡ 0)
-  pub for_C_and_Rust : Written_numbers (written_in_numbers w)
+  pub answered : TextAnswered w
+  pub numbers : (r : Refusal) → w.outcome ≡ Refused r → TrialNumber r.number × (r.line ≡ 0)
+  pub for_C_and_Rust : WrittenNumbers (written_in_numbers w)
 
 pub record TrialsListed : Type 0 where
   pub of_trial : (f : Figures) (settings readings : List ℕ) (places : ℕ) → TrialAnswered (trying f settings readings places)
@@ -88,27 +88,27 @@ pub record TrialsListed : Type 0 where
       → TrialAnswered (trying_given given codes X settings readings places)
 
 -- before 13 a trial is accepted, or refused by 8, 14 or 1
-abbrev Known_trial : Trial → Type 0
-Known_trial (faulty number) = Early_number number
-Known_trial (sound text) = Unit {0}
+abbrev KnownTrial : Trial → Type 0
+KnownTrial (faulty number) = EarlyNumber number
+KnownTrial (sound text) = Unit {0}
 
-number_listed : (number : ℕ) → Early_number number → is_refusal_at number 0 ≡ true
+number_listed : (number : ℕ) → EarlyNumber number → is_refusal_at number 0 ≡ true
 number_listed number (inl e) = rw e
 number_listed number (inr (inl e)) = rw e
 number_listed number (inr (inr e)) = rw e
 
-before_13 : (number : ℕ) → Early_number number → number ≡ buffer_short → ⊥
+before_13 : (number : ℕ) → EarlyNumber number → number ≡ buffer_short → ⊥
 before_13 number (inl e) short = omega arith
 before_13 number (inr (inl e)) short = omega arith
 before_13 number (inr (inr e)) short = omega arith
 
-trial_answered : (trial : Trial) → Known_trial trial → (places : ℕ) → TrialAnswered (trial_written trial places)
+trial_answered : (trial : Trial) → KnownTrial trial → (places : ℕ) → TrialAnswered (trial_written trial places)
 trial_answered (faulty number) known places =
-    let answered : Text_answered (not_written (refused number)) =
+    let answered : TextAnswered (not_written (refused number)) =
     refused-answer (λ (w : TextWritten). w.outcome) (λ r. not_written (Refused r)) (record { number = number; line = 0 }) refl (number_listed number known) in
     record {
       answered = answered;
-      numbers = λ r e. (inl (subst Early_number (ap number_of e) known), sym (ap line_of e));
+      numbers = λ r e. (inl (subst EarlyNumber (ap number_of e) known), sym (ap line_of e));
       for_C_and_Rust = written-numbers (not_written (refused number)) answered;
     }
 trial_answered (sound text) known places =
@@ -116,20 +116,20 @@ trial_answered (sound text) known places =
     record {
       answered = answered;
       numbers = λ r.
-          each_answer (λ (w : TextWritten). w.outcome ≡ Refused r → Trial_number r.number × (r.line ≡ 0)) (leb (length text) places)
+          each_answer (λ (w : TextWritten). w.outcome ≡ Refused r → TrialNumber r.number × (r.line ≡ 0)) (leb (length text) places)
           (λ _ e. (inr (sym (ap number_of e)), sym (ap line_of e))) (λ _ e. apart e);
       for_C_and_Rust = written-numbers (text_written text places) answered;
     }
 
-trial-known : (f : Figures) (settings readings : List ℕ) → Known_trial (trial_of total channel_types f settings readings)
+trial-known : (f : Figures) (settings readings : List ℕ) → KnownTrial (trial_of total channel_types f settings readings)
 trial-known f settings readings =
-    each_trial total channel_types f settings readings Known_trial (λ _. inl refl) (λ _ _. inr (inl refl)) (λ _ _ _. inr (inr refl)) (λ _ _ _. tt)
+    each_trial total channel_types f settings readings KnownTrial (λ _. inl refl) (λ _ _. inr (inl refl)) (λ _ _ _. inr (inr refl)) (λ _ _ _. tt)
 
 given-known : (given : FiguresGiven) (codes : List ℕ) (X : List ℤ) (settings readings : List ℕ)
-    → Known_trial (trial_given total channel_types given codes X settings readings)
+    → KnownTrial (trial_given total channel_types given codes X settings readings)
 unfolding trial_given
 given-known given codes X settings readings =
-    each_answer Known_trial (ending_known given) (λ _. inl refl) (λ _. trial-known (figures_given given codes X) settings readings)
+    each_answer KnownTrial (ending_known given) (λ _. inl refl) (λ _. trial-known (figures_given given codes X) settings readings)
 
 pub trials_listed : TrialsListed
 trials_listed =
@@ -139,7 +139,7 @@ trials_listed =
           trial_answered (trial_given total channel_types given codes X settings readings) (given-known given codes X settings readings);
     }
 
-pub trial_kept : (f : Figures) (settings readings : List ℕ) (places : ℕ) → Kept_where_refused (trying f settings readings places).outcome
+pub trial_kept : (f : Figures) (settings readings : List ℕ) (places : ℕ) → KeptWhereRefused (trying f settings readings places).outcome
 trial_kept f settings readings places =
     refused_keeps (trying f settings readings places).outcome (trials_listed.of_trial f settings readings places).answered.listed
 
@@ -148,7 +148,7 @@ pub trial_room_enough : (f : Figures) (settings readings : List ℕ) (places : �
     → number_of (trying f settings readings places).outcome ≡ buffer_short → ⊥
 trial_room_enough f settings readings places = go (trial_of total channel_types f settings readings) (trial-known f settings readings)
   where
-    go : (trial : Trial) → Known_trial trial → length (trial_text trial) ≤ places → number_of (trial_written trial places).outcome ≡ buffer_short → ⊥
+    go : (trial : Trial) → KnownTrial trial → length (trial_text trial) ≤ places → number_of (trial_written trial places).outcome ≡ buffer_short → ⊥
     go (faulty number) known fits e = before_13 number known e
     go (sound text) known fits e = omega (arith, ap (λ (w : TextWritten). number_of w.outcome) (text_fits text places fits), e)
 

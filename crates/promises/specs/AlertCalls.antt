@@ -15,7 +15,7 @@ use Rattle.alert_trial.specs.Trial.{trial_of, verdicts_on}
 use Rattle.program_alerts.specs.Output.{alerts_output}
 use Rattle.export_answers.specs.Clauses.{written_in_numbers}
 use Rattle.export_alerts.specs.Clauses.{trial_given}
-use Rattle.promises.specs.Answering.{Answers, Answers_where}
+use Rattle.promises.specs.Answering.{Answers, AnswersWhere}
 use seplogic.Ra.Ura.{Ura}
 use contract.Notation
 use types.Logic.{Logic}
@@ -100,7 +100,7 @@ module _ {M : Type 1} {𝓤 : Ura M} (𝓛 : Logic 𝓤) (𝓜 : Model 𝓤 𝓛
   -- and the result counts the verdicts of each kind
   pub record AlertWalk : Type 1 where
     -- walk(scalars, codes, scaled_centre, readings, ks, cs, standing, raised, passed)
-    pub walks : Answers_where 𝓛 𝓜 𝓡 walk.ended Walk-Code.routine
+    pub walks : AnswersWhere 𝓛 𝓜 𝓡 walk.ended Walk-Code.routine
         (λ κs a.
         let readings = a.1.1.1.0.now in let ks = a.1.1.1.1.0.now in let cs = a.1.1.1.1.1.0.now in
         let standing = a.1.1.1.1.1.1.0.now in let raised = a.1.1.1.1.1.1.1.0.now in

@@ -39,7 +39,7 @@ use Rattle.promises.specs.AlertAnswers.{TrialRefused, TrialsListed, trial_kept, 
 use Rattle.promises.specs.AlertCalls.{AlertCalls, AlertWalk, alert_calls, alert_walk}
 use Rattle.promises.specs.AlertTexts.{AlertsPrinted, SettingsTexts, alerts_printed, settings_texts}
 use Rattle.promises.specs.House.{against}
-use Rattle.promises.specs.Listed.{Kept_where_refused}
+use Rattle.promises.specs.Listed.{KeptWhereRefused}
 use Rattle.promises.specs.ToldRefusals.{RefusalsTold, refusals_told}
 use seplogic.Ra.Ura.{Ura}
 use types.Logic.{Logic}
@@ -180,7 +180,7 @@ module _ {M : Type 1} {𝓤 : Ura M} (𝓛 : Logic 𝓤) (𝓜 : Model 𝓤 𝓛
     pub listed : TrialsListed
     pub order : (f : Figures) (settings readings : List ℕ) (places : ℕ) → TrialRefused f settings readings places
     -- a refused call leaves the output as it was
-    pub kept : (f : Figures) (settings readings : List ℕ) (places : ℕ) → Kept_where_refused (trying f settings readings places).outcome
+    pub kept : (f : Figures) (settings readings : List ℕ) (places : ℕ) → KeptWhereRefused (trying f settings readings places).outcome
     -- when an alert stands, and what is counted, which a few verdicts show
     pub standing : (s : Setting) → AlertsCounted s
     pub shown : map (λ (t : AlertCase). print_lines (trial_lines t.settings t.verdicts)) alert_cases ≡ map (λ (t : AlertCase). t.printed) alert_cases

@@ -1,5 +1,5 @@
 -- What is proved of the code of a call, in one word.
---     Answers_where 𝓛 𝓜 𝓡 T routine R P     called where R holds the code ends, and then P holds
+--     AnswersWhere 𝓛 𝓜 𝓡 T routine R P     called where R holds the code ends, and then P holds
 --     Answers 𝓛 𝓜 𝓡 T routine P            the same of a call that asks nothing of its caller
 --     answers_so                               what follows from a fact that a call answers, it answers
 -- 𝓤, H, 𝓜, 𝓛 and 𝓡 are the prover's models of the machine, over all of which each promise is stated. T is the signature of the call and
@@ -23,9 +23,9 @@ use prog.Routine.{Routine}
 module _ {M : Type 1} {𝓤 : Ura M} (𝓛 : Logic 𝓤) (𝓜 : Model 𝓤 𝓛.H) (𝓡 : Running 𝓤 𝓛.H 𝓜) (T : Ended) (routine : Routine) where
   open 𝓛 use {H}
 
-  abbrev pub Answers_where : ((κs : Lfts T.signature.lifetimes) → Args T.signature κs → SProp 𝓤)
+  abbrev pub AnswersWhere : ((κs : Lfts T.signature.lifetimes) → Args T.signature κs → SProp 𝓤)
       → ((κs : Lfts T.signature.lifetimes) → Args T.signature κs → Res T.signature κs → AtExit T κs → SProp 𝓤) → Type 1
-  Answers_where R P =
+  AnswersWhere R P =
       Meets 𝓛 T.signature (𝓡.run routine)
       (λ κs a.
       record {
@@ -35,7 +35,7 @@ module _ {M : Type 1} {𝓤 : Ura M} (𝓛 : Logic 𝓤) (𝓜 : Model 𝓤 𝓛
       })
 
   abbrev pub Answers : ((κs : Lfts T.signature.lifetimes) → Args T.signature κs → Res T.signature κs → AtExit T κs → SProp 𝓤) → Type 1
-  Answers = Answers_where (λ κs a. (Notation.connectives 𝓤).⊤ₛ)
+  Answers = AnswersWhere (λ κs a. (Notation.connectives 𝓤).⊤ₛ)
 
   pub answers_so : (φ ψ : (κs : Lfts T.signature.lifetimes) → Args T.signature κs → Res T.signature κs → AtExit T κs → Type 0)
       → ((κs : Lfts T.signature.lifetimes) (a : Args T.signature κs) (r : Res T.signature κs) (e : AtExit T κs) → φ κs a r e → ψ κs a r e)

@@ -2,15 +2,15 @@
 -- as 0, so that an answer is as before where it is that of the values with 0 in the place of each `<v`.
 --     HalfRead                                what `<v` reads as
 --     zeroed, zeroed_row                       a value with 0 in the place of `<v`; a row of such values
---     Below_one, Below_ones, Row_below_one        of a value, of values, of a row: each `<v` has v = 1
+--     BelowOne, BelowOnes, RowBelowOne        of a value, of values, of a row: each `<v` has v = 1
 --     table_as_zero found                       the table of a reference text with 0 in the place of each `<v`
 --     record_as_zero found record_text          a record, read against that table
 --     TextAsBefore text found                 what each call and program makes of a reference text, as before
 --     content_as_zero content                   what a text is as a reading, with 0 in the place of each `<v`
 --     verdict_as_zero f text                    the verdict on that
---     Reading_below_one f text                  each `<v` of a text that is accepted as a reading has v = 1
+--     ReadingBelowOne f text                  each `<v` of a text that is accepted as a reading has v = 1
 --     ReadingAsBefore f text                  what each call makes of a reading, as before
---     Readings_below_one f readings             each reading of a file is so
+--     ReadingsBelowOne f readings             each reading of a file is so
 --     verdicts_as_zero, readings_as_zero,         the verdicts on a file of readings, what is printed of it, a trial of settings on it, and what is
 --     trial_as_zero, settings_as_zero             printed of that, with 0 in the place of each `<v`
 --     ReadingsAsBefore f readings             what each call and program makes of a file of readings, as before
@@ -93,19 +93,19 @@ abbrev pub zeroed : Written → Written
 zeroed (number z) = number z
 zeroed (below v) = number (pos 0)
 
-abbrev pub Below_one : Written → Type 0
-Below_one value = (v : ℤ) → value ≡ below v → v ≡ pos 1
+abbrev pub BelowOne : Written → Type 0
+BelowOne value = (v : ℤ) → value ≡ below v → v ≡ pos 1
 
-abbrev pub Below_ones : List Written → Type 0
-Below_ones = Each Below_one (number (pos 0))
+abbrev pub BelowOnes : List Written → Type 0
+BelowOnes = Each BelowOne (number (pos 0))
 
-numbers_as_zero : (values : List Written) → Below_ones values → map reads values ≡ map reads (map zeroed values)
+numbers_as_zero : (values : List Written) → BelowOnes values → map reads values ≡ map reads (map zeroed values)
 numbers_as_zero [] h = refl
 numbers_as_zero (value ∷ values) h =
-    ap₂ ◌∷◌ (go value (each_head Below_one (number (pos 0)) value values h))
-    (numbers_as_zero values (each_tail Below_one (number (pos 0)) value values h))
+    ap₂ ◌∷◌ (go value (each_head BelowOne (number (pos 0)) value values h))
+    (numbers_as_zero values (each_tail BelowOne (number (pos 0)) value values h))
   where
-    go : (value : Written) → Below_one value → reads value ≡ reads (zeroed value)
+    go : (value : Written) → BelowOne value → reads value ≡ reads (zeroed value)
     go (number z) h = refl
     go (below v) h = ap half (h v refl)
 
@@ -114,8 +114,8 @@ numbers_as_zero (value ∷ values) h =
 abbrev pub zeroed_row : Row → Row
 zeroed_row row = record { label = row.label; values = map zeroed row.values }
 
-abbrev pub Row_below_one : Row → Type 0
-Row_below_one row = Below_ones row.values
+abbrev pub RowBelowOne : Row → Type 0
+RowBelowOne row = BelowOnes row.values
 
 abbrev pub table_as_zero : ReferenceText → List ℤ
 table_as_zero found = row_numbers (map zeroed_row (rows_of found))
@@ -143,13 +143,13 @@ pub record TextAsBefore (text : List ℕ) (found : ReferenceText) : Type 0 where
       plain_output row_limit channel_types text
       ≡ lent_output channel_types (lent_content (lent_table (table_as_zero found) lent.m lent.n lent.codes lent.labels lent.ends))
 
-rows_as_zero : (rows : List Row) → Each Row_below_one no_row rows → row_numbers rows ≡ row_numbers (map zeroed_row rows)
+rows_as_zero : (rows : List Row) → Each RowBelowOne no_row rows → row_numbers rows ≡ row_numbers (map zeroed_row rows)
 unfolding row_numbers
 rows_as_zero [] h = refl
 rows_as_zero (row ∷ rows) h =
-    ap₂ ◌++◌ (numbers_as_zero row.values (each_head Row_below_one no_row row rows h)) (rows_as_zero rows (each_tail Row_below_one no_row row rows h))
+    ap₂ ◌++◌ (numbers_as_zero row.values (each_head RowBelowOne no_row row rows h)) (rows_as_zero rows (each_tail RowBelowOne no_row row rows h))
 
-text_as_before : (text : List ℕ) (found : ReferenceText) → text_content text ≡ reference.sound found → Each Row_below_one no_row (rows_of found)
+text_as_before : (text : List ℕ) (found : ReferenceText) → text_content text ≡ reference.sound found → Each RowBelowOne no_row (rows_of found)
     → TextAsBefore text found
 unfolding table_of plain_output verify_output panel_output judge_output alerts_output
 text_as_before text found is h =
@@ -187,16 +187,16 @@ content_as_zero (reading.sound values) = reading.sound (map zeroed values)
 abbrev pub verdict_as_zero : Figures → List ℕ → Verdict
 verdict_as_zero f text = verdict_on total f (content_as_zero (reading_content total channel_types f text))
 
-abbrev pub Reading_below_one : Figures → List ℕ → Type 0
-Reading_below_one f text = (values : List Written) → reading_content total channel_types f text ≡ reading.sound values → Below_ones values
+abbrev pub ReadingBelowOne : Figures → List ℕ → Type 0
+ReadingBelowOne f text = (values : List Written) → reading_content total channel_types f text ≡ reading.sound values → BelowOnes values
 
 pub record ReadingAsBefore (f : Figures) (text : List ℕ) : Type 0 where
   pub judged_as : judged total channel_types f text ≡ verdict_as_zero f text
   pub measured_as_lem : measured total channel_types f text ≡ measured_as total f (content_as_zero (reading_content total channel_types f text))
 
 -- a line with its byte 10 is a reading
-abbrev pub Readings_below_one : Figures → List ℕ → Type 0
-Readings_below_one f readings = Each (Reading_below_one f) [] (lines_with_ends readings)
+abbrev pub ReadingsBelowOne : Figures → List ℕ → Type 0
+ReadingsBelowOne f readings = Each (ReadingBelowOne f) [] (lines_with_ends readings)
 
 abbrev pub verdicts_as_zero : Figures → List ℕ → List Verdict
 verdicts_as_zero f readings = map (verdict_as_zero f) (lines_with_ends readings)
@@ -228,36 +228,36 @@ module _ (f : Figures) where
       let s = scaled_squared_distance total f.n (centre_of f.ball.scaled_centre) (λ k. get_or l k (pos 0)) in
       record { answer = record { verdict = verdict_of s f.ball.scaled_squared_radius; scaled_squared_distance = s }; values = l }
 
-  measured_as_zero : (content : reading.Content) → ((values : List Written) → content ≡ reading.sound values → Below_ones values)
+  measured_as_zero : (content : reading.Content) → ((values : List Written) → content ≡ reading.sound values → BelowOnes values)
       → measured_as total f content ≡ measured_as total f (content_as_zero content)
   measured_as_zero (reading.faulty refusal line) h = refl
   measured_as_zero (reading.sound values) h = ap measured_by (numbers_as_zero values (h values refl))
 
-  verdict_as_zero_lem : (content : reading.Content) → ((values : List Written) → content ≡ reading.sound values → Below_ones values)
+  verdict_as_zero_lem : (content : reading.Content) → ((values : List Written) → content ≡ reading.sound values → BelowOnes values)
       → verdict_on total f content ≡ verdict_on total f (content_as_zero content)
   verdict_as_zero_lem (reading.faulty refusal line) h = refl
   verdict_as_zero_lem (reading.sound values) h = ap (λ (m : MeasuredReading). m.answer.verdict) (measured_as_zero (reading.sound values) h)
 
-  judged_as_zero : (text : List ℕ) → Reading_below_one f text → judged total channel_types f text ≡ verdict_as_zero f text
+  judged_as_zero : (text : List ℕ) → ReadingBelowOne f text → judged total channel_types f text ≡ verdict_as_zero f text
   unfolding judged
   judged_as_zero text h = verdict_as_zero_lem (reading_content total channel_types f text) h
 
-  reading_as_before : (text : List ℕ) → Reading_below_one f text → ReadingAsBefore f text
+  reading_as_before : (text : List ℕ) → ReadingBelowOne f text → ReadingAsBefore f text
   unfolding measured
   reading_as_before text h =
       record { judged_as = judged_as_zero text h; measured_as_lem = measured_as_zero (reading_content total channel_types f text) h }
 
-  lines_as_zero : (lines : List (List ℕ)) → Each (Reading_below_one f) [] lines
+  lines_as_zero : (lines : List (List ℕ)) → Each (ReadingBelowOne f) [] lines
       → (map (judged total channel_types f) lines ≡ map (verdict_as_zero f) lines)
       × (print_verdicts total channel_types f lines ≡ flat_map print_verdict (map (verdict_as_zero f) lines))
   unfolding print_verdicts flat_map
   lines_as_zero [] h = (refl, refl)
   lines_as_zero (line ∷ lines) h =
-      let first = judged_as_zero line (each_head (Reading_below_one f) [] line lines h) in
-      let rest = lines_as_zero lines (each_tail (Reading_below_one f) [] line lines h) in
+      let first = judged_as_zero line (each_head (ReadingBelowOne f) [] line lines h) in
+      let rest = lines_as_zero lines (each_tail (ReadingBelowOne f) [] line lines h) in
       (ap₂ ◌∷◌ first rest.0, ap₂ (λ (v : Verdict) (l : List ℕ). print_verdict v ++ l) first rest.1)
 
-  readings_as_before : (readings : List ℕ) → Readings_below_one f readings → ReadingsAsBefore f readings
+  readings_as_before : (readings : List ℕ) → ReadingsBelowOne f readings → ReadingsAsBefore f readings
   unfolding readings_output trial_of
   readings_as_before readings h =
       let lines = lines_as_zero (lines_with_ends readings) h in
@@ -272,7 +272,7 @@ module _ (f : Figures) where
             sound (print_lines (trial_lines (settings_of settings) vs)))))) lines.0;
       }
 
-  settings_as_before : (settings : Option (List ℕ)) (readings : List ℕ) → Readings_below_one f readings
+  settings_as_before : (settings : Option (List ℕ)) (readings : List ℕ) → ReadingsBelowOne f readings
       → settings_output total channel_types f settings readings ≡ settings_as_zero f settings readings
   settings_as_before none readings h = refl
   settings_as_before (some settings) readings h = ap trial_output ((readings_as_before readings h).tried settings)
@@ -286,8 +286,8 @@ pub record TextsAsBefore (text : List ℕ) (found : ReferenceText) (record_text 
   pub tried_by : (settings : List ℕ) → alerts_output total row_limit channel_types text record_text settings readings
       ≡ of_figures (record_as_zero found record_text) (λ f. settings_as_zero f (text_of_settings settings) readings)
 
-texts_as_before : (text : List ℕ) (found : ReferenceText) → text_content text ≡ reference.sound found → Each Row_below_one no_row (rows_of found)
-    → (record_text readings : List ℕ) → Readings_below_one (record_as_zero found record_text).envelope.figures readings
+texts_as_before : (text : List ℕ) (found : ReferenceText) → text_content text ≡ reference.sound found → Each RowBelowOne no_row (rows_of found)
+    → (record_text readings : List ℕ) → ReadingsBelowOne (record_as_zero found record_text).envelope.figures readings
     → TextsAsBefore text found record_text readings
 texts_as_before text found is h record_text readings k =
     let before = record_as_zero found record_text in
@@ -307,12 +307,12 @@ texts_as_before text found is h record_text readings k =
 pub record BelowDetection : Type 0 where
   pub each_value : HalfRead
   -- where each `<v` has v = 1: a reference text, a reading, a file of readings, and texts of both kinds together
-  pub text_as_before : (text : List ℕ) (found : ReferenceText) → text_content text ≡ reference.sound found → Each Row_below_one no_row (rows_of found)
+  pub text_as_before : (text : List ℕ) (found : ReferenceText) → text_content text ≡ reference.sound found → Each RowBelowOne no_row (rows_of found)
       → TextAsBefore text found
-  pub reading_as_before : (f : Figures) (text : List ℕ) → Reading_below_one f text → ReadingAsBefore f text
-  pub readings_as_before : (f : Figures) (readings : List ℕ) → Readings_below_one f readings → ReadingsAsBefore f readings
-  pub texts_as_before : (text : List ℕ) (found : ReferenceText) → text_content text ≡ reference.sound found → Each Row_below_one no_row (rows_of found)
-      → (record_text readings : List ℕ) → Readings_below_one (record_as_zero found record_text).envelope.figures readings
+  pub reading_as_before : (f : Figures) (text : List ℕ) → ReadingBelowOne f text → ReadingAsBefore f text
+  pub readings_as_before : (f : Figures) (readings : List ℕ) → ReadingsBelowOne f readings → ReadingsAsBefore f readings
+  pub texts_as_before : (text : List ℕ) (found : ReferenceText) → text_content text ≡ reference.sound found → Each RowBelowOne no_row (rows_of found)
+      → (record_text readings : List ℕ) → ReadingsBelowOne (record_as_zero found record_text).envelope.figures readings
       → TextsAsBefore text found record_text readings
   -- a record that was accepted where below detection counted as 0 is kept where it agrees with the rows as they read, else 12 meets it
   pub held : (text record_text : List ℕ) (found : ReferenceText) → text_content text ≡ reference.sound found

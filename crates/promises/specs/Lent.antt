@@ -1,5 +1,5 @@
 -- Demand 1, what a lent slice holds after a call, place by place; part of promise 1.2 in Results.
---     Count_within count source places     so many places are within the source and within the lent places
+--     CountWithin count source places     so many places are within the source and within the lent places
 --     FilledPlaces, filled_places         a slice that is filled by so many: its length, its first places and the others
 --     CountsWithin, counts_within         each call that fills a lent slice fills it by such a count
 use Rattle.std.specs.Prelude.{◌*◌, ◌<◌, ◌≤◌, suc, zero, ℕ, ◌≡◌, refl, List, [], ◌++◌, ◌∷◌, leb, ℤ, drop, get_or, length, take}
@@ -22,8 +22,8 @@ use Rattle.record_write.specs.Clauses.{record_written}
 use Rattle.record_write.specs.WriteLaws.{each_written}
 use Rattle.promises.specs.House.{text_content}
 
-abbrev pub Count_within : {A : Type 0} → ℕ → List A → ℕ → Type 0
-Count_within count source places = (count ≤ length source) × (count ≤ places)
+abbrev pub CountWithin : {A : Type 0} → ℕ → List A → ℕ → Type 0
+CountWithin count source places = (count ≤ length source) × (count ≤ places)
 
 -- ---- place by place
 
@@ -41,7 +41,7 @@ first (suc count) [] rest within k d before = absurd (not-suc-le-zero within)
 first (suc count) (x ∷ source) rest within zero d before = refl
 first (suc count) (x ∷ source) rest within (suc k) d before = first count source rest (le_of_suc-le-suc within) k d (le_of_suc-le-suc before)
 
-other : {A : Type 0} (count : ℕ) (source lent : List A) → Count_within count source (length lent) → (k : ℕ) (d : A) → count ≤ k
+other : {A : Type 0} (count : ℕ) (source lent : List A) → CountWithin count source (length lent) → (k : ℕ) (d : A) → count ≤ k
     → get_or (take count source ++ drop count lent) k d ≡ get_or lent k d
 other zero source lent within k d past = refl
 other (suc count) [] lent within k d past = absurd (not-suc-le-zero within.0)
@@ -50,7 +50,7 @@ other (suc count) (x ∷ source) (y ∷ lent) within zero d past = absurd (not-s
 other (suc count) (x ∷ source) (y ∷ lent) within (suc k) d past =
     other count source lent (le_of_suc-le-suc within.0, le_of_suc-le-suc within.1) k d (le_of_suc-le-suc past)
 
-pub filled_places : {A : Type 0} (count : ℕ) (source lent : List A) → Count_within count source (length lent) → FilledPlaces count source lent
+pub filled_places : {A : Type 0} (count : ℕ) (source lent : List A) → CountWithin count source (length lent) → FilledPlaces count source lent
 unfolding filled
 filled_places count source lent within =
     record {
@@ -63,30 +63,30 @@ filled_places count source lent within =
 
 pub record CountsWithin : Type 0 where
   pub of_reference : (text : List ℕ) (places : ℕ) → let r = reference_read row_limit channel_types text places in
-      Count_within (r.m * r.n) (values_in (text_content text)) places
+      CountWithin (r.m * r.n) (values_in (text_content text)) places
   pub of_writing : (rows : List ℤ) (m : ℕ) (e : Envelope) (places : ℕ)
-      → Count_within (record_written total row_limit channel_types rows m e places).length (record_text channel_types e) places
+      → CountWithin (record_written total row_limit channel_types rows m e places).length (record_text channel_types e) places
   -- the programs, those for C and Rust too, whose answers in numbers have the same length
-  pub of_output : (output : List ℕ) (places : ℕ) → Count_within (text_written output places).length output places
+  pub of_output : (output : List ℕ) (places : ℕ) → CountWithin (text_written output places).length output places
 
 reference_count : (text : List ℕ) (places : ℕ) → let r = reference_read row_limit channel_types text places in
-    Count_within (r.m * r.n) (values_in (text_content text)) places
+    CountWithin (r.m * r.n) (values_in (text_content text)) places
 unfolding reference_read
 reference_count text places = go (text_content text) refl
   where
-    go : (c : Content) → text_content text ≡ c → let r = with_table places (answer_of c) in Count_within (r.m * r.n) (values_in c) places
+    go : (c : Content) → text_content text ≡ c → let r = with_table places (answer_of c) in CountWithin (r.m * r.n) (values_in c) places
     go (faulty number line) is =
-        each_answer (λ (r : Reference). Count_within (r.m * r.n) (values_in (faulty number line)) places) (leb 0 places)
+        each_answer (λ (r : Reference). CountWithin (r.m * r.n) (values_in (faulty number line)) places) (leb 0 places)
         (λ _. (zero-le, zero-le)) (λ _. (zero-le, zero-le))
     go (sound found) is =
         let count = row_count found * channel_count found in
-        each_answer (λ (r : Reference). Count_within (r.m * r.n) (values_in (sound found)) places) (leb count places) (λ _. (zero-le, zero-le))
+        each_answer (λ (r : Reference). CountWithin (r.m * r.n) (values_in (sound found)) places) (leb count places) (λ _. (zero-le, zero-le))
         (λ room. (omega (arith, table_length row_limit channel_types text found is), leb-true count places room))
 
 writing-count : (rows : List ℤ) (m : ℕ) (e : Envelope) (places : ℕ)
-    → Count_within (record_written total row_limit channel_types rows m e places).length (record_text channel_types e) places
+    → CountWithin (record_written total row_limit channel_types rows m e places).length (record_text channel_types e) places
 writing-count rows m e places =
-    each_written total row_limit channel_types rows m e places (λ (w : TextWritten). Count_within w.length (record_text channel_types e) places)
+    each_written total row_limit channel_types rows m e places (λ (w : TextWritten). CountWithin w.length (record_text channel_types e) places)
     (zero-le, zero-le) (λ _ _ _. (zero-le, zero-le)) (λ _ _. (zero-le, zero-le)) (λ _ room. (omega arith, room))
 
 pub counts_within : CountsWithin

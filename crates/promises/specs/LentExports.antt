@@ -48,30 +48,30 @@ use Rattle.export_record.specs.Clauses.{envelope_given, envelope_whole, read_ans
 use Rattle.export_chart.specs.Clauses.{panel_answer, panel_given}
 use Rattle.export_chart.proofs.PanelLaws.{panel_accepted}
 use Rattle.promises.specs.House.{text_content}
-use Rattle.promises.specs.Lent.{Count_within, counts_within}
+use Rattle.promises.specs.Lent.{CountWithin, counts_within}
 
 pub record ExportCounts : Type 0 where
   -- X, and the weights
   pub of_drawing : (rows : List ℤ) (m n budget centre-places weight-places : ℕ) → let d = drawing total row_limit rows m n budget in
       (draw_answer d m n centre-places weight-places).number ≡ 0
-      → Count_within n d.ball.scaled_centre centre-places × Count_within m d.weights weight-places
+      → CountWithin n d.ball.scaled_centre centre-places × CountWithin m d.weights weight-places
   pub of_check : (rows : List ℤ) (m n : ℕ) (ws : List ℕ) (centre-places : ℕ) → let c = checking total row_limit rows m n ws in
-      (check_answer c n centre-places).number ≡ 0 → Count_within n c.ball.scaled_centre centre-places
+      (check_answer c n centre-places).number ≡ 0 → CountWithin n c.ball.scaled_centre centre-places
   -- the table, and the codes
   pub of_reference : (text : List ℕ) (table_places code-places : ℕ) → let a = reference_read row_limit channel_types text table_places in
       let r = reference_answer a code-places in
-      Count_within (r.m * r.n) (values_in (text_content text)) table_places × Count_within r.n a.codes code-places
+      CountWithin (r.m * r.n) (values_in (text_content text)) table_places × CountWithin r.n a.codes code-places
   -- X, and the weights
   pub of_record : (rows : List ℤ) (m n : ℕ) (codes text : List ℕ) (centre-places weight-places : ℕ)
       → let r = record_read total row_limit channel_types rows m n codes text in
       (read_answer r m n centre-places weight-places).number ≡ 0
-      → Count_within n r.envelope.figures.ball.scaled_centre centre-places × Count_within m r.envelope.weights weight-places
+      → CountWithin n r.envelope.figures.ball.scaled_centre centre-places × CountWithin m r.envelope.weights weight-places
   pub of_writing : (given : FiguresGiven) (codes : List ℕ) (X : List ℤ) (ws : List ℕ) (rows : List ℤ) (m places : ℕ)
-      → Count_within (write_answer total row_limit channel_types given codes X ws rows m places).length
+      → CountWithin (write_answer total row_limit channel_types given codes X ws rows m places).length
       (record_text channel_types (envelope_given row_limit given codes X ws)) places
   -- the steps
   pub of_panel : (given : FiguresGiven) (codes : List ℕ) (X : List ℤ) (places : ℕ) → let p = panel_given total channel_types given codes X in
-      (panel_answer p given.n places).number ≡ 0 → Count_within given.n p.steps places
+      (panel_answer p given.n places).number ≡ 0 → CountWithin given.n p.steps places
 
 -- two lent slices, of n and of m places
 both_fit : (n m centre-places weight-places : ℕ) → (leb n centre-places && leb m weight-places) ≡ true → (n ≤ centre-places) × (m ≤ weight-places)
@@ -139,12 +139,12 @@ record_sources rows m n codes text is =
     )
 
 writing-given : (given : FiguresGiven) (codes : List ℕ) (X : List ℤ) (ws : List ℕ) (rows : List ℤ) (m places : ℕ)
-    → Count_within (write_answer total row_limit channel_types given codes X ws rows m places).length
+    → CountWithin (write_answer total row_limit channel_types given codes X ws rows m places).length
     (record_text channel_types (envelope_given row_limit given codes X ws)) places
 unfolding write_answer
 writing-given given codes X ws rows m places =
     let e = envelope_given row_limit given codes X ws in
-    each_answer (λ (w : TextWritten). Count_within w.length (record_text channel_types e) places) (envelope_whole row_limit given codes X ws m)
+    each_answer (λ (w : TextWritten). CountWithin w.length (record_text channel_types e) places) (envelope_whole row_limit given codes X ws m)
     (λ _. (zero-le, zero-le)) (λ _. counts_within.of_writing rows m e places)
 
 -- ---- a panel
@@ -173,7 +173,7 @@ export_counts =
           (centre, leb-true n centre-places room);
       of_reference = λ text table_places code-places.
           let a = reference_read row_limit channel_types text table_places in
-          each_answer (λ (r : Reference). Count_within (r.m * r.n) (values_in (text_content text)) table_places × Count_within r.n a.codes code-places)
+          each_answer (λ (r : Reference). CountWithin (r.m * r.n) (values_in (text_content text)) table_places × CountWithin r.n a.codes code-places)
           (leb a.n code-places) (λ _. ((zero-le, zero-le), (zero-le, zero-le)))
           (λ room. (counts_within.of_reference text table_places, (reference_codes text table_places, leb-true a.n code-places room)));
       of_record = λ rows m n codes text centre-places weight-places z.

@@ -7,7 +7,7 @@
 --     accepted-answer, refused-answer         the answers of both kinds
 --     row_listed                              the numbers of a row's line are listed
 --     room_listed                             so is 13 for too little room, tested last
---     Kept_where_refused outcome                a call with this outcome, where refused, leaves every lent place as at entry
+--     KeptWhereRefused outcome                a call with this outcome, where refused, leaves every lent place as at entry
 --     refused_keeps                           a listed outcome does
 use Rattle.std.specs.Prelude.{◌<◌, ◌≤◌, suc, zero, ℕ, ◌≡◌, refl, Bool, ◌&&◌, ◌||◌, false, true, List, eqb, leb}
 use Rattle.std.proofs.Common.{◌∙◌, ap, subst, sym, arith, le-leb}
@@ -94,9 +94,9 @@ room_listed true Accepted listed = tt
 room_listed false Accepted listed = refl
 room_listed room (Refused r) listed = listed
 
-abbrev pub Kept_where_refused : Outcome → Type 1
-Kept_where_refused o = (A : Type 0) (r : Refusal) → o ≡ Refused r → (count : ℕ) (source lent : List A) → filled (number_of o) count source lent ≡ lent
+abbrev pub KeptWhereRefused : Outcome → Type 1
+KeptWhereRefused o = (A : Type 0) (r : Refusal) → o ≡ Refused r → (count : ℕ) (source lent : List A) → filled (number_of o) count source lent ≡ lent
 
-pub refused_keeps : (o : Outcome) → Listed o → Kept_where_refused o
+pub refused_keeps : (o : Outcome) → Listed o → KeptWhereRefused o
 refused_keeps o listed A r is count source lent =
     sym (filled-refused (number_of o) count source lent (λ z. apart (sym (listed_zero o listed z) ∙ is)))

@@ -1,6 +1,6 @@
 -- Demand 1, that each answer of a call is accepted or a listed refusal in which every other figure is 0, for the total, the row limit and
 -- the types of the calls; part of promise 1.3 in Results. The label of a row has no refusal.
---     Drawing_answered .. Panel_answered     an answer of this kind is accepted, or the refusal that its number and line make
+--     DrawingAnswered .. PanelAnswered     an answer of this kind is accepted, or the refusal that its number and line make
 --     AnswersListed, answers_listed        each call
 use Rattle.std.specs.Prelude.{◌*◌, ℕ, ◌≡◌, refl, ◌&&◌, true, List, eqb, leb, ℤ, length}
 use Rattle.std.proofs.Common.{le-leb}
@@ -43,100 +43,100 @@ use Rattle.promises.specs.Listed.{Answered, accepted-answer, is_refusal_at, refu
 use Rattle.promises.specs.ListedVerdicts.{MarkAnswered, VerdictAnswered, chart_answered, reading_answered}
 
 -- an answer is accepted, or this refusal
-abbrev pub Drawing_answered : Drawing → Type 0
-Drawing_answered = Answered (λ d. d.outcome) (λ r. not_drawn row_limit (Refused r))
+abbrev pub DrawingAnswered : Drawing → Type 0
+DrawingAnswered = Answered (λ d. d.outcome) (λ r. not_drawn row_limit (Refused r))
 
-abbrev pub Check_answered : Checked → Type 0
-Check_answered = Answered (λ c. c.outcome) (λ r. not_checked (Refused r))
+abbrev pub CheckAnswered : Checked → Type 0
+CheckAnswered = Answered (λ c. c.outcome) (λ r. not_checked (Refused r))
 
-abbrev pub Reference_answered : Reference → Type 0
-Reference_answered = Answered (λ a. a.outcome) (λ r. refused_reference (Refused r))
+abbrev pub ReferenceAnswered : Reference → Type 0
+ReferenceAnswered = Answered (λ a. a.outcome) (λ r. refused_reference (Refused r))
 
-abbrev pub Record_answered : EnvelopeRead → Type 0
-Record_answered = Answered (λ e. e.outcome) (λ r. not_read row_limit (Refused r))
+abbrev pub RecordAnswered : EnvelopeRead → Type 0
+RecordAnswered = Answered (λ e. e.outcome) (λ r. not_read row_limit (Refused r))
 
-abbrev pub Text_answered : TextWritten → Type 0
-Text_answered = Answered (λ w. w.outcome) (λ r. not_written (Refused r))
+abbrev pub TextAnswered : TextWritten → Type 0
+TextAnswered = Answered (λ w. w.outcome) (λ r. not_written (Refused r))
 
 -- no line is at fault in a refused panel
-abbrev pub Panel_answered : PanelShown → Type 0
-Panel_answered = Answered (λ p. p.outcome) (λ r. refused_panel r.number)
+abbrev pub PanelAnswered : PanelShown → Type 0
+PanelAnswered = Answered (λ p. p.outcome) (λ r. refused_panel r.number)
 
 pub record AnswersListed : Type 0 where
-  pub of_drawing : (rows : List ℤ) (m n budget : ℕ) → Drawing_answered (drawing total row_limit rows m n budget)
-  pub of_check : (rows : List ℤ) (m n : ℕ) (ws : List ℕ) → Check_answered (checking total row_limit rows m n ws)
-  pub of_reference : (text : List ℕ) (places : ℕ) → Reference_answered (reference_read row_limit channel_types text places)
+  pub of_drawing : (rows : List ℤ) (m n budget : ℕ) → DrawingAnswered (drawing total row_limit rows m n budget)
+  pub of_check : (rows : List ℤ) (m n : ℕ) (ws : List ℕ) → CheckAnswered (checking total row_limit rows m n ws)
+  pub of_reference : (text : List ℕ) (places : ℕ) → ReferenceAnswered (reference_read row_limit channel_types text places)
   pub of_reading : (f : Figures) (text : List ℕ) → VerdictAnswered (judged total channel_types f text)
-  pub of_record : (rows : List ℤ) (m n : ℕ) (codes text : List ℕ) → Record_answered (record_read total row_limit channel_types rows m n codes text)
-  pub of_writing : (rows : List ℤ) (m : ℕ) (e : Envelope) (places : ℕ) → Text_answered (record_written total row_limit channel_types rows m e places)
+  pub of_record : (rows : List ℤ) (m n : ℕ) (codes text : List ℕ) → RecordAnswered (record_read total row_limit channel_types rows m n codes text)
+  pub of_writing : (rows : List ℤ) (m : ℕ) (e : Envelope) (places : ℕ) → TextAnswered (record_written total row_limit channel_types rows m e places)
   pub of_chart : (f : Figures) (h v : ℕ) → MarkAnswered (chart_mark total channel_types f h v)
-  pub of_panel : (f : Figures) → Panel_answered (panel_shown total channel_types f)
+  pub of_panel : (f : Figures) → PanelAnswered (panel_shown total channel_types f)
   -- what a program's call answers of its output
-  pub of_output : (output : List ℕ) (places : ℕ) → Text_answered (text_written output places)
+  pub of_output : (output : List ℕ) (places : ℕ) → TextAnswered (text_written output places)
 
 abbrev at : ℕ → ℕ → Refusal
 at number line = record { number = number; line = line }
 
-drawing_answered : (rows : List ℤ) (m n budget : ℕ) → Drawing_answered (drawing total row_limit rows m n budget)
+drawing_answered : (rows : List ℤ) (m n budget : ℕ) → DrawingAnswered (drawing total row_limit rows m n budget)
 unfolding drawing
 drawing_answered rows m n budget =
     let turned = refused-answer (λ (d : Drawing). d.outcome) (λ r. not_drawn row_limit (Refused r)) in
-    each_answer Drawing_answered (rows_within row_limit rows m n) (λ _. turned (at outside_limits 0) refl refl) (λ _.
-    each_answer Drawing_answered (leb budget budget_limit) (λ _. turned (at budget_too_large 0) refl refl) (λ _.
+    each_answer DrawingAnswered (rows_within row_limit rows m n) (λ _. turned (at outside_limits 0) refl refl) (λ _.
+    each_answer DrawingAnswered (leb budget budget_limit) (λ _. turned (at budget_too_large 0) refl refl) (λ _.
     accepted-answer (λ (d : Drawing). d.outcome) (λ r. not_drawn row_limit (Refused r))
     (drawn total m n (coordinate rows n) (run_from total m n (coordinate rows n) budget 0 (start row_limit total))) refl))
 
-check_answered : (rows : List ℤ) (m n : ℕ) (ws : List ℕ) → Check_answered (checking total row_limit rows m n ws)
+check_answered : (rows : List ℤ) (m n : ℕ) (ws : List ℕ) → CheckAnswered (checking total row_limit rows m n ws)
 unfolding checking
 check_answered rows m n ws =
     let turned = refused-answer (λ (c : Checked). c.outcome) (λ r. not_checked (Refused r)) in
-    each_answer Check_answered (rows_within row_limit rows m n && eqb (length ws) m) (λ _. turned (at outside_limits 0) refl refl) (λ _.
-    each_answer Check_answered (eqb (weights_total m ws) total) (λ _. turned (at disagreement 0) refl refl) (λ _.
+    each_answer CheckAnswered (rows_within row_limit rows m n && eqb (length ws) m) (λ _. turned (at outside_limits 0) refl refl) (λ _.
+    each_answer CheckAnswered (eqb (weights_total m ws) total) (λ _. turned (at disagreement 0) refl refl) (λ _.
     accepted-answer (λ (c : Checked). c.outcome) (λ r. not_checked (Refused r))
     (record { outcome = Accepted; ball = ball_of total m n (coordinate rows n) (weight_of ws) }) refl))
 
-reference_answered : (text : List ℕ) (places : ℕ) → Reference_answered (reference_read row_limit channel_types text places)
+reference_answered : (text : List ℕ) (places : ℕ) → ReferenceAnswered (reference_read row_limit channel_types text places)
 unfolding reference_read
 reference_answered text places = go (text_content text) refl
   where
-    turned : (r : Refusal) → is_refusal_at r.number r.line ≡ true → Reference_answered (refused_reference (Refused r))
+    turned : (r : Refusal) → is_refusal_at r.number r.line ≡ true → ReferenceAnswered (refused_reference (Refused r))
     turned r = refused-answer (λ (a : Reference). a.outcome) (λ r. refused_reference (Refused r)) r refl
 
-    tabled : (a : Reference) → Reference_answered a → Reference_answered (with_table places a)
-    tabled a answered = each_answer Reference_answered (leb (a.m * a.n) places) (λ _. turned (at table_short 0) refl) (λ _. answered)
+    tabled : (a : Reference) → ReferenceAnswered a → ReferenceAnswered (with_table places a)
+    tabled a answered = each_answer ReferenceAnswered (leb (a.m * a.n) places) (λ _. turned (at table_short 0) refl) (λ _. answered)
 
-    go : (c : Content) → text_content text ≡ c → Reference_answered (with_table places (answer_of c))
+    go : (c : Content) → text_content text ≡ c → ReferenceAnswered (with_table places (answer_of c))
     go (faulty number line) is =
         tabled (refused_reference (Refused (at number line))) (turned (at number line)
         (each_refusal row_limit channel_types (λ k l. is_refusal_at k l ≡ true) refl refl row_listed text number line is))
     go (sound found) is =
         tabled (answer_of (sound found)) (accepted-answer (λ (a : Reference). a.outcome) (λ r. refused_reference (Refused r)) (answer_of (sound found)) refl)
 
-record_answered : (rows : List ℤ) (m n : ℕ) (codes text : List ℕ) → Record_answered (record_read total row_limit channel_types rows m n codes text)
+record_answered : (rows : List ℤ) (m n : ℕ) (codes text : List ℕ) → RecordAnswered (record_read total row_limit channel_types rows m n codes text)
 record_answered rows m n codes text =
     let turned = refused-answer (λ (e : EnvelopeRead). e.outcome) (λ r. not_read row_limit (Refused r)) in
-    each_read total row_limit channel_types rows m n codes text Record_answered
+    each_read total row_limit channel_types rows m n codes text RecordAnswered
     (turned (at outside_limits 0) refl refl) (turned (at text_length 0) refl refl)
     (λ line is. turned (at record_form line) refl (le-leb 1 line (form_faults row_limit channel_types text line is)))
     (turned (at disagreement 0) refl refl)
     (λ e _. accepted-answer (λ (e : EnvelopeRead). e.outcome) (λ r. not_read row_limit (Refused r)) (accepting e) refl)
 
-text_refused : (r : Refusal) → is_refusal_at r.number r.line ≡ true → Text_answered (not_written (Refused r))
+text_refused : (r : Refusal) → is_refusal_at r.number r.line ≡ true → TextAnswered (not_written (Refused r))
 text_refused r = refused-answer (λ (w : TextWritten). w.outcome) (λ r. not_written (Refused r)) r refl
 
-text-written : (bytes : ℕ) → Text_answered (written bytes)
+text-written : (bytes : ℕ) → TextAnswered (written bytes)
 text-written bytes = accepted-answer (λ (w : TextWritten). w.outcome) (λ r. not_written (Refused r)) (written bytes) refl
 
-writing_answered : (rows : List ℤ) (m : ℕ) (e : Envelope) (places : ℕ) → Text_answered (record_written total row_limit channel_types rows m e places)
+writing_answered : (rows : List ℤ) (m : ℕ) (e : Envelope) (places : ℕ) → TextAnswered (record_written total row_limit channel_types rows m e places)
 writing_answered rows m e places =
-    each_written total row_limit channel_types rows m e places Text_answered
+    each_written total row_limit channel_types rows m e places TextAnswered
     (text_refused (at outside_limits 0) refl) (λ _ _ _. text_refused (at disagreement 0) refl) (λ _ _. text_refused (at buffer_short 0) refl)
     (λ _ _. text-written (length (record_text channel_types e)))
 
-panel_answered : (f : Figures) → Panel_answered (panel_shown total channel_types f)
+panel_answered : (f : Figures) → PanelAnswered (panel_shown total channel_types f)
 unfolding panel_shown
 panel_answered f =
-    each_answer Panel_answered (figures_known total channel_types f)
+    each_answer PanelAnswered (figures_known total channel_types f)
     (λ _. refused-answer (λ (p : PanelShown). p.outcome) (λ r. refused_panel r.number) (at outside_limits 0) refl refl)
     (λ _. accepted-answer (λ (p : PanelShown). p.outcome) (λ r. refused_panel r.number) (panel_of total f) refl)
 
@@ -152,5 +152,5 @@ answers_listed =
       of_chart = chart_answered;
       of_panel = panel_answered;
       of_output = λ output places.
-          each_answer Text_answered (leb (length output) places) (λ _. text_refused (at buffer_short 0) refl) (λ _. text-written (length output));
+          each_answer TextAnswered (leb (length output) places) (λ _. text_refused (at buffer_short 0) refl) (λ _. text-written (length output));
     }

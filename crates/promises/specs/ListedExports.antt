@@ -30,40 +30,40 @@ use Rattle.export_reading.specs.Clauses.{judge_answer, verdict_in_numbers}
 use Rattle.export_record.specs.Clauses.{envelope_given, envelope_whole, read_answer, write_answer}
 use Rattle.export_chart.specs.Clauses.{chart_answer, mark_in_numbers, panel_answer, panel_given}
 use Rattle.promises.specs.Listed.{Listed, room_listed}
-use Rattle.promises.specs.ListedAnswers.{Reference_answered, answers_listed}
-use Rattle.promises.specs.ListedNumbers.{Check_numbers, Envelope_numbers, Listed_number, Mark_numbers, Reference_numbers, Verdict_numbers, Written_numbers, check_numbers, envelope_numbers, listed_number, mark_numbers, reference_numbers, verdict_numbers, written-numbers}
+use Rattle.promises.specs.ListedAnswers.{ReferenceAnswered, answers_listed}
+use Rattle.promises.specs.ListedNumbers.{CheckNumbers, EnvelopeNumbers, ListedNumber, MarkNumbers, ReferenceNumbers, VerdictNumbers, WrittenNumbers, check_numbers, envelope_numbers, listed_number, mark_numbers, reference_numbers, verdict_numbers, written-numbers}
 use Rattle.promises.specs.ListedVerdicts.{mark_answered, verdict_answered}
 
 pub record ExportsListed : Type 0 where
   pub of_drawing : (rows : List ℤ) (m n budget centre-places weight-places : ℕ)
-      → Envelope_numbers (draw_answer (drawing total row_limit rows m n budget) m n centre-places weight-places)
-  pub of_check : (rows : List ℤ) (m n : ℕ) (ws : List ℕ) (centre-places : ℕ) → Check_numbers (check_answer (checking total row_limit rows m n ws) n centre-places)
+      → EnvelopeNumbers (draw_answer (drawing total row_limit rows m n budget) m n centre-places weight-places)
+  pub of_check : (rows : List ℤ) (m n : ℕ) (ws : List ℕ) (centre-places : ℕ) → CheckNumbers (check_answer (checking total row_limit rows m n ws) n centre-places)
   pub of_reference : (text : List ℕ) (table_places code-places : ℕ)
-      → Reference_numbers (reference_answer (reference_read row_limit channel_types text table_places) code-places)
-  pub of_reading : (given : FiguresGiven) (codes : List ℕ) (X : List ℤ) (text : List ℕ) → Verdict_numbers (judge_answer total channel_types given codes X text)
+      → ReferenceNumbers (reference_answer (reference_read row_limit channel_types text table_places) code-places)
+  pub of_reading : (given : FiguresGiven) (codes : List ℕ) (X : List ℤ) (text : List ℕ) → VerdictNumbers (judge_answer total channel_types given codes X text)
   pub of_record : (rows : List ℤ) (m n : ℕ) (codes text : List ℕ) (centre-places weight-places : ℕ)
-      → Envelope_numbers (read_answer (record_read total row_limit channel_types rows m n codes text) m n centre-places weight-places)
+      → EnvelopeNumbers (read_answer (record_read total row_limit channel_types rows m n codes text) m n centre-places weight-places)
   pub of_writing : (given : FiguresGiven) (codes : List ℕ) (X : List ℤ) (ws : List ℕ) (rows : List ℤ) (m places : ℕ)
-      → Written_numbers (write_answer total row_limit channel_types given codes X ws rows m places)
-  pub of_chart : (given : FiguresGiven) (codes : List ℕ) (X : List ℤ) (h v : ℕ) → Mark_numbers (chart_answer total channel_types given codes X h v)
+      → WrittenNumbers (write_answer total row_limit channel_types given codes X ws rows m places)
+  pub of_chart : (given : FiguresGiven) (codes : List ℕ) (X : List ℤ) (h v : ℕ) → MarkNumbers (chart_answer total channel_types given codes X h v)
   -- a panel's answer has no figure but number and line
   pub of_panel : (given : FiguresGiven) (codes : List ℕ) (X : List ℤ) (n places : ℕ)
-      → let a = panel_answer (panel_given total channel_types given codes X) n places in Listed_number a.number a.line
+      → let a = panel_answer (panel_given total channel_types given codes X) n places in ListedNumber a.number a.line
   -- the programs
-  pub of_output : (output : List ℕ) (places : ℕ) → Written_numbers (written_in_numbers (text_written output places))
+  pub of_output : (output : List ℕ) (places : ℕ) → WrittenNumbers (written_in_numbers (text_written output places))
 
 -- an answer that 8 for the ending, or for an envelope that is not whole, comes before
-reading-given : (given : FiguresGiven) (codes : List ℕ) (X : List ℤ) (text : List ℕ) → Verdict_numbers (judge_answer total channel_types given codes X text)
+reading-given : (given : FiguresGiven) (codes : List ℕ) (X : List ℤ) (text : List ℕ) → VerdictNumbers (judge_answer total channel_types given codes X text)
 unfolding judge_answer
 reading-given given codes X text =
-    each_answer (λ (v : Verdict). Verdict_numbers (verdict_in_numbers v)) (ending_known given)
+    each_answer (λ (v : Verdict). VerdictNumbers (verdict_in_numbers v)) (ending_known given)
     (λ _. verdict_numbers (refused_verdict outside_limits 0) (verdict_answered (refused_verdict outside_limits 0) (refl, λ h. clash h refl)))
     (λ _. verdict_numbers (judged total channel_types (figures_given given codes X) text) (answers_listed.of_reading (figures_given given codes X) text))
 
-chart_given : (given : FiguresGiven) (codes : List ℕ) (X : List ℤ) (h v : ℕ) → Mark_numbers (chart_answer total channel_types given codes X h v)
+chart_given : (given : FiguresGiven) (codes : List ℕ) (X : List ℤ) (h v : ℕ) → MarkNumbers (chart_answer total channel_types given codes X h v)
 unfolding chart_answer
 chart_given given codes X h v =
-    each_answer (λ (mark : Mark). Mark_numbers (mark_in_numbers mark)) (ending_known given)
+    each_answer (λ (mark : Mark). MarkNumbers (mark_in_numbers mark)) (ending_known given)
     (λ _. mark_numbers (refused_mark outside_limits) (mark_answered (refused_mark outside_limits) refl))
     (λ _. mark_numbers (chart_mark total channel_types (figures_given given codes X) h v) (answers_listed.of_chart (figures_given given codes X) h v))
 
@@ -73,18 +73,18 @@ panel_given_lem given codes X =
     each_answer (λ (p : PanelShown). Listed p.outcome) (ending_known given) (λ _. refl) (λ _. (answers_listed.of_panel (figures_given given codes X)).listed)
 
 writing-given : (given : FiguresGiven) (codes : List ℕ) (X : List ℤ) (ws : List ℕ) (rows : List ℤ) (m places : ℕ)
-    → Written_numbers (write_answer total row_limit channel_types given codes X ws rows m places)
+    → WrittenNumbers (write_answer total row_limit channel_types given codes X ws rows m places)
 unfolding write_answer
 writing-given given codes X ws rows m places =
     let e = envelope_given row_limit given codes X ws in
-    each_answer (λ (w : TextWritten). Written_numbers (written_in_numbers w)) (envelope_whole row_limit given codes X ws m)
+    each_answer (λ (w : TextWritten). WrittenNumbers (written_in_numbers w)) (envelope_whole row_limit given codes X ws m)
     (λ _. (inr refl, λ _. refl))
     (λ _. written-numbers (record_written total row_limit channel_types rows m e places) (answers_listed.of_writing rows m e places))
 
 -- 13 for the codes comes after
-reference_given : (a : Reference) (code-places : ℕ) → Reference_answered a → Reference_numbers (reference_answer a code-places)
+reference_given : (a : Reference) (code-places : ℕ) → ReferenceAnswered a → ReferenceNumbers (reference_answer a code-places)
 reference_given a code-places answered =
-    each_answer (λ (r : Reference). Reference_numbers (reference_in_numbers r)) (leb a.n code-places) (λ _. (inr refl, λ _. (refl, refl)))
+    each_answer (λ (r : Reference). ReferenceNumbers (reference_in_numbers r)) (leb a.n code-places) (λ _. (inr refl, λ _. (refl, refl)))
     (λ _. reference_numbers a answered)
 
 pub exports_listed : ExportsListed

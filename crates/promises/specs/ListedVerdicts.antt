@@ -1,9 +1,9 @@
 -- Demand 1, that each verdict and each mark is accepted or a listed refusal in which every other figure is 0, for the total and the types of
 -- the calls; with the other answers in ListedAnswers.
 --     VerdictAnswered, reading_answered     of a verdict; of each verdict on a reading
---     Listed_verdict, verdict_answered       one that is no refusal, or a listed one, is such a verdict
+--     ListedVerdict, verdict_answered       one that is no refusal, or a listed one, is such a verdict
 --     MarkAnswered, chart_answered          of a mark; of each mark on a chart
---     Listed_mark, mark_answered             one that is no refusal, or a listed one, is such a mark
+--     ListedMark, mark_answered             one that is no refusal, or a listed one, is such a mark
 use Rattle.std.specs.Prelude.{suc, zero, ℕ, ◌≡◌, refl, ◌&&◌, true, List, ◌⊎◌, Float, pos}
 use Rattle.std.proofs.Common.{ap, inl, inr}
 use Rattle.integers.specs.Tests.{clash, impossible}
@@ -39,12 +39,12 @@ pub record VerdictAnswered (v : Verdict) : Type 0 where
       → (is_refusal_at (verdict_number v) (verdict_line v) ≡ true) × (with_line (verdict_number v) ≡ true → verdict_line v ≡ 1) × (verdict_excess v ≡ 0)
 
 -- a verdict that is no refusal, or a listed one
-abbrev pub Listed_verdict : Verdict → Type 0
-Listed_verdict Quiet = Unit {0}
-Listed_verdict (Alarm excess) = Unit {0}
-Listed_verdict (RefusedReading r) = (is_refusal_at r.number r.line ≡ true) × (with_line r.number ≡ true → r.line ≡ 1)
+abbrev pub ListedVerdict : Verdict → Type 0
+ListedVerdict Quiet = Unit {0}
+ListedVerdict (Alarm excess) = Unit {0}
+ListedVerdict (RefusedReading r) = (is_refusal_at r.number r.line ≡ true) × (with_line r.number ≡ true → r.line ≡ 1)
 
-pub verdict_answered : (v : Verdict) → Listed_verdict v → VerdictAnswered v
+pub verdict_answered : (v : Verdict) → ListedVerdict v → VerdictAnswered v
 verdict_answered Quiet listed =
     record { zero = λ _. inl refl; quiet = λ _. refl; alarm = λ _ _. refl; refused = λ r e. impossible (cc) }
 verdict_answered (Alarm excess) listed =
@@ -82,12 +82,12 @@ pub record MarkAnswered (mark : Mark) : Type 0 where
       × (mark_radius mark ≡ positive_zero)
 
 -- a mark that is no refusal, or a listed one
-abbrev pub Listed_mark : Mark → Type 0
-Listed_mark (Dot p) = Unit {0}
-Listed_mark (Disc p x) = Unit {0}
-Listed_mark (RefusedMark r) = is_refusal_at r.number r.line ≡ true
+abbrev pub ListedMark : Mark → Type 0
+ListedMark (Dot p) = Unit {0}
+ListedMark (Disc p x) = Unit {0}
+ListedMark (RefusedMark r) = is_refusal_at r.number r.line ≡ true
 
-pub mark_answered : (mark : Mark) → Listed_mark mark → MarkAnswered mark
+pub mark_answered : (mark : Mark) → ListedMark mark → MarkAnswered mark
 mark_answered (Dot p) listed =
     record { zero = λ _. inl (p, refl); dot = λ _ _. refl; disc = λ _ _ _. refl; refused = λ r e. impossible (cc) }
 mark_answered (Disc p x) listed =

@@ -1,7 +1,7 @@
 -- Demand 1, what a call that measures a reading answers, for the total and the types of the calls: parts of promises 1.2, 1.3 and 1.4.
 --     measuring, measuring_given                the answer where so many places are lent, against figures, and against those that are given
 --     MeasureCounts, measure_counts            1.2: an accepted call fills n places, which are within the values and within what is lent
---     MeasureAnswered, Measured_numbers         1.3: an answer is accepted or a listed refusal, in which the excess and s are 0
+--     MeasureAnswered, MeasuredNumbers         1.3: an answer is accepted or a listed refusal, in which the excess and s are 0
 --     MeasuresListed, measures_listed          each call
 --     MeasureRefused, measures_refused         1.4: the refusals of the verdict first, then 13
 --     GivenMeasured, given-measured            1.4: 8 for the ending that is given first
@@ -26,11 +26,11 @@ use Rattle.export_figures.specs.Clauses.{ending_known, figures_given}
 use Rattle.export_figures.specs.declared.FiguresGiven.{FiguresGiven}
 use Rattle.export_reading.specs.Clauses.{measured_given, measured_in_numbers}
 use Rattle.export_reading.specs.declared.MeasuredAnswer.{MeasuredAnswer}
-use Rattle.promises.specs.Lent.{Count_within}
+use Rattle.promises.specs.Lent.{CountWithin}
 use Rattle.promises.specs.Listed.{with_line}
 use Rattle.promises.specs.ListedAnswers.{answers_listed}
-use Rattle.promises.specs.ListedNumbers.{Listed_number, verdict_numbers}
-use Rattle.promises.specs.ListedVerdicts.{Listed_verdict, VerdictAnswered, verdict_answered}
+use Rattle.promises.specs.ListedNumbers.{ListedNumber, verdict_numbers}
+use Rattle.promises.specs.ListedVerdicts.{ListedVerdict, VerdictAnswered, verdict_answered}
 
 abbrev pub measuring : Figures → List ℕ → ℕ → Measured
 measuring f text places = measure_answer (measured total channel_types f text) places
@@ -42,23 +42,23 @@ measuring_given given codes X text places = measure_answer (measured_given total
 
 pub record MeasureCounts : Type 0 where
   pub of_measure : (f : Figures) (text : List ℕ) (places : ℕ) → verdict_number (measuring f text places).verdict ≡ 0
-      → Count_within f.n (measured total channel_types f text).values places
+      → CountWithin f.n (measured total channel_types f text).values places
   pub for_C_and_Rust : (given : FiguresGiven) (codes : List ℕ) (X : List ℤ) (text : List ℕ) (places : ℕ)
       → (measured_in_numbers (measuring_given given codes X text places)).number ≡ 0
-      → Count_within given.n (measured_given total channel_types given codes X text).values places
+      → CountWithin given.n (measured_given total channel_types given codes X text).values places
 
 measure_count : (f : Figures) (text : List ℕ) (places : ℕ) → verdict_number (measuring f text places).verdict ≡ 0
-    → Count_within f.n (measured total channel_types f text).values places
+    → CountWithin f.n (measured total channel_types f text).values places
 measure_count f text places zero_number =
     let a = answer-accepted total channel_types f text places zero_number in
     (omega (arith, a.1.count), a.0)
 
 given-count : (given : FiguresGiven) (codes : List ℕ) (X : List ℤ) (text : List ℕ) (places : ℕ)
     → verdict_number (measuring_given given codes X text places).verdict ≡ 0
-    → Count_within given.n (measured_given total channel_types given codes X text).values places
+    → CountWithin given.n (measured_given total channel_types given codes X text).values places
 unfolding measured_given
 given-count given codes X text places =
-    each_answer (λ (m : MeasuredReading). verdict_number (measure_answer m places).verdict ≡ 0 → Count_within given.n m.values places) (ending_known given)
+    each_answer (λ (m : MeasuredReading). verdict_number (measure_answer m places).verdict ≡ 0 → CountWithin given.n m.values places) (ending_known given)
     (λ _ zero_number. nonzero (sym (ap (λ (m : Measured). verdict_number m.verdict) (answer_none outside_limits 0 places)) ∙ zero_number))
     (λ _. measure_count (figures_given given codes X) text places)
 
@@ -73,17 +73,17 @@ pub record MeasureAnswered (m : Measured) : Type 0 where
   pub distance : (verdict_number m.verdict ≡ 0 → ⊥) → m.scaled_squared_distance ≡ 0
 
 -- in numbers, as of a verdict, with s
-abbrev pub Measured_numbers : MeasuredAnswer → Type 0
-Measured_numbers a =
-    Listed_number a.number a.line × (with_line a.number ≡ true → a.line ≡ 1)
+abbrev pub MeasuredNumbers : MeasuredAnswer → Type 0
+MeasuredNumbers a =
+    ListedNumber a.number a.line × (with_line a.number ≡ true → a.line ≡ 1)
     × ((a.number ≡ 0 → ⊥) → (a.verdict ≡ 0) × (a.excess ≡ 0) × (a.scaled_squared_distance ≡ 0))
 
 pub record MeasuresListed : Type 0 where
   pub of_measure : (f : Figures) (text : List ℕ) (places : ℕ) → MeasureAnswered (measuring f text places)
   pub for_C_and_Rust : (given : FiguresGiven) (codes : List ℕ) (X : List ℤ) (text : List ℕ) (places : ℕ)
-      → Measured_numbers (measured_in_numbers (measuring_given given codes X text places))
+      → MeasuredNumbers (measured_in_numbers (measuring_given given codes X text places))
 
-refusal_answered : (k l : ℕ) → Listed_verdict (refused_verdict k l) → MeasureAnswered (refused_measure k l)
+refusal_answered : (k l : ℕ) → ListedVerdict (refused_verdict k l) → MeasureAnswered (refused_measure k l)
 refusal_answered k l listed = record { verdict = verdict_answered (refused_verdict k l) listed; distance = λ _. refl }
 
 measured_answered : (f : Figures) (text : List ℕ) → MeasureAnswered (measured total channel_types f text).answer

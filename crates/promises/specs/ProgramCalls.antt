@@ -17,7 +17,7 @@ use Rattle.program_panel.specs.Output.{panel_output}
 use Rattle.program_verdicts.specs.Clauses.{readings_room, verdicts_room}
 use Rattle.program_judge.specs.Output.{judge_output}
 use Rattle.program_io.specs.Clauses.{Read}
-use Rattle.promises.specs.Answering.{Answers, Answers_where}
+use Rattle.promises.specs.Answering.{Answers, AnswersWhere}
 use seplogic.Ra.Ura.{Ura}
 use contract.Notation
 use types.Logic.{Logic}
@@ -96,12 +96,12 @@ module _ {M : Type 1} {𝓤 : Ura M} (𝓛 : Logic 𝓤) (𝓜 : Model 𝓤 𝓛
   -- says what is there to be read. What was read stands in the first places of the slice, nothing where a read failed (`Read`)
   pub record ProgramReaders : Type 1 where
     -- read_file(program, index, text)
-    pub reads_file : Answers_where 𝓛 𝓜 𝓡 read-file.ended read-file-code.routine (λ κs a. ⌜ text_limit < length a.1.1.0.now ⌝)
+    pub reads_file : AnswersWhere 𝓛 𝓜 𝓡 read-file.ended read-file-code.routine (λ κs a. ⌜ text_limit < length a.1.1.0.now ⌝)
         (λ κs a r e.
         let text-after = e.1.1.0.now in
         ⌜ Read r text-after ⌝)
     -- read_standard_input(program, text)
-    pub reads_standard_input : Answers_where 𝓛 𝓜 𝓡 read-input.ended read-input-code.routine (λ κs a. ⌜ text_limit < length a.1.0.now ⌝)
+    pub reads_standard_input : AnswersWhere 𝓛 𝓜 𝓡 read-input.ended read-input-code.routine (λ κs a. ⌜ text_limit < length a.1.0.now ⌝)
         (λ κs a r e.
         let text-after = e.1.0.now in
         ⌜ Read r text-after ⌝)

@@ -58,39 +58,39 @@ module _ (rows : List ℤ) (m n : ℕ) (codes text : List ℕ) where
     pub weight : (x : Weight) → print_weight x ≡ join comma (weight_word ∷ map print (pos x.row ∷ pos x.weight ∷ []))
 
   -- 11 at this line
-  abbrev Faulty_at : ℕ → Type 0
-  Faulty_at line = answer ≡ not_read row_limit (refused_at record_form line)
+  abbrev FaultyAt : ℕ → Type 0
+  FaultyAt line = answer ≡ not_read row_limit (refused_at record_form line)
 
   -- the lines before are each the printing of their part of a record within the limits (`AfterHeading`, `AfterCentre`, `AfterResult`,
   -- `AfterWeights`), this one is the printing of no such part, is not ended by byte 10, or is not there: then it is the one after the last
   pub record FirstFaulty : Type 0 where
     -- line 1, the heading
-    pub heading_unended : (part : List ℕ) → cut line_end text ≡ part ∷ [] → Faulty_at 1
+    pub heading_unended : (part : List ℕ) → cut line_end text ≡ part ∷ [] → FaultyAt 1
     pub heading_faulty : (line next : List ℕ) (parts : List (List ℕ)) → cut line_end text ≡ line ∷ next ∷ parts
-        → ((stated : List ℕ) → CodesWithin channel_limit channel_types stated → print_heading record_word channel_types stated ≢ line) → Faulty_at 1
+        → ((stated : List ℕ) → CodesWithin channel_limit channel_types stated → print_heading record_word channel_types stated ≢ line) → FaultyAt 1
     -- line 2, `C`
-    pub centre_unended : (stated part : List ℕ) → AfterHeading channel_types stated text (part ∷ []) → Faulty_at 2
+    pub centre_unended : (stated part : List ℕ) → AfterHeading channel_types stated text (part ∷ []) → FaultyAt 2
     pub centre_faulty : (stated line next : List ℕ) (parts : List (List ℕ)) → AfterHeading channel_types stated text (line ∷ next ∷ parts)
         → ((X : List ℤ) → length X ≡ length stated → ((k : ℕ) → k < length X → nat_abs (get_or X k (pos 0)) < magnitude_limit) → print_centre X ≢ line)
-        → Faulty_at 2
+        → FaultyAt 2
     -- line 3, `R`
-    pub result_unended : (stated part : List ℕ) (X : List ℤ) → AfterCentre channel_types stated X text (part ∷ []) → Faulty_at 3
+    pub result_unended : (stated part : List ℕ) (X : List ℤ) → AfterCentre channel_types stated X text (part ∷ []) → FaultyAt 3
     pub result_faulty : (stated line next : List ℕ) (X : List ℤ) (parts : List (List ℕ)) → AfterCentre channel_types stated X text (line ∷ next ∷ parts)
-        → ((x : Result) → ResultWithin x → print_result x ≢ line) → Faulty_at 3
+        → ((x : Result) → ResultWithin x → print_result x ≢ line) → FaultyAt 3
     -- no `W` line
-    pub weight_missing : (stated : List ℕ) (X : List ℤ) (x : Result) → AfterResult channel_types stated X x text ([] ∷ []) → Faulty_at 4
+    pub weight_missing : (stated : List ℕ) (X : List ℤ) (x : Result) → AfterResult channel_types stated X x text ([] ∷ []) → FaultyAt 4
     -- a line after so many `W` lines; of a `W` line the row is past the last one and within the limit, the weight above 0
     pub weight_faulty : (r : Record) (line next : List ℕ) (parts : List (List ℕ)) → AfterWeights row_limit channel_types r text (line ∷ next ∷ parts)
         → ((w : Weight) → weight_within row_limit (last_row 0 r.weights) w ≡ true → w.weight < magnitude_limit → print_weight w ≢ line)
-        → Faulty_at (4 + length r.weights)
+        → FaultyAt (4 + length r.weights)
     -- a piece without byte 10 at the end
     pub weight_unended : (r : Record) (b : ℕ) (part : List ℕ) → AfterWeights row_limit channel_types r text ((b ∷ part) ∷ [])
-        → Faulty_at (4 + length r.weights)
+        → FaultyAt (4 + length r.weights)
     -- the case of `weight_faulty` whose line is empty, the printing of no `W` line
     pub weight_empty : (r : Record) (next : List ℕ) (parts : List (List ℕ)) → AfterWeights row_limit channel_types r text ([] ∷ next ∷ parts)
-        → Faulty_at (4 + length r.weights)
+        → FaultyAt (4 + length r.weights)
 
-  first_faulty : ((line : ℕ) → text_form text ≡ faulty line → Faulty_at line) → FirstFaulty
+  first_faulty : ((line : ℕ) → text_form text ≡ faulty line → FaultyAt line) → FirstFaulty
   first_faulty at =
       record {
         heading_unended = λ part is. at 1 (fault-laws.heading_unended row_limit channel_types text is);
@@ -118,7 +118,7 @@ module _ (rows : List ℤ) (m n : ℕ) (codes text : List ℕ) where
     pub printed_form : (r : Record) → Within row_limit channel_types r → text_form (print_record channel_types r) ≡ sound r
     -- else 11 at the first faulty line
     pub faulty_line : (line : ℕ) → given_within row_limit channel_types rows m n codes ≡ true → text_within text ≡ true → text_form text ≡ faulty line
-        → Faulty_at line
+        → FaultyAt line
     -- which that is, from the lines before it
     pub first_faulty_line : given_within row_limit channel_types rows m n codes ≡ true → text_within text ≡ true → FirstFaulty
     -- so that a text of 1 to 65,536 bytes is not met by 11 exactly when it is such a printing

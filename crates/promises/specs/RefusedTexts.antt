@@ -9,7 +9,7 @@ use Rattle.refusal.specs.Number.{heading, label_repeated, line_form, outside_lim
 use Rattle.refusal.specs.Outcome.{refused, refused_at}
 use Rattle.limits.specs.Limits.{channel_limit, row_limit, text_limit, total}
 use Rattle.text.specs.Parts.{cut, line_end, text_within}
-use Rattle.label.specs.Row_label.{label_used}
+use Rattle.label.specs.RowLabel.{label_used}
 use Rattle.channel.specs.Channel.{channel_types}
 use Rattle.channel.specs.ChannelLaws.{house_sound}
 use Rattle.value.specs.Values.{values_in_range}

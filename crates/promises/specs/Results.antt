@@ -17,9 +17,9 @@ use Rattle.promises.specs.AlertAnswers.{TrialCounts, trial_counts, trial_kept, t
 use Rattle.promises.specs.AlertCalls.{AlertCalls, alert_calls}
 use Rattle.promises.specs.Calls.{Calls, calls}
 use Rattle.promises.specs.Exports.{Exports, exports}
-use Rattle.promises.specs.Lent.{Count_within, CountsWithin, FilledPlaces, counts_within, filled_places}
+use Rattle.promises.specs.Lent.{CountWithin, CountsWithin, FilledPlaces, counts_within, filled_places}
 use Rattle.promises.specs.LentExports.{ExportCounts, export_counts}
-use Rattle.promises.specs.Listed.{Kept_where_refused, refused_keeps}
+use Rattle.promises.specs.Listed.{KeptWhereRefused, refused_keeps}
 use Rattle.promises.specs.ListedAnswers.{answers_listed}
 use Rattle.promises.specs.MeasureAnswers.{MeasureCounts, measure_counts}
 use Rattle.promises.specs.MeasureCalls.{MeasureCalls, measure_calls}
@@ -67,24 +67,24 @@ module _ {M : Type 1} {𝓤 : Ura M} (𝓛 : Logic 𝓤) (𝓜 : Model 𝓤 𝓛
     pub said_by_calls : PublicCalls
     -- accepted, the first places are what the definition gives and every other place is as at entry, the count being within both lists
     pub accepted : {A : Type 0} (count : ℕ) (source lent : List A) → filled 0 count source lent ≡ take count source ++ drop count lent
-    pub place_by_place : {A : Type 0} (count : ℕ) (source lent : List A) → Count_within count source (length lent) → FilledPlaces count source lent
+    pub place_by_place : {A : Type 0} (count : ℕ) (source lent : List A) → CountWithin count source (length lent) → FilledPlaces count source lent
     -- as the counts of the calls are
     pub counts : CountsWithin
     pub counts_for_C_and_Rust : ExportCounts
     pub counts_of_measure : MeasureCounts
     -- of a reference text that is written, for C and Rust too, where the answer has the same length
     pub count_of_writer : (lent : Lent) (places : ℕ)
-        → Count_within (reference_written row_limit channel_types lent places).length (written_text channel_types (lent_text row_limit channel_types lent)) places
+        → CountWithin (reference_written row_limit channel_types lent places).length (written_text channel_types (lent_text row_limit channel_types lent)) places
     pub counts_of_trial : TrialCounts
     -- refused, every place is as at entry: by the number, as the calls for C and Rust and those that measure say it, and by the outcome, as the
     -- others do
     pub refused_kept : {A : Type 0} (number count : ℕ) (source lent : List A) → (number ≡ 0 → ⊥) → filled number count source lent ≡ lent
-    pub reference_kept : (text : List ℕ) (places : ℕ) → Kept_where_refused (reference_read row_limit channel_types text places).outcome
+    pub reference_kept : (text : List ℕ) (places : ℕ) → KeptWhereRefused (reference_read row_limit channel_types text places).outcome
     pub writing_kept : (rows : List ℤ) (m : ℕ) (e : Envelope) (places : ℕ)
-        → Kept_where_refused (record_written total row_limit channel_types rows m e places).outcome
-    pub reference_writing_kept : (lent : Lent) (places : ℕ) → Kept_where_refused (reference_written row_limit channel_types lent places).outcome
-    pub trial_kept : (f : Figures) (settings readings : List ℕ) (places : ℕ) → Kept_where_refused (trying f settings readings places).outcome
-    pub output_kept : (output : List ℕ) (places : ℕ) → Kept_where_refused (text_written output places).outcome
+        → KeptWhereRefused (record_written total row_limit channel_types rows m e places).outcome
+    pub reference_writing_kept : (lent : Lent) (places : ℕ) → KeptWhereRefused (reference_written row_limit channel_types lent places).outcome
+    pub trial_kept : (f : Figures) (settings readings : List ℕ) (places : ℕ) → KeptWhereRefused (trying f settings readings places).outcome
+    pub output_kept : (output : List ℕ) (places : ℕ) → KeptWhereRefused (text_written output places).outcome
 
   pub promise_1_2 : LentMemory
   unfolding filled

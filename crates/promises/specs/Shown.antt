@@ -1,6 +1,6 @@
 -- Demand 2, chart, panel and trial figures.
---     Is_fraction         a binary64 number is z over the total, exactly
---     Projection_held     the disc of the chart holds each row's projection
+--     IsFraction         a binary64 number is z over the total, exactly
+--     ProjectionHeld     the disc of the chart holds each row's projection
 --     ChartShown         an accepted chart
 --     PanelSteps         what the panel shows of each channel
 --     NearestStep        the nearest whole step
@@ -33,8 +33,8 @@ use Rattle.promises.specs.Tight.{OfEvery, Property, every}
 -- ---- 2.12
 
 -- its exact fraction, and zero positive
-abbrev pub Is_fraction : ℤ → Float → Type 0
-Is_fraction z x = HasValue x (negative z) (nat_abs z) total × (z ≡ pos 0 → x ≡ positive_zero)
+abbrev pub IsFraction : ℤ → Float → Type 0
+IsFraction z x = HasValue x (negative z) (nat_abs z) total × (z ≡ pos 0 → x ≡ positive_zero)
 
 module _ (f : Figures) where
   abbrev M : ℕ
@@ -42,10 +42,10 @@ module _ (f : Figures) where
 
   -- every accepted chart of the channels h and v
   pub record ChartShown (h v : ℕ) : Type 0 where
-    pub horizontal : Is_fraction (channel_centre f h) (mark_point (chart_mark total channel_types f h v)).horizontal
-    pub vertical : Is_fraction (channel_centre f v) (mark_point (chart_mark total channel_types f h v)).vertical
+    pub horizontal : IsFraction (channel_centre f h) (mark_point (chart_mark total channel_types f h v)).horizontal
+    pub vertical : IsFraction (channel_centre f v) (mark_point (chart_mark total channel_types f h v)).vertical
     -- the radius is the smallest whole number whose square is at least M, over D
-    pub radius : Is_fraction (pos (ceiling_root M)) (mark_radius (chart_mark total channel_types f h v))
+    pub radius : IsFraction (pos (ceiling_root M)) (mark_radius (chart_mark total channel_types f h v))
     pub root_reaches : M ≤ ceiling_root M * ceiling_root M
     pub root_smallest : (k : ℕ) → M ≤ k * k → ceiling_root M ≤ k
     -- a dot when M is 0, else a disc
@@ -67,8 +67,8 @@ pub record NearestStep (z : ℤ) : Type 0 where
       → ((v : ℤ) → distance_to total z v ≡ distance_to total z w → nat_abs v ≤ nat_abs w) → w ≡ nearest_step total z
 
 -- on a chart of two different channels each row's projection is within the radius of the centre, and so is each of its coordinates
-abbrev pub Projection_held : Property
-Projection_held D m n a X M L is_settled =
+abbrev pub ProjectionHeld : Property
+ProjectionHeld D m n a X M L is_settled =
     (i : ℕ) → i < m
     → ((h v : ℕ) → 1 ≤ h → h ≤ n → 1 ≤ v → v ≤ n → h ≢ v → projected_squared_distance D X (a i) h v ≤ ceiling_root M * ceiling_root M)
     × ((h : ℕ) → 1 ≤ h → h ≤ n → nat_abs (pos D *ℤ a i (h - 1) -ℤ X (h - 1)) ≤ ceiling_root M)
@@ -78,7 +78,7 @@ pub record ChartsAndPanels : Type 0 where
   pub panels : (f : Figures) → PanelSteps f
   pub steps : (z : ℤ) → NearestStep z
   -- of all weights of sum D, drawings, checks and accepted records
-  pub projected : OfEvery Projection_held
+  pub projected : OfEvery ProjectionHeld
   -- on a chart of one channel taken twice a row may lie outside: rows 0 and 10, half of the weight on each
   pub same_channel_outside : ceiling_root ten_apart_ball.scaled_squared_radius * ceiling_root ten_apart_ball.scaled_squared_radius
       < projected_squared_distance total (centre_of ten_apart_ball.scaled_centre) (coordinate ten_apart 1 0) 1 1
@@ -104,7 +104,7 @@ promise_2_12 =
             halves_away = nearest_away total (omega arith) z;
             only = nearest_unique total (omega arith) z;
           };
-      projected = every Projection_held
+      projected = every ProjectionHeld
           (λ D m n a w positive some sum i l.
           on_disc (within_disc D n (scaled_centre a w m) (scaled_squared_radius D m n a (scaled_centre a w m)) (a i) (holds_every_row D m n a w positive some sum i l)))
           (λ D m n a b tight i l. on_disc (tight_projected D m n a b tight i l));

@@ -19,7 +19,7 @@ use Rattle.text.specs.Parts.{comma, join}
 use Rattle.number.specs.Number.{plain, print}
 use Rattle.number.specs.NumberLaws.{plain-print, print-plain}
 use Rattle.label.specs.Label.{is_label, label_bytes}
-use Rattle.label.specs.Row_label.{is_row_label}
+use Rattle.label.specs.RowLabel.{is_row_label}
 use Rattle.channel.specs.Channel.{channel_types, tag_of, type_of}
 use Rattle.channel.specs.ChannelLaws.{SoundTypes, house_sound}
 use Rattle.channel.specs.declared.Range.{Range}

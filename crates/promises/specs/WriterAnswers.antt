@@ -2,8 +2,8 @@
 -- 1.3 and R1; the order of refusals is in WriterRefusals.
 --     writing lent places                   the answer where a buffer of so many places is lent
 --     writer_count                          1.2: an accepted call fills so many places, which are within the text and within what is lent
---     Row_number number                      3, 4 or 5
---     Writer_refusal m number line           8 or 13 at line 0; 3, 4 or 5 at the line that one of m rows would have
+--     RowNumber number                      3, 4 or 5
+--     WriterRefusal m number line           8 or 13 at line 0; 3, 4 or 5 at the line that one of m rows would have
 --     before_13                             what refuses what is lent is not 13
 --     WriterListed, writer_listed           1.3: an answer is accepted or such a refusal, in which the length is 0
 use Rattle.std.specs.Prelude.{◌+◌, ◌≤◌, ℕ, ◌≡◌, Bool, false, true, List, ◌⊎◌, leb, length, take}
@@ -18,7 +18,7 @@ use Rattle.limits.specs.Limits.{row_limit}
 use Rattle.lent.specs.ContractLaws.{text_most}
 use Rattle.lent.specs.Clauses.{not_written}
 use Rattle.lent.specs.declared.TextWritten.{TextWritten}
-use Rattle.label.specs.Row_label.{is_row_label, label_used}
+use Rattle.label.specs.RowLabel.{is_row_label, label_used}
 use Rattle.channel.specs.Channel.{Types, channel_types}
 use Rattle.value.specs.Values.{values_in_range}
 use Rattle.reference_row.specs.Row.{Row}
@@ -30,63 +30,63 @@ use Rattle.reference_write.specs.FaultLaws.{each_text, lent_fault, lent_row, row
 use Rattle.reference_write.specs.Writing.{Lent, labels_lent}
 use Rattle.export_answers.specs.Clauses.{written_in_numbers}
 use Rattle.promises.specs.House.{lent_content}
-use Rattle.promises.specs.Lent.{Count_within}
+use Rattle.promises.specs.Lent.{CountWithin}
 use Rattle.promises.specs.Listed.{apart, is_refusal_at, refused-answer, row_listed}
-use Rattle.promises.specs.ListedAnswers.{Text_answered, answers_listed}
-use Rattle.promises.specs.ListedNumbers.{Written_numbers, written-numbers}
+use Rattle.promises.specs.ListedAnswers.{TextAnswered, answers_listed}
+use Rattle.promises.specs.ListedNumbers.{WrittenNumbers, written-numbers}
 
 abbrev pub writing : Lent → ℕ → TextWritten
 writing = reference_written row_limit channel_types
 
 -- ---- 1.2
 
-pub writer_count : (lent : Lent) (places : ℕ) → Count_within (writing lent places).length (written_text channel_types (lent_content lent)) places
+pub writer_count : (lent : Lent) (places : ℕ) → CountWithin (writing lent places).length (written_text channel_types (lent_content lent)) places
 unfolding reference_written
 writer_count lent places = go (lent_content lent)
   where
-    go : (c : Content) → Count_within (content_written channel_types c places).length (written_text channel_types c) places
+    go : (c : Content) → CountWithin (content_written channel_types c places).length (written_text channel_types c) places
     go (faulty number line) = (zero-le, zero-le)
     go (sound found) = let most = text_most (print_text channel_types found) places in (most.1, most.0)
 
 -- ---- 1.3
 
-abbrev pub Row_number : ℕ → Type 0
-Row_number number = (number ≡ line_form) ⊎ ((number ≡ value_range) ⊎ (number ≡ label_repeated))
+abbrev pub RowNumber : ℕ → Type 0
+RowNumber number = (number ≡ line_form) ⊎ ((number ≡ value_range) ⊎ (number ≡ label_repeated))
 
 -- refused before 13
-abbrev Content_refusal : ℕ → ℕ → ℕ → Type 0
-Content_refusal m number line = ((number ≡ outside_limits) × (line ≡ 0)) ⊎ (Row_number number × (2 ≤ line) × (line ≤ m + 1))
+abbrev ContentRefusal : ℕ → ℕ → ℕ → Type 0
+ContentRefusal m number line = ((number ≡ outside_limits) × (line ≡ 0)) ⊎ (RowNumber number × (2 ≤ line) × (line ≤ m + 1))
 
-abbrev pub Writer_refusal : ℕ → ℕ → ℕ → Type 0
-Writer_refusal m number line = Content_refusal m number line ⊎ ((number ≡ buffer_short) × (line ≡ 0))
+abbrev pub WriterRefusal : ℕ → ℕ → ℕ → Type 0
+WriterRefusal m number line = ContentRefusal m number line ⊎ ((number ≡ buffer_short) × (line ≡ 0))
 
 pub record WriterListed (lent : Lent) (places : ℕ) : Type 0 where
-  pub answered : Text_answered (writing lent places)
-  pub numbers : (r : Refusal) → (writing lent places).outcome ≡ Refused r → Writer_refusal lent.m r.number r.line
-  pub for_C_and_Rust : Written_numbers (written_in_numbers (writing lent places))
+  pub answered : TextAnswered (writing lent places)
+  pub numbers : (r : Refusal) → (writing lent places).outcome ≡ Refused r → WriterRefusal lent.m r.number r.line
+  pub for_C_and_Rust : WrittenNumbers (written_in_numbers (writing lent places))
 
 row_number : (types : Types) (codes : List ℕ) (earlier : List (List ℕ)) (row : Row) → 1 ≤ row_fault types codes earlier row
-    → Row_number (row_fault types codes earlier row)
+    → RowNumber (row_fault types codes earlier row)
 unfolding row_fault
 row_number types codes earlier row = go (is_row_label row.label) (values_in_range types codes row.values) (label_used row.label earlier)
   where
-    go : (labelled within used : Bool) → 1 ≤ fault_by labelled within used → Row_number (fault_by labelled within used)
+    go : (labelled within used : Bool) → 1 ≤ fault_by labelled within used → RowNumber (fault_by labelled within used)
     go false within used h = inl refl
     go true false used h = inr (inl refl)
     go true true true h = inr (inr refl)
     go true true false h = absurd (omega arith)
 
 -- what refuses what is lent
-refusal_is : (lent : Lent) (number line : ℕ) → lent_content lent ≡ faulty number line → Content_refusal lent.m number line
+refusal_is : (lent : Lent) (number line : ℕ) → lent_content lent ≡ faulty number line → ContentRefusal lent.m number line
 refusal_is lent number line =
-    each_text row_limit channel_types lent (λ c. c ≡ faulty number line → Content_refusal lent.m number line)
+    each_text row_limit channel_types lent (λ c. c ≡ faulty number line → ContentRefusal lent.m number line)
     (λ _ e. same outside_limits 0 e (inl (refl, refl)))
     (λ _ i below _ some e.
     let fault = lent_fault channel_types lent i in
     same fault (i + 2) e (inr (row_number channel_types (take lent.n lent.codes) (take i (labels_lent lent)) (lent_row lent i) some, omega arith, omega arith)))
     (λ _ _ found _ e. sound_not e)
   where
-    same : (k l : ℕ) → faulty k l ≡ faulty number line → Content_refusal lent.m k l → Content_refusal lent.m number line
+    same : (k l : ℕ) → faulty k l ≡ faulty number line → ContentRefusal lent.m k l → ContentRefusal lent.m number line
     same k l e is = let number_is : k ≡ number = cc in let line_is : l ≡ line = cc in rw (← number_is, ← line_is) is
 
     sound_not : {Q : Type 0} {found : ReferenceText} → sound found ≡ faulty number line → Q
@@ -95,41 +95,41 @@ refusal_is lent number line =
 pub before_13 : (lent : Lent) (number line : ℕ) → lent_content lent ≡ faulty number line → number ≡ buffer_short → ⊥
 before_13 lent number line is e = go (refusal_is lent number line is)
   where
-    go : Content_refusal lent.m number line → ⊥
+    go : ContentRefusal lent.m number line → ⊥
     go (inl (eight, none)) = omega arith
     go (inr (inl three, past, last)) = omega arith
     go (inr (inr (inl four), past, last)) = omega arith
     go (inr (inr (inr five), past, last)) = omega arith
 
-refusal_listed : (m number line : ℕ) → Content_refusal m number line → is_refusal_at number line ≡ true
+refusal_listed : (m number line : ℕ) → ContentRefusal m number line → is_refusal_at number line ≡ true
 refusal_listed m number line (inl (number_is, line_is)) = rw (number_is, line_is)
 refusal_listed m number line (inr (of_row, past, last)) = row_listed number line (low of_row) (high of_row) (omega arith)
   where
-    low : Row_number number → line_form ≤ number
+    low : RowNumber number → line_form ≤ number
     low (inl e) = omega arith
     low (inr (inl e)) = omega arith
     low (inr (inr e)) = omega arith
 
-    high : Row_number number → number ≤ 6
+    high : RowNumber number → number ≤ 6
     high (inl e) = omega arith
     high (inr (inl e)) = omega arith
     high (inr (inr e)) = omega arith
 
 module _ (lent : Lent) (places : ℕ) where
-  content_answered : (c : Content) → lent_content lent ≡ c → Text_answered (content_written channel_types c places)
+  content_answered : (c : Content) → lent_content lent ≡ c → TextAnswered (content_written channel_types c places)
   content_answered (faulty number line) is =
       refused-answer (λ (w : TextWritten). w.outcome) (λ r. not_written (Refused r)) (record { number = number; line = line }) refl
       (refusal_listed lent.m number line (refusal_is lent number line is))
   content_answered (sound found) is = answers_listed.of_output (print_text channel_types found) places
 
   content-numbers : (r : Refusal) (c : Content) → lent_content lent ≡ c → (content_written channel_types c places).outcome ≡ Refused r
-      → Writer_refusal lent.m r.number r.line
+      → WriterRefusal lent.m r.number r.line
   content-numbers r (faulty number line) is e =
       let number_is : number ≡ r.number = ap number_of e in
       let line_is : line ≡ r.line = ap line_of e in
       rw (← number_is, ← line_is) (inl (refusal_is lent number line is))
   content-numbers r (sound found) is e =
-      each_answer (λ (w : TextWritten). w.outcome ≡ Refused r → Writer_refusal lent.m r.number r.line) (leb (length (print_text channel_types found)) places)
+      each_answer (λ (w : TextWritten). w.outcome ≡ Refused r → WriterRefusal lent.m r.number r.line) (leb (length (print_text channel_types found)) places)
       (λ _ short. inr (sym (ap number_of short), sym (ap line_of short))) (λ _ fits. apart fits) e
 
   pub writer_listed : WriterListed lent places

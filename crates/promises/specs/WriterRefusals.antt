@@ -9,7 +9,7 @@ use Rattle.refusal.specs.Outcome.{refused, refused_at}
 use Rattle.limits.specs.Limits.{row_limit}
 use Rattle.lent.specs.ContractLaws.{text_fits, text_short}
 use Rattle.lent.specs.Clauses.{not_written, written}
-use Rattle.label.specs.Row_label.{is_row_label, label_used}
+use Rattle.label.specs.RowLabel.{is_row_label, label_used}
 use Rattle.channel.specs.Channel.{channel_types}
 use Rattle.value.specs.Values.{values_in_range}
 use Rattle.reference_rows.specs.ReferenceText.{ReferenceText}
@@ -17,7 +17,7 @@ use Rattle.reference_rows.specs.Rows.{Content, faulty, sound}
 use Rattle.reference.specs.Printing.{print_text}
 use Rattle.typed_rows.specs.Given.{given_within}
 use Rattle.reference_write.specs.Clauses.{content_written, reference_written}
-use Rattle.reference_write.specs.FaultLaws.{No_fault, fault-form, fault-label, fault_none, fault_range, first_fault, lent_fault, lent_row, no_fault, none_fault, outside}
+use Rattle.reference_write.specs.FaultLaws.{NoFault, fault-form, fault-label, fault_none, fault_range, first_fault, lent_fault, lent_row, no_fault, none_fault, outside}
 use Rattle.reference_write.specs.Labels.{ends_reach}
 use Rattle.reference_write.specs.Writing.{Lent, labels_lent, lent_within}
 use Rattle.promises.specs.House.{lent_content}
@@ -31,12 +31,12 @@ pub record WriterRefused (lent : Lent) (places : ℕ) : Type 0 where
       && (eqb (length lent.ends) lent.m && ends_reach 0 lent.ends (length lent.labels)))
   pub outside_8 : lent_within row_limit channel_types lent ≡ false → writing lent places ≡ not_written (refused outside_limits)
   -- the first row that meets one of 3, 4 and 5 gives it, and of these the first
-  pub form_3 : lent_within row_limit channel_types lent ≡ true → (i : ℕ) → i < lent.m → No_fault channel_types lent i
+  pub form_3 : lent_within row_limit channel_types lent ≡ true → (i : ℕ) → i < lent.m → NoFault channel_types lent i
       → is_row_label (lent_row lent i).label ≡ false → writing lent places ≡ not_written (refused_at line_form (i + 2))
-  pub range_4 : lent_within row_limit channel_types lent ≡ true → (i : ℕ) → i < lent.m → No_fault channel_types lent i
+  pub range_4 : lent_within row_limit channel_types lent ≡ true → (i : ℕ) → i < lent.m → NoFault channel_types lent i
       → is_row_label (lent_row lent i).label ≡ true → values_in_range channel_types (take lent.n lent.codes) (lent_row lent i).values ≡ false
       → writing lent places ≡ not_written (refused_at value_range (i + 2))
-  pub label_5 : lent_within row_limit channel_types lent ≡ true → (i : ℕ) → i < lent.m → No_fault channel_types lent i
+  pub label_5 : lent_within row_limit channel_types lent ≡ true → (i : ℕ) → i < lent.m → NoFault channel_types lent i
       → is_row_label (lent_row lent i).label ≡ true → values_in_range channel_types (take lent.n lent.codes) (lent_row lent i).values ≡ true
       → label_used (lent_row lent i).label (take i (labels_lent lent)) ≡ true → writing lent places ≡ not_written (refused_at label_repeated (i + 2))
   -- a row meets none exactly where its label is in form, its values are within their ranges and no earlier row has the label
@@ -46,7 +46,7 @@ pub record WriterRefused (lent : Lent) (places : ℕ) : Type 0 where
       × (values_in_range channel_types (take lent.n lent.codes) (lent_row lent i).values ≡ true)
       × (label_used (lent_row lent i).label (take i (labels_lent lent)) ≡ false))
   -- and where no row meets one, what is lent has a text
-  pub some_text : lent_within row_limit channel_types lent ≡ true → No_fault channel_types lent lent.m
+  pub some_text : lent_within row_limit channel_types lent ≡ true → NoFault channel_types lent lent.m
       → (found : ReferenceText) × (lent_content lent ≡ sound found)
   -- 13 last
   pub buffer_13 : (found : ReferenceText) → lent_content lent ≡ sound found → places < length (print_text channel_types found)
@@ -59,7 +59,7 @@ module _ (lent : Lent) (places : ℕ) where
   unfolding reference_written
   answer_of_lem c is = ap (λ (x : Content). content_written channel_types x places) is
 
-  module _ (within : lent_within row_limit channel_types lent ≡ true) (i : ℕ) (below : i < lent.m) (passed : No_fault channel_types lent i) where
+  module _ (within : lent_within row_limit channel_types lent ≡ true) (i : ℕ) (below : i < lent.m) (passed : NoFault channel_types lent i) where
     row-fault : (number : ℕ) → 1 ≤ number → lent_fault channel_types lent i ≡ number → writing lent places ≡ not_written (refused_at number (i + 2))
     row-fault number some is =
         answer_of_lem (faulty number (i + 2))

@@ -47,7 +47,7 @@ use Rattle.record_lines.specs.Lines.{Weight}
 use Rattle.record_form.specs.Record.{Record, Form, sound, print_record, weights_within, Within}
 use Rattle.record_form.specs.RecordLaws.{form_printed, printed_form, printed-count}
 use Rattle.record_form.specs.Weights.{weights_of, listed}
-use Rattle.record_form.specs.WeightsLaws.{Short_weight, placed_listed, listed_placed, listed-within, listed_some}
+use Rattle.record_form.specs.WeightsLaws.{ShortWeight, placed_listed, listed_placed, listed-within, listed_some}
 use Rattle.record_print.specs.Printed.{record_of, record_text}
 use Rattle.ball.specs.Ball.{filled_ball}
 use Rattle.record_read.specs.Clauses.{stated_ball, ball_of_record, stated_envelope, record_read}
@@ -200,7 +200,7 @@ module _ (D limit : ℕ) (types : Types) (types_sound : SoundTypes types) where
 -- as many places as the row limit, each a number of at most 19 digits
 pub record Holds (limit : ℕ) (e : Envelope) : Type 0 where
   pub places : length e.weights ≡ limit
-  pub short : Each Short_weight 0 e.weights
+  pub short : Each ShortWeight 0 e.weights
 
 distance_most : (D : ℕ) → D ≤ total → distance_limit D ≤ distance_limit total
 distance_most D h =

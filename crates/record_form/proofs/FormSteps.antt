@@ -1,5 +1,5 @@
 -- A whole record that is read line by line.
---     Reached, At_heading, At_centre, AtWeights    what is known of a text from one of its lines on
+--     Reached, AtHeading, AtCentre, AtWeights    what is known of a text from one of its lines on
 --     line-unended, line_read_lem                    a line without its end, and what the text is past one with it
 --     at-heading, heading_read_lem, past_heading_lem     the text from its heading on, and past it
 --     at_result                                  the text from its `R` line on
@@ -74,14 +74,14 @@ abbrev from_heading : Types → List (List ℕ) → Form Record
 from_heading types = and_ended 1 (heading_of record_word channel_limit types) (λ codes. from_centre (length codes) codes)
 
 module _ (types : Types) (text : List ℕ) where
-  abbrev pub At_heading : Type 0
-  At_heading =
+  abbrev pub AtHeading : Type 0
+  AtHeading =
       Reached 1 (heading_of record_word channel_limit types) (λ codes. from_centre (length codes) codes) (form row_limit types text) text 0
 
-  abbrev pub At_centre : ℕ → List ℕ → ℕ → Type 0
-  At_centre n codes from = Reached 2 (centre_line n) (form_after_centre codes) (form row_limit types text) text from
+  abbrev pub AtCentre : ℕ → List ℕ → ℕ → Type 0
+  AtCentre n codes from = Reached 2 (centre_line n) (form_after_centre codes) (form row_limit types text) text from
 
-  pub at-heading : At_heading
+  pub at-heading : AtHeading
   unfolding form form_of
   at-heading = record { is = go (cut line_end text) ∙ ap (from_heading types) (sym (parts_whole line_end text)); inside = omega arith }
     where
@@ -97,7 +97,7 @@ module _ (types : Types) (text : List ℕ) where
         let whole : e - 0 ≡ e = omega arith in
         line_read_lem at-heading p q (ap (λ k. heading_of record_word channel_limit types (take k text)) whole ∙ o)
 
-    pub past_heading_lem : {h : Heading} → Headed record_word types (take e text) h → At_centre h.n (codes_in h) (e + 1)
+    pub past_heading_lem : {h : Heading} → Headed record_word types (take e text) h → AtCentre h.n (codes_in h) (e + 1)
     past_heading_lem {h} head =
         record {
           is =

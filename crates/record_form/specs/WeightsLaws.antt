@@ -2,7 +2,7 @@
 --     weights-length     there is a weight for each row
 --     listed_placed      the weights of the `W` lines of weights are these
 --     placed_listed      the `W` lines of the weights of rising `W` lines are these
---     Short_weight w      the weight has at most 19 digits
+--     ShortWeight w      the weight has at most 19 digits
 --     listed-within      the `W` lines of weights rise within the number of rows
 --     listed_some        there is one where some weight is above 0
 --     listed-length      there are at most as many as weights
@@ -112,22 +112,22 @@ placed_listed limit ws h =
 
 -- ---- what is listed
 
-abbrev pub Short_weight : ℕ → Type 0
-Short_weight w = w < magnitude_limit
+abbrev pub ShortWeight : ℕ → Type 0
+ShortWeight w = w < magnitude_limit
 
-rows-within : (limit last row : ℕ) (weights : List ℕ) → last < row → row + length weights ≤ suc limit → Each Short_weight 0 weights
+rows-within : (limit last row : ℕ) (weights : List ℕ) → last < row → row + length weights ≤ suc limit → Each ShortWeight 0 weights
     → weights_within limit last (listed row weights) ≡ true
 unfolding listed weights_within
 rows-within limit last row [] past most short = refl
 rows-within limit last row (zero ∷ weights) past most short =
-    rows-within limit last (suc row) weights (omega arith) (omega arith) (each_tail Short_weight 0 0 weights short)
+    rows-within limit last (suc row) weights (omega arith) (omega arith) (each_tail ShortWeight 0 0 weights short)
 rows-within limit last row (suc w ∷ weights) past most short =
     first_weights limit last (record { row = row; weight = suc w }) (listed (suc row) weights)
     (within_weight limit last (record { row = row; weight = suc w }) past (omega arith) (omega arith))
-    (each_head Short_weight 0 (suc w) weights short)
-    (rows-within limit row (suc row) weights (omega arith) (omega arith) (each_tail Short_weight 0 (suc w) weights short))
+    (each_head ShortWeight 0 (suc w) weights short)
+    (rows-within limit row (suc row) weights (omega arith) (omega arith) (each_tail ShortWeight 0 (suc w) weights short))
 
-pub listed-within : (weights : List ℕ) → Each Short_weight 0 weights → weights_within (length weights) 0 (listed 1 weights) ≡ true
+pub listed-within : (weights : List ℕ) → Each ShortWeight 0 weights → weights_within (length weights) 0 (listed 1 weights) ≡ true
 listed-within weights short = rows-within (length weights) 0 1 weights (omega arith) (omega arith) short
 
 pub listed_some : (row : ℕ) (weights : List ℕ) (i : ℕ) → 1 ≤ get_or weights i 0 → 1 ≤ length (listed row weights)

@@ -28,7 +28,7 @@ use Rattle.text.specs.Parts.{line_end}
 use Rattle.text.specs.Lines.{print_lines}
 use Rattle.text.specs.LinesLaws.{printed-more}
 use Rattle.label.specs.LabelLaws.{label_short}
-use Rattle.label.specs.Row_label.{is_row_label, row_label_key, label_used, key_used}
+use Rattle.label.specs.RowLabel.{is_row_label, row_label_key, label_used, key_used}
 use Rattle.label.specs.RowLabelLaws.{row_label, row_key-label, Labelled, labelled_more, key_used_lem}
 use Rattle.label.specs.Marks.{mark_count, mark_place, Marked}
 use Rattle.label.specs.MarksLaws.{marked_none, marked_more}
@@ -51,7 +51,7 @@ use Rattle.reference_write.specs.LabelsLaws.{labels_next, reach_most, reach_next
 use Rattle.reference_write.specs.Writing.{Lent, labels_lent, plain_row, plain_rows, lent_text}
 use Rattle.reference_write.specs.Clauses.{fault_by, RowRoom, text_room, TextPut}
 use Rattle.reference_write.specs.PlainRowsLaws.{rows-count, rows_at}
-use Rattle.reference_write.specs.FaultLaws.{row_fault, fault_none, lent_row, lent_fault, No_fault, first_fault, no_fault}
+use Rattle.reference_write.specs.FaultLaws.{row_fault, fault_none, lent_row, lent_fault, NoFault, first_fault, no_fault}
 use Rattle.reference_write.specs.LendingLaws.{Lending, row_places, row_within}
 
 -- ---- what is lent
@@ -71,7 +71,7 @@ text_of lent rows = print_lines (print_heading reference_word channel_types (cod
 
 pub record Walk (lent : Lent) (out keys : List ℕ) (marks : List Bool) (at from place i : ℕ) : Type 0 where
   pub most : i ≤ lent.m
-  pub none : No_fault channel_types lent i
+  pub none : NoFault channel_types lent i
   pub placed : place ≡ i * lent.n
   pub reaches : ends_reach from (drop i lent.ends) (length lent.labels) ≡ true
   pub left : labels_from lent.labels from (drop i lent.ends) ≡ drop i (labels_lent lent)
@@ -305,7 +305,7 @@ module _ {lent : Lent} (l : Taken lent) {out keys : List ℕ} {marks : List Bool
   unfolding print_text
   walk_done h =
       let done : i ≡ lent.m = omega (arith, w.most) in
-      let text = no_fault row_limit channel_types lent l.within (subst (No_fault channel_types lent) done w.none) in
+      let text = no_fault row_limit channel_types lent l.within (subst (NoFault channel_types lent) done w.none) in
       let rows = rows_in lent in
       let many : i ≡ length rows =
       omega (arith, rows-count lent.n (labels_lent lent) lent.rows, l.labelled) in

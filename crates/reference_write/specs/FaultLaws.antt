@@ -26,7 +26,7 @@ use Rattle.integers.specs.SumLaws.{last_or_below}
 use Rattle.refusal.specs.Number.{line_form, value_range, label_repeated, outside_limits}
 use Rattle.refusal.specs.Outcome.{require}
 use Rattle.refusal.specs.OutcomeLaws.{each_answer}
-use Rattle.label.specs.Row_label.{is_row_label, label_used}
+use Rattle.label.specs.RowLabel.{is_row_label, label_used}
 use Rattle.channel.specs.Channel.{Types}
 use Rattle.value.specs.Values.{values_in_range}
 use Rattle.reference_row.specs.Row.{Row, no_row, row_labels}
@@ -165,8 +165,8 @@ abbrev pub lent_fault : Types → Lent → ℕ → ℕ
 lent_fault types lent i = row_fault types (take lent.n lent.codes) (take i (labels_lent lent)) (lent_row lent i)
 
 -- none of the first rows meets a refusal
-abbrev pub No_fault : Types → Lent → ℕ → Type 0
-No_fault types lent count = (i : ℕ) → i < count → lent_fault types lent i ≡ 0
+abbrev pub NoFault : Types → Lent → ℕ → Type 0
+NoFault types lent count = (i : ℕ) → i < count → lent_fault types lent i ≡ 0
 
 module _ (limit : ℕ) (types : Types) (lent : Lent) where
   abbrev given : Bool
@@ -205,9 +205,9 @@ module _ (limit : ℕ) (types : Types) (lent : Lent) where
 
   module _ (P : Content → Type 0)
       (outside-is : lent_within limit types lent ≡ false → P (faulty outside_limits 0))
-      (fault_is : lent_within limit types lent ≡ true → (i : ℕ) → i < lent.m → No_fault types lent i → 1 ≤ lent_fault types lent i
+      (fault_is : lent_within limit types lent ≡ true → (i : ℕ) → i < lent.m → NoFault types lent i → 1 ≤ lent_fault types lent i
       → P (faulty (lent_fault types lent i) (i + 2)))
-      (text_is : lent_within limit types lent ≡ true → No_fault types lent lent.m → (found : ReferenceText) → TextOf lent found → P (sound found)) where
+      (text_is : lent_within limit types lent ≡ true → NoFault types lent lent.m → (found : ReferenceText) → TextOf lent found → P (sound found)) where
     pub each_text : P (lent_text limit types lent)
     unfolding lent_text
     each_text =
@@ -229,14 +229,14 @@ module _ (limit : ℕ) (types : Types) (lent : Lent) where
   outside h = rw h
 
   module _ (within : lent_within limit types lent ≡ true) where
-    pub first_fault : (i : ℕ) → i < lent.m → No_fault types lent i → 1 ≤ lent_fault types lent i
+    pub first_fault : (i : ℕ) → i < lent.m → NoFault types lent i → 1 ≤ lent_fault types lent i
         → lent_text limit types lent ≡ faulty (lent_fault types lent i) (i + 2)
     first_fault i l passed some =
         each_text (λ c. c ≡ faulty (lent_fault types lent i) (i + 2)) (λ h. clash within h)
         (λ _ j b before fault. same j (order j before fault))
         (λ _ none found is. absurd (omega (arith, none i l)))
       where
-        order : (j : ℕ) → No_fault types lent j → 1 ≤ lent_fault types lent j → j ≡ i
+        order : (j : ℕ) → NoFault types lent j → 1 ≤ lent_fault types lent j → j ≡ i
         order j before fault = go (dec_lt j i) (dec_lt i j)
           where
             go : Dec (j < i) → Dec (i < j) → j ≡ i
@@ -247,15 +247,15 @@ module _ (limit : ℕ) (types : Types) (lent : Lent) where
         same : (j : ℕ) → j ≡ i → faulty (lent_fault types lent j) (j + 2) ≡ faulty (lent_fault types lent i) (i + 2)
         same j e = ap (λ k. faulty (lent_fault types lent k) (k + 2)) e
 
-    pub no_fault : No_fault types lent lent.m → (found : ReferenceText) × (lent_text limit types lent ≡ sound found) × TextOf lent found
+    pub no_fault : NoFault types lent lent.m → (found : ReferenceText) × (lent_text limit types lent ≡ sound found) × TextOf lent found
     no_fault none =
         each_text (λ c. (found : ReferenceText) × (c ≡ sound found) × TextOf lent found) (λ h. clash within h)
         (λ _ i l before some. absurd (omega (arith, none i l))) (λ _ _ found is. (found, refl, is))
 
   pub text_sound : (found : ReferenceText) → lent_text limit types lent ≡ sound found
-      → (lent_within limit types lent ≡ true) × No_fault types lent lent.m × TextOf lent found
+      → (lent_within limit types lent ≡ true) × NoFault types lent lent.m × TextOf lent found
   text_sound found =
-      each_text (λ c. c ≡ sound found → (lent_within limit types lent ≡ true) × No_fault types lent lent.m × TextOf lent found)
+      each_text (λ c. c ≡ sound found → (lent_within limit types lent ≡ true) × NoFault types lent lent.m × TextOf lent found)
       (λ _ e. refused_not e) (λ _ _ _ _ _ e. refused_not e)
       (λ within none text is e. let same : text ≡ found = cc in (within, none, subst (TextOf lent) same is))
     where

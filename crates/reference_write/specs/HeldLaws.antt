@@ -42,7 +42,7 @@ use Rattle.reference_write.specs.Held.{Holds, lent_of, TextOf, plain_of, Plain}
 use Rattle.reference_write.specs.LabelsLaws.{ends_count, lent_labels, lent_reach, labels_lent_lem}
 use Rattle.reference_write.specs.PlainRowsLaws.{rows-labels, rows-count, rows_at, rows-numbers, rows-plain, rows_again}
 use Rattle.reference_write.specs.PlainLaws.{free-plain, plain-free, plain-within}
-use Rattle.reference_write.specs.FaultLaws.{fault_none, none_fault, lent_row, No_fault, within_lent, no_fault, text_sound}
+use Rattle.reference_write.specs.FaultLaws.{fault_none, none_fault, lent_row, NoFault, within_lent, no_fault, text_sound}
 use Rattle.reference_write.specs.LendingLaws.{Lending, lending, row_within}
 
 -- ---- the text of what is lent
@@ -82,7 +82,7 @@ module _ (lent : Lent) (found : ReferenceText) (is : TextOf lent found) where
           ends = ap (ends_from 0) same_labels ∙ bytes.1;
         }
 
-    module _ (none : No_fault types lent lent.m) where
+    module _ (none : NoFault types lent lent.m) where
       label_other : (i j : ℕ) → i < lent.m → j < i → get_or (labels_lent lent) j [] ≡ get_or (labels_lent lent) i [] → ⊥
       label_other i j l below same =
           label_new (get_or (labels_lent lent) i []) (take i (labels_lent lent))
@@ -114,7 +114,7 @@ module _ (lent : Lent) (found : ReferenceText) (is : TextOf lent found) where
 
 module _ (limit : ℕ) (types : Types) (lent : Lent) (found : ReferenceText) (e : lent_text limit types lent ≡ sound found) where
   -- what the answer says
-  abbrev answer : (lent_within limit types lent ≡ true) × No_fault types lent lent.m × TextOf lent found
+  abbrev answer : (lent_within limit types lent ≡ true) × NoFault types lent lent.m × TextOf lent found
   answer = text_sound limit types lent found e
 
   pub text-labels : labels_of found ≡ labels_lent lent
@@ -185,7 +185,7 @@ module _ (limit : ℕ) (types : Types) (text : List ℕ) (found : ReferenceText)
         sym (rows_at lent.n (labels_lent lent) lent.rows i (omega (arith, ap length labels_are, length-map (rows_of found) (λ (row : Row). row.label), holds.row_count)))
         ∙ ap (λ (rows : List Row). get_or rows i no_row) rows_are ∙ get_or-map plain_of (rows_of found) i no_row
 
-    none_is : No_fault types lent lent.m
+    none_is : NoFault types lent lent.m
     none_is i l =
         let here : i < row_count found = omega (arith, holds.row_count) in
         let row = plain_of (row_at found i) in

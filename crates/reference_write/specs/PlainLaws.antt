@@ -17,7 +17,7 @@ use Rattle.text.specs.Parts.{comma, line_end, free, all_free}
 use Rattle.text.specs.PartsLaws.{cut_keeps_free, free-append, join_free}
 use Rattle.text.specs.Lines.{print_lines}
 use Rattle.number.specs.NumberLaws.{print-free}
-use Rattle.label.specs.Row_label.{is_row_label}
+use Rattle.label.specs.RowLabel.{is_row_label}
 use Rattle.label.specs.RowLabelLaws.{row_label}
 use Rattle.label.specs.LabelLaws.{label-free}
 use Rattle.channel.specs.Channel.{Types}

@@ -11,7 +11,7 @@
 use Rattle.std.specs.Prelude.{ℕ, Bool, ◌&&◌, List, [], ◌∷◌, map, eqb, ℤ, length, take, drop}
 use Rattle.refusal.specs.Number.{line_form, outside_limits}
 use Rattle.refusal.specs.Outcome.{require}
-use Rattle.label.specs.Row_label.{is_row_label}
+use Rattle.label.specs.RowLabel.{is_row_label}
 use Rattle.channel.specs.Channel.{Types}
 use Rattle.value.specs.Value.{number}
 use Rattle.reference_row.specs.Row.{Row}

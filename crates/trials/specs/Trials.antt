@@ -25,7 +25,7 @@ use Rattle.text.specs.Parts.{same, extend, cut, join}
 use Rattle.text.specs.Lines.{print_lines}
 use Rattle.number.specs.Number.{digits_from, magnitude_of, plain, decimal, print_magnitude, print}
 use Rattle.label.specs.Label.{label_bytes, is_label}
-use Rattle.label.specs.Row_label.{is_row_label, label_used}
+use Rattle.label.specs.RowLabel.{is_row_label, label_used}
 use Rattle.printing.specs.Clauses.{numbers_after}
 use Rattle.channel.specs.Channel.{code_of, type_of, known, codes_known, code_in, type_in, known_in, house_types, channel_types}
 use Rattle.value.specs.Value.{value_of}

@@ -8,7 +8,7 @@ use lib.IntN.{ℤ}
 use Rattle.geometry.specs.Figures.{scaled_lower_bound}
 use Rattle.geometry.specs.Move.{scaled_squared_distance_of, is_settled, settled, weight_of}
 use Rattle.geometry.specs.Table.{coordinate}
-use Rattle.geometry.specs.Clauses.{Table, Is_centre}
+use Rattle.geometry.specs.Clauses.{Table, IsCentre}
 use Rattle.geometry.specs.MoveLaws.{radius_far}
 use Rattle.moves.specs.Clauses.{Paired}
 use Rattle.moves.specs.declared.Pair.{Pair}
@@ -21,7 +21,7 @@ use Rattle.ball.proofs.ball_of.Tie as tie
 
 module _ {rows : List ℤ} {m n : ℕ} where
   gathered : {D : ℕ} {ws : List ℕ} {centre : List ℤ} {pair : Pair} {bound : ℕ} {settles : Bool} {b : Ball} → Table rows m n
-      → Is_centre rows m n ws centre
+      → IsCentre rows m n ws centre
       → Paired D rows m n ws (scaled_squared_distance_of D m n (coordinate rows n) (weight_of ws)) pair
       → bound ≡ scaled_lower_bound D m n (coordinate rows n) (weight_of ws)
       → settles ≡ is_settled pair.difference pair.separation

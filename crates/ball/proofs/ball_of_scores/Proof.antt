@@ -12,7 +12,7 @@ use Rattle.geometry.specs.Figures.{scaled_lower_bound}
 use Rattle.geometry.specs.Move.{far_row, is_settled, settled, weight_of}
 use Rattle.geometry.specs.Scores.{weighted_squared_distance}
 use Rattle.geometry.specs.Table.{coordinate}
-use Rattle.geometry.specs.Clauses.{Table, WeightsOf, Is_centre}
+use Rattle.geometry.specs.Clauses.{Table, WeightsOf, IsCentre}
 use Rattle.geometry.specs.Places.{weights_total}
 use Rattle.geometry.specs.MoveLaws.{far_within}
 use Rattle.geometry.specs.ScoreLaws.{score_distance, score_radius, score_within}
@@ -39,7 +39,7 @@ module _ {D : ℕ} (some : 0 < D) {rows : List ℤ} {m n : ℕ} {ws : List ℕ} 
       omega (arith, ap (λ e. D * e) pairs.score_is, score_distance D m n (coordinate rows n) (weight_of ws) some good.sum far)
 
   -- the figures, put together
-  gathered : {centre : List ℤ} {bound radius : ℕ} {settles : Bool} {b : Ball} → Is_centre rows m n ws centre
+  gathered : {centre : List ℤ} {bound radius : ℕ} {settles : Bool} {b : Ball} → IsCentre rows m n ws centre
       → bound ≡ scaled_lower_bound D m n (coordinate rows n) (weight_of ws)
       → radius ≡ D * pair.score - bound
       → settles ≡ is_settled pair.difference pair.separation

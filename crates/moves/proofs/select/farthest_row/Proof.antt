@@ -7,14 +7,14 @@ use native.Mathlib.Omega.{arith}
 use borrow.Author.Rules.{rules}
 use borrow.Author.Tests.{not-true, not-false}
 use Rattle.geometry.specs.SelectLaws.{far-start, far-passed, far_among, far_within, far_done}
-use Rattle.moves.specs.Clauses.{block_rows, Far_held}
+use Rattle.moves.specs.Clauses.{block_rows, FarHeld}
 use Rattle.moves.specs.ContractLaws.{each_at}
 use Rattle.moves.proofs.Laws.{found}
 use Rattle.moves.proofs.select.farthest_row.Statement.{statement}
 use Rattle.moves.proofs.select.farthest_row.Tie as tie
 
 abbrev invariant-loop : tie.invariant-loop
-invariant-loop scores m held₀ at₀ held at = Far_held scores m at held
+invariant-loop scores m held₀ at₀ held at = FarHeld scores m at held
 
 abbrev decreases-loop : tie.decreases-loop
 decreases-loop scores m held₀ at₀ held at = m - at
@@ -45,10 +45,10 @@ loop-again c =
     let at = at-loop.loop.at in
     let f = at-loop.loop.invariant in
     ⊎_elim
-    (λ o. far_among (subst (Far_held scores (at + block_rows) (at + block_rows)) (sym o.2) o.1.ensures) m (omega arith))
+    (λ o. far_among (subst (FarHeld scores (at + block_rows) (at + block_rows)) (sym o.2) o.1.ensures) m (omega arith))
     (λ o.
     let each = each_at _ at block_rows (sym c.before.block-at-most.ensures ∙ not-false _ o.0.left) in
-    subst (Far_held scores m (at + block_rows)) (sym o.1)
+    subst (FarHeld scores m (at + block_rows)) (sym o.1)
     (far-passed block_rows f (omega arith) (λ j l. not-true _ (each j l)))) c.if1.branch
 
 farther-requires-2 : tie.Need-farther-requires-2 invariant-loop decreases-loop

@@ -10,14 +10,14 @@ use borrow.Author.Tests.{not-false, eqb-true}
 use Rattle.geometry.specs.Move.{weight_of}
 use Rattle.geometry.specs.Places.{weights_total}
 use Rattle.geometry.specs.SelectLaws.{near-start, near-passed, near_among, near_done}
-use Rattle.moves.specs.Clauses.{block_rows, Near_held}
+use Rattle.moves.specs.Clauses.{block_rows, NearHeld}
 use Rattle.moves.specs.ContractLaws.{each_at}
 use Rattle.moves.proofs.Laws.{found}
 use Rattle.moves.proofs.select.nearest_row.Statement.{statement}
 use Rattle.moves.proofs.select.nearest_row.Tie as tie
 
 abbrev invariant-loop : tie.invariant-loop
-invariant-loop scores weights m held₀ at₀ held at = Near_held scores weights m at held
+invariant-loop scores weights m held₀ at₀ held at = NearHeld scores weights m at held
 
 abbrev decreases-loop : tie.decreases-loop
 decreases-loop scores weights m held₀ at₀ held at = m - at
@@ -43,10 +43,10 @@ loop-again c =
     let m = start.args.m in
     let at = at-loop.loop.at in
     ⊎_elim
-    (λ o. near_among (subst (Near_held scores weights (at + block_rows) (at + block_rows)) (sym o.2) o.1.ensures) m (omega arith))
+    (λ o. near_among (subst (NearHeld scores weights (at + block_rows) (at + block_rows)) (sym o.2) o.1.ensures) m (omega arith))
     (λ o.
     let each = each_at _ at block_rows (sym c.before.block-without-weight.ensures ∙ not-false _ o.0.left) in
-    subst (Near_held scores weights m (at + block_rows)) (sym o.1) (near-passed block_rows at-loop.loop.invariant (omega arith) (λ j l. omega (arith, eqb-true (weight_of weights (at + j)) 0 (each j l))))) c.if1.branch
+    subst (NearHeld scores weights m (at + block_rows)) (sym o.1) (near-passed block_rows at-loop.loop.invariant (omega arith) (λ j l. omega (arith, eqb-true (weight_of weights (at + j)) 0 (each j l))))) c.if1.branch
 
 nearer-requires-2 : tie.Need-nearer-requires-2 invariant-loop decreases-loop
 nearer-requires-2 c κs =

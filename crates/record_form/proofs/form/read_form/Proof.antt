@@ -11,7 +11,7 @@ use Rattle.channel.specs.Channel.{channel_types}
 use Rattle.heading.proofs.Headed.{Headed, codes_in, headed, not_headed}
 use Rattle.record_lines.specs.Lines.{record_word}
 use Rattle.record_form.specs.Clauses.{stated_form}
-use Rattle.record_form.proofs.FormSteps.{At_centre, at-heading, line-unended, line_read_lem, heading_read_lem, past_heading_lem, found, not_found, form-stated}
+use Rattle.record_form.proofs.FormSteps.{AtCentre, at-heading, line-unended, line_read_lem, heading_read_lem, past_heading_lem, found, not_found, form-stated}
 use Rattle.record_form.proofs.form.read_form.Statement.{statement}
 use Rattle.record_form.proofs.form.read_form.Tie as tie
 
@@ -33,7 +33,7 @@ codes c = codes_in c.before.read-heading.result
 head : (c : tie.Else2) → Headed record_word channel_types (take (heading-end c) (text c)) c.before.read-heading.result
 head c = headed record_word channel_types _ _ c.before.read-heading.ensures c.if2.false
 
-at-centre : (c : tie.Else2) → At_centre channel_types (text c) c.before.read-heading.result.n (codes c) (heading-end c + 1)
+at-centre : (c : tie.Else2) → AtCentre channel_types (text c) c.before.read-heading.result.n (codes c) (heading-end c + 1)
 at-centre c =
     let at-line = c.before.before.before.before in
     past_heading_lem channel_types (text c) at-line.before.line-end.ensures at-line.if1.false (head c)
