@@ -14,8 +14,9 @@ import os
 import re
 import sys
 
-# A definition that would get the name of a parameter in a clause that cites it.
-APART = {"settingsText": "text_of_settings"}
+# A definition that would get the name of a parameter in a clause that cites it, a number of a refusal that would get the name of a count,
+# and a lemma that would get the name of a word of the library that its file cites.
+APART = {"settingsText": "text_of_settings", "row-count": "row_count_number", "in-float": "in_float_lem"}
 NAME = r"[A-Za-zα-ωΑ-Ω][\w'₀-₉]*(?:-[\w'₀-₉]+)*"
 WORD = re.compile(r"(?<![\w'₀-₉·-])" + NAME + r"(?![\w'₀-₉])")
 HEAD = re.compile(r"^( *)((?:pub |abbrev |unfoldable )*)(" + NAME + r")((?: *(?:\([^()]*(?:\([^()]*\)[^()]*)*\)|\{[^}]*\}))*) *: ", re.M)
@@ -97,6 +98,9 @@ def respelled():
     taken = set(new.values())
     for name in sorted(lemmas | fields):
         if name in new or name in library or not ("-" in name or camel(name)):
+            continue
+        if name in APART:
+            new[name] = APART[name]
             continue
         parts = snake(name).split("-")
         joint = [i for i in range(1, len(parts)) if "_".join(parts[:i]) in whole and "_".join(parts[i:]) in whole]

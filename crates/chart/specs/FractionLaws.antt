@@ -1,5 +1,5 @@
 -- A whole number divided by the total as a binary64 number.
---     in_float              a whole number within 2^53 of 0 is a binary64 number
+--     in_float_lem              a whole number within 2^53 of 0 is a binary64 number
 --     quotient_fraction     fraction_of D z is the quotient of z and D, each as a binary64 number
 --     Exact D z x           x is exactly z/D, negative where z is below 0, and 0 is positive
 --     fraction_exact        where the total is a power of two up to 2^1074 and z is less than 2^53 from 0, fraction_of D z is exact
@@ -18,10 +18,10 @@ use Rattle.std.specs.Float.Ieee.Fits.{down_pos}
 use Rattle.std.specs.Float.Ieee.Positive.{first_pos}
 use Rattle.chart.specs.Fraction.{positive_zero, negative, fraction_of}
 
-pub in_float : (z : ℤ) → nat_abs z ≤ 2 ^ prec binary64 → T (in_float binary64 z)
+pub in_float_lem : (z : ℤ) → nat_abs z ≤ 2 ^ prec binary64 → T (in_float binary64 z)
 unfolding in_float
-in_float (pos k) h = le→leb k (2 ^ prec binary64) h
-in_float (negsuc k) h = lt→ltb k (2 ^ prec binary64) h
+in_float_lem (pos k) h = le→leb k (2 ^ prec binary64) h
+in_float_lem (negsuc k) h = lt→ltb k (2 ^ prec binary64) h
 
 -- a whole number as a binary64 number
 of_integer : (z : ℤ) → of_int binary64 z ≡ round binary64 (negative z) (nat_abs z) 1

@@ -12,7 +12,7 @@
 use Rattle.std.specs.Prelude.{◌<◌, ◌≤◌, suc, zero, ℕ, ◌≡◌, refl, Bool, ◌&&◌, ◌||◌, false, true, List, eqb, leb}
 use Rattle.std.proofs.Common.{◌∙◌, ap, subst, sym, arith, le-leb}
 use Rattle.integers.specs.Tests.{clash, impossible}
-use Rattle.refusal.specs.Number.{alert_settings, budget_too_large, buffer_short, disagreement, heading, label_repeated, line_form, outside_limits, record_form, row_count, table_short, tag_differs, text_length, value_range}
+use Rattle.refusal.specs.Number.{alert_settings, budget_too_large, buffer_short, disagreement, heading, label_repeated, line_form, outside_limits, record_form, row_count_number, table_short, tag_differs, text_length, value_range}
 use Rattle.refusal.specs.Outcome.{number_of}
 use Rattle.refusal.specs.declared.Outcome.{Outcome}
 use Rattle.refusal.specs.declared.Outcome.TheVariants.{Accepted, Refused}
@@ -29,7 +29,7 @@ without_line number =
 -- 2, 3, 4, 5, 6, 10, 11
 abbrev pub with_line : ℕ → Bool
 with_line number =
-    eqb number heading || (eqb number line_form || (eqb number value_range || (eqb number label_repeated || (eqb number row_count
+    eqb number heading || (eqb number line_form || (eqb number value_range || (eqb number label_repeated || (eqb number row_count_number
     || (eqb number tag_differs || eqb number record_form)))))
 
 abbrev pub is_refusal_at : ℕ → ℕ → Bool
@@ -79,7 +79,7 @@ module _ {A : Type 0} (outcome : A → Outcome) (refusal : Refusal → A) where
       alike e = cc
 
 -- the numbers of a row's line, which is past the heading's
-pub row_listed : (number line : ℕ) → line_form ≤ number → number ≤ row_count → 1 < line → is_refusal_at number line ≡ true
+pub row_listed : (number line : ℕ) → line_form ≤ number → number ≤ row_count_number → 1 < line → is_refusal_at number line ≡ true
 row_listed zero line low high past = absurd (omega arith)
 row_listed (suc zero) line low high past = absurd (omega arith)
 row_listed (suc (suc zero)) line low high past = absurd (omega arith)

@@ -2,7 +2,7 @@
 --     promise_1_3     the numbers, and what stands beside them in a refusal (`RefusalValues`)
 use Rattle.std.specs.Prelude.{ℕ, ◌≡◌, refl, false, [], ◌∷◌, Float, pos, replicate}
 use Rattle.lists.specs.Padded.{padded}
-use Rattle.refusal.specs.Number.{alert_settings, budget_too_large, buffer_short, disagreement, heading, label_repeated, line_form, outside_limits, record_form, row_count, table_short, tag_differs, text_length, value_range}
+use Rattle.refusal.specs.Number.{alert_settings, budget_too_large, buffer_short, disagreement, heading, label_repeated, line_form, outside_limits, record_form, row_count_number, table_short, tag_differs, text_length, value_range}
 use Rattle.refusal.specs.Outcome.{line_of, number_of, refused, refused_at}
 use Rattle.refusal.specs.declared.Outcome.{Outcome}
 use Rattle.refusal.specs.declared.Outcome.TheVariants.{Accepted}
@@ -42,7 +42,7 @@ use Rattle.promises.specs.WriterAnswers.{WriterListed, writer_listed}
 
 pub record RefusalValues : Type 0 where
   -- the thirteen numbers of document 01's table, and that of alert settings
-  pub numbers : text_length ∷ heading ∷ line_form ∷ value_range ∷ label_repeated ∷ row_count ∷ table_short ∷ outside_limits ∷ budget_too_large
+  pub numbers : text_length ∷ heading ∷ line_form ∷ value_range ∷ label_repeated ∷ row_count_number ∷ table_short ∷ outside_limits ∷ budget_too_large
       ∷ tag_differs ∷ record_form ∷ disagreement ∷ buffer_short ∷ alert_settings ∷ []
       ≡ 1 ∷ 2 ∷ 3 ∷ 4 ∷ 5 ∷ 6 ∷ 7 ∷ 8 ∷ 9 ∷ 10 ∷ 11 ∷ 12 ∷ 13 ∷ 14 ∷ []
   -- number and line of an outcome; line 0 where no line is at fault

@@ -5,7 +5,7 @@
 use Rattle.std.specs.Prelude.{◌*◌, ◌<◌, ◌≤◌, ℕ, ◌≡◌, false, true, List, [], ◌∷◌, length}
 use Rattle.std.proofs.Common.{◌∙◌, ap, arith}
 use Rattle.std.proofs.Math.Option.{none, some}
-use Rattle.refusal.specs.Number.{heading, label_repeated, line_form, outside_limits, row_count, table_short, tag_differs, text_length, value_range}
+use Rattle.refusal.specs.Number.{heading, label_repeated, line_form, outside_limits, row_count_number, table_short, tag_differs, text_length, value_range}
 use Rattle.refusal.specs.Outcome.{refused, refused_at}
 use Rattle.limits.specs.Limits.{channel_limit, row_limit, text_limit, total}
 use Rattle.text.specs.Parts.{cut, line_end, text_within}
@@ -42,9 +42,9 @@ pub record ReferenceRefused (text : List ℕ) : Type 0 where
       → heading_of reference_word channel_limit channel_types line ≡ none → text_content text ≡ faulty heading 1
   -- 6 for a row past the limit, whatever stands in it
   pub row_6 : (found : ReferenceText) (line next : List ℕ) (parts : List (List ℕ)) → Begins row_limit channel_types found text (line ∷ next ∷ parts)
-      → row_limit ≤ row_count found → text_content text ≡ faulty row_count (next_line found)
+      → row_limit ≤ row_count found → text_content text ≡ faulty row_count_number (next_line found)
   pub unended_row_6 : (found : ReferenceText) (b : ℕ) (part : List ℕ) → Begins row_limit channel_types found text ((b ∷ part) ∷ [])
-      → row_limit ≤ row_count found → text_content text ≡ faulty row_count (next_line found)
+      → row_limit ≤ row_count found → text_content text ≡ faulty row_count_number (next_line found)
   -- 3, 4, 5
   pub form_3 : (found : ReferenceText) (line next : List ℕ) (parts : List (List ℕ)) → Begins row_limit channel_types found text (line ∷ next ∷ parts)
       → row_count found < row_limit → row_of (channel_count found) line ≡ none → text_content text ≡ faulty line_form (next_line found)
@@ -59,7 +59,7 @@ pub record ReferenceRefused (text : List ℕ) : Type 0 where
       → text_content text ≡ faulty label_repeated (next_line found)
   -- 6 for no row, at the line after the last
   pub none_6 : (found : ReferenceText) → Begins row_limit channel_types found text ([] ∷ []) → row_count found ≡ 0
-      → text_content text ≡ faulty row_count (first_row_line found)
+      → text_content text ≡ faulty row_count_number (first_row_line found)
   -- 7 last: a refused text keeps its refusal, however short the lent table is
   pub kept : (number line : ℕ) → text_content text ≡ faulty number line → (places : ℕ)
       → reference_read row_limit channel_types text places ≡ refused_reference (refused_at number line)

@@ -22,8 +22,8 @@ abbrev pub label_repeated : ℕ
 label_repeated = 5
 
 -- no row, or one past the row limit
-abbrev pub row_count : ℕ
-row_count = 6
+abbrev pub row_count_number : ℕ
+row_count_number = 6
 
 -- lent table below m times n
 abbrev pub table_short : ℕ

@@ -7,14 +7,14 @@ use lib.Ieee.{binary64, in_float, div, of_int}
 use mir.Syntax.{w64}
 use mir.ValLaws.{to_z-of_z}
 use Rattle.limits.specs.Limits.{total}
-use Rattle.chart.specs.FractionLaws.{in_float, quotient_fraction}
+use Rattle.chart.specs.FractionLaws.{in_float_lem, quotient_fraction}
 use Rattle.chart.proofs.fraction.Statement.{statement}
 use Rattle.chart.proofs.fraction.Tie as tie
 
 int-to-float-result : tie.Need-int-to-float-result
 int-to-float-result c =
     let s = c.before in
-    subst (λ (z : ℤ). T (in_float binary64 z)) (sym (to_z-of_z w64 s.args.x s.ranges.x)) (in_float s.args.x s.requires)
+    subst (λ (z : ℤ). T (in_float binary64 z)) (sym (to_z-of_z w64 s.args.x s.ranges.x)) (in_float_lem s.args.x s.requires)
 
 returns : tie.Need-returns
 returns c =
