@@ -14,7 +14,7 @@ use limits::{CHANNELS, TOTAL};
 use moves::Pair;
 
 // The figures of a set of weights: X (places past n are 0), M, L, and whether the weights are Settled.
-#[derive(Drop)]
+#[derive(Clone, Copy)]
 pub struct Ball {
     pub scaled_centre: [i64; CHANNELS],
     pub scaled_squared_radius: u64,

@@ -24,21 +24,21 @@ const LOW: [i32; TYPES] = [0, 0, 0, 0, -200, 0, 0, -2000];
 const HIGH: [i32; TYPES] = [2000, 4000, 4000, 4000, 1500, 1400, 4000, 2000];
 
 // The values that a type takes.
-#[derive(Drop)]
+#[derive(Clone, Copy)]
 pub struct Range {
     pub low: i32,
     pub high: i32,
 }
 
 // The bytes of a tag; places past its length are 0.
-#[derive(Drop)]
+#[derive(Clone, Copy)]
 pub struct Tag {
     pub bytes: [u8; TAG_MOST],
     pub length: usize,
 }
 
 // Whether the field that starts somewhere in a line is a tag, and where it ends.
-#[derive(Drop)]
+#[derive(Clone, Copy)]
 pub struct TagAt {
     pub agrees: bool,
     pub end: usize,

@@ -20,14 +20,14 @@ use limits::TOTAL;
 use refusal::Refusal;
 
 // A point of a chart: each coordinate is counted in steps of its channel.
-#[derive(Drop)]
+#[derive(Clone, Copy)]
 pub struct Point {
     pub horizontal: f64,
     pub vertical: f64,
 }
 
 // The mark of an envelope: a dot where its ball is a single point, else a disc with its radius.
-#[derive(Drop)]
+#[derive(Clone, Copy)]
 pub enum Mark {
     Dot(Point),
     Disc(Point, f64),

@@ -14,7 +14,7 @@ use moves::step::pair_of;
 use refusal::Outcome;
 
 // What a check answers. A refusal has every figure 0.
-#[derive(Drop)]
+#[derive(Clone, Copy)]
 pub struct Checked {
     pub outcome: Outcome,
     pub ball: Ball,

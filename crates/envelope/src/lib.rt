@@ -14,7 +14,7 @@ use limits::{BUDGET_MOST, CENTRE_MOST, CHANNELS, DISTANCE_MOST, ROWS};
 
 // An envelope's figures: n channels of these codes, X, M, L and the ending (in `ball`), and the moves made. Places past n are
 // not looked at when the figures are handed in, and are 0 when they are handed out.
-#[derive(Drop)]
+#[derive(Clone, Copy)]
 pub struct Figures {
     pub n: usize,
     pub codes: [Code; CHANNELS],
@@ -24,7 +24,7 @@ pub struct Figures {
 
 // The figures that are single numbers: n, M, L, the ending and the moves. The codes and X are lent beside them. No two numbers of 64 bits
 // stand side by side, since a compiler copies such two by one wide load, which waits for the two stores before it.
-#[derive(Drop)]
+#[derive(Clone, Copy)]
 pub struct Scalars {
     pub n: usize,
     pub moves: u32,

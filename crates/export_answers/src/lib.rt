@@ -15,7 +15,7 @@ use refusal::Outcome;
 // What a drawing or a record that is read answers: number 0 where accepted, else the refusal's number and line, every other figure
 // being 0. `settled` is 1 for Settled, else 0.
 #[repr(C)]
-#[derive(Drop)]
+#[derive(Clone, Copy)]
 pub struct EnvelopeAnswer {
     pub number: u32,
     pub line: u32,
@@ -27,7 +27,7 @@ pub struct EnvelopeAnswer {
 
 // What writing a record, or the output of a program, answers: number 0 where accepted, else the refusal's number and line, the length being 0.
 #[repr(C)]
-#[derive(Drop)]
+#[derive(Clone, Copy)]
 pub struct WrittenAnswer {
     pub number: u32,
     pub line: u32,

@@ -14,7 +14,7 @@ use refusal::Outcome;
 // What a check answers: number 0 where accepted, else the refusal's number and line, every other figure being 0. `settled` is 1 for
 // Settled, else 0.
 #[repr(C)]
-#[derive(Drop)]
+#[derive(Clone, Copy)]
 pub struct CheckAnswer {
     pub number: u32,
     pub line: u32,

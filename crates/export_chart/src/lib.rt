@@ -19,7 +19,7 @@ const DISC: u32 = 2;
 // What a chart answers: number 0 where accepted, else the refusal's number and line, the others being 0. `mark` is 1 for a dot, whose
 // radius is 0, and 2 for a disc.
 #[repr(C)]
-#[derive(Drop)]
+#[derive(Clone, Copy)]
 pub struct MarkAnswer {
     pub number: u32,
     pub line: u32,
@@ -31,7 +31,7 @@ pub struct MarkAnswer {
 
 // What a panel answers: number 0 where accepted, else the refusal's number and line.
 #[repr(C)]
-#[derive(Drop)]
+#[derive(Clone, Copy)]
 pub struct PanelAnswer {
     pub number: u32,
     pub line: u32,

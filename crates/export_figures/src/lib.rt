@@ -7,7 +7,7 @@ use envelope::Scalars;
 
 // An envelope's n, M, L, ending (1 for Settled, 0 for Budget) and moves.
 #[repr(C)]
-#[derive(Drop)]
+#[derive(Clone, Copy)]
 pub struct FiguresGiven {
     pub n: usize,
     pub scaled_squared_radius: u64,

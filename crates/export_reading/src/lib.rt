@@ -20,7 +20,7 @@ const ALARM: u32 = 2;
 // What a reading answers: number 0 where accepted, else the refusal's number and line, the others being 0. `verdict` is 1 for
 // Quiet and 2 for Alarm, whose excess is s - M.
 #[repr(C)]
-#[derive(Drop)]
+#[derive(Clone, Copy)]
 pub struct VerdictAnswer {
     pub number: u32,
     pub line: u32,
@@ -30,7 +30,7 @@ pub struct VerdictAnswer {
 
 // What a measured reading answers: as a verdict does, and s, which is 0 in a refusal.
 #[repr(C)]
-#[derive(Drop)]
+#[derive(Clone, Copy)]
 pub struct MeasuredAnswer {
     pub number: u32,
     pub line: u32,

@@ -20,7 +20,7 @@ use reference_label::label_part;
 
 // What a reference text answers: number 0 where accepted, else the refusal's number and line, m and n being 0.
 #[repr(C)]
-#[derive(Drop)]
+#[derive(Clone, Copy)]
 pub struct ReferenceAnswer {
     pub number: u32,
     pub line: u32,
@@ -30,7 +30,7 @@ pub struct ReferenceAnswer {
 
 // Where a label stands in the text; its length is 0 where there is none.
 #[repr(C)]
-#[derive(Drop)]
+#[derive(Clone, Copy)]
 pub struct LabelAnswer {
     pub start: usize,
     pub length: usize,

@@ -15,7 +15,7 @@ use printing::{put_bytes, put_numbers};
 use text::parts::{COMMA, field_end, same_bytes};
 
 // The codes of a heading's n channels; n is 0 where the line is no heading.
-#[derive(Drop)]
+#[derive(Clone, Copy)]
 pub struct Heading {
     pub n: usize,
     pub codes: [Code; CHANNELS],

@@ -17,7 +17,7 @@ const LABEL_BYTE_COUNT: u64 = 26 + 10 + 1;
 const KEY_BASE: u64 = LABEL_BYTE_COUNT + 1;
 
 // A line's first field: the number of the label that it is, 0 where it is none, and where it ends.
-#[derive(Drop)]
+#[derive(Clone, Copy)]
 pub struct LabelField {
     pub key: u64,
     pub end: usize,

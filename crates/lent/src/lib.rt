@@ -8,7 +8,7 @@ ghost use Rattle.lent.specs.Clauses.{not_written, Part, text_written, with_room}
 use refusal::{Outcome, Refusal};
 
 // What writing a text to a lent buffer answers. In a refusal the length is 0.
-#[derive(Drop)]
+#[derive(Clone, Copy)]
 pub struct TextWritten {
     pub outcome: Outcome,
     pub length: usize,

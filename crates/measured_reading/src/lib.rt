@@ -16,7 +16,7 @@ use reading::{Distance, Verdict, distance_of_text, verdict_of};
 use refusal::Refusal;
 
 // The verdict on a reading and its s, which is 0 in a refusal.
-#[derive(Drop)]
+#[derive(Clone, Copy)]
 pub struct Measured {
     pub verdict: Verdict,
     pub scaled_squared_distance: u64,

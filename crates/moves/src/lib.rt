@@ -4,14 +4,14 @@ pub mod select;
 pub mod step;
 
 // The row that a pass over the rows holds, and its score.
-#[derive(Drop)]
+#[derive(Clone, Copy)]
 pub struct Selected {
     pub row: usize,
     pub score: u64,
 }
 
 // The two rows of a move, the score of the far row, g and d².
-#[derive(Drop)]
+#[derive(Clone, Copy)]
 pub struct Pair {
     pub far: usize,
     pub near: usize,

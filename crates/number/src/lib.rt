@@ -20,35 +20,35 @@ const NINE: u8 = b'9';
 const HYPHEN: u8 = b'-';
 
 // What a field of digits holds.
-#[derive(Drop)]
+#[derive(Clone, Copy)]
 pub enum Magnitude {
     Malformed,
     Saturated(u64),
 }
 
 // What a field that may be a plain number holds.
-#[derive(Drop)]
+#[derive(Clone, Copy)]
 pub enum Plain {
     Malformed,
     Number { negative: bool, magnitude: u64 },
 }
 
 // The digits that stand somewhere in a line, as a number, and the index after them.
-#[derive(Drop)]
+#[derive(Clone, Copy)]
 struct Run {
     magnitude: u64,
     end: usize,
 }
 
 // What the field that starts somewhere in a line holds, and where it ends.
-#[derive(Drop)]
+#[derive(Clone, Copy)]
 struct MagnitudeAt {
     magnitude: Magnitude,
     end: usize,
 }
 
 // The same for a field that may be a plain number.
-#[derive(Drop)]
+#[derive(Clone, Copy)]
 pub struct PlainAt {
     pub number: Plain,
     pub end: usize,

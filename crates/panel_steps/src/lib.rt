@@ -15,7 +15,7 @@ use limits::{CHANNELS, TOTAL};
 use refusal::Outcome;
 
 // The steps of the n channels; places past n, and every place in a refusal, are 0.
-#[derive(Drop)]
+#[derive(Clone, Copy)]
 pub struct PanelShown {
     pub outcome: Outcome,
     pub steps: [i32; CHANNELS],

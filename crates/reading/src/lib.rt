@@ -19,7 +19,7 @@ use refusal::Refusal;
 use text::parts::{LINE_END, text_within};
 
 // The verdict on a reading: an Alarm has its excess s - M.
-#[derive(Drop)]
+#[derive(Clone, Copy)]
 pub enum Verdict {
     Quiet,
     Alarm(u64),
@@ -27,7 +27,7 @@ pub enum Verdict {
 }
 
 // s of a text as a reading, or its refusal.
-#[derive(Drop)]
+#[derive(Clone, Copy)]
 pub enum Distance {
     Is(u64),
     Refused(Refusal),

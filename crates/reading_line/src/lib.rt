@@ -12,7 +12,7 @@ use value::{Value, read_written_at, written_value};
 
 // What a line is: not in form, in form with a tag that is not the envelope's, in form and of its tags with a value outside its
 // range, or within every range.
-#[derive(Drop)]
+#[derive(Clone, Copy)]
 pub enum Line {
     Malformed,
     TagDiffers,

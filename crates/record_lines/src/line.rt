@@ -18,21 +18,21 @@ const HELD_MOST: u64 = 9_223_372_036_854_775_807;
 const WEIGHT_MOST: i64 = 4_294_967_295;
 
 // What a field of a record states.
-#[derive(Drop)]
+#[derive(Clone, Copy)]
 pub enum Number {
     Malformed,
     Held(i64),
 }
 
 // What the field that starts somewhere in a line states, and where it ends.
-#[derive(Drop)]
+#[derive(Clone, Copy)]
 struct NumberAt {
     number: Number,
     end: usize,
 }
 
 // What an `R` line states; every figure is 0 where the line is not in form.
-#[derive(Drop)]
+#[derive(Clone, Copy)]
 pub struct ResultRead {
     pub in_form: bool,
     pub scaled_squared_radius: i64,
@@ -42,7 +42,7 @@ pub struct ResultRead {
 }
 
 // What a `W` line states; both numbers are 0 where the line is not in form.
-#[derive(Drop)]
+#[derive(Clone, Copy)]
 pub struct WeightRead {
     pub row: usize,
     pub weight: u32,

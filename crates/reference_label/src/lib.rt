@@ -9,7 +9,7 @@ use reference::read::parse;
 use text::parts::field_end;
 
 // A part of a text.
-#[derive(Drop)]
+#[derive(Clone, Copy)]
 pub struct Part {
     pub start: usize,
     pub length: usize,

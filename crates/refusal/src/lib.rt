@@ -33,13 +33,13 @@ pub const BUFFER_SHORT: u32 = 13;
 // 14: k or c outside 1 to 99, or 0 or over 20 settings, or a k without its c
 pub const ALERT_SETTINGS: u32 = 14;
 
-#[derive(Drop)]
+#[derive(Clone, Copy)]
 pub struct Refusal {
     pub number: u32,
     pub line: u32,
 }
 
-#[derive(Drop)]
+#[derive(Clone, Copy)]
 pub enum Outcome {
     Accepted,
     Refused(Refusal),

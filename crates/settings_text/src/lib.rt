@@ -11,7 +11,7 @@ use number::{Plain, plain_number};
 use text::parts::{field_end, line_end};
 
 // What a line states; both numbers are 0 where it is no setting.
-#[derive(Drop)]
+#[derive(Clone, Copy)]
 pub struct SettingRead {
     pub k: u32,
     pub c: u32,

@@ -15,7 +15,7 @@ use text::parts::past_byte;
 const LESS_THAN: u8 = b'<';
 
 // What a value field holds.
-#[derive(Drop)]
+#[derive(Clone, Copy)]
 pub enum Value {
     Malformed,
     OutOfRange,
@@ -23,7 +23,7 @@ pub enum Value {
 }
 
 // The number of the value field that starts somewhere in a line, whether `<` stands before it, and where the field ends.
-#[derive(Drop)]
+#[derive(Clone, Copy)]
 pub struct WrittenAt {
     pub below: bool,
     pub number: Plain,
