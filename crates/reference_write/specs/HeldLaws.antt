@@ -74,7 +74,7 @@ module _ (lent : Lent) (found : ReferenceText) (is : TextOf lent found) where
     of_holds =
         let bytes = labels_lent_lem lent.labels lent.ends facts.reaches in
         record {
-          row_count_number = many;
+          row_count = many;
           channels = channels;
           codes = is.codes;
           table = ap row_numbers is.all_rows ∙ rows-numbers n (labels_lent lent) lent.rows ∙ ap (λ k. take (k * n) lent.rows) facts.labelled;
@@ -144,7 +144,7 @@ module _ (limit : ℕ) (types : Types) (text : List ℕ) (found : ReferenceText)
   pub own_holds : Holds found (lent_of found)
   own_holds =
       record {
-        row_count_number = refl;
+        row_count = refl;
         channels = refl;
         codes = sym (take-length (codes_of found));
         table = sym (take_all (row_count found * channel_count found) (table_of found) (omega (arith, table_length limit types text found e)));
