@@ -14,8 +14,7 @@ use export_figures::FiguresGiven;
 // Tries settings, one list of numbers k, c, k, c, on readings against the figures of an envelope. Of `codes` and `scaled_centre` the first
 // n places count; fewer are refused by 8, and so is an ending that is neither 0 nor 1. Where the text fits, it fills the first `length`
 // places of `output` and no other. Refused, with `output` as it was: 8, 14, 1, last 13.
-#[unsafe(no_mangle)]
-pub extern "C" fn cundarivo_try_settings(
+pub fn cundarivo_try_settings(
     figures: FiguresGiven,
     codes: &[Code],
     scaled_centre: &[i64],

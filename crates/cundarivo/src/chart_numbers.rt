@@ -11,8 +11,7 @@ use export_figures::FiguresGiven;
 
 // The mark of an envelope on the chart of two channels counted from 1, the same one allowed. Of `codes` and `scaled_centre` the first
 // n places count; fewer are refused by 8, and so is an ending that is neither 0 nor 1. Refused: 8.
-#[unsafe(no_mangle)]
-pub extern "C" fn cundarivo_chart(
+pub fn cundarivo_chart(
     figures: FiguresGiven,
     codes: &[Code],
     scaled_centre: &[i64],
@@ -27,8 +26,7 @@ pub extern "C" fn cundarivo_chart(
 // The centre of an envelope to the nearest whole step, halves away from zero. It fills the first n places of `steps` where accepted, and
 // writes nothing else. Of `codes` and `scaled_centre` the first n places count; fewer are refused by 8, and so is an ending that is
 // neither 0 nor 1. Refused: 8, then 13.
-#[unsafe(no_mangle)]
-pub extern "C" fn cundarivo_panel(
+pub fn cundarivo_panel(
     figures: FiguresGiven,
     codes: &[Code],
     scaled_centre: &[i64],

@@ -1,4 +1,5 @@
-// The calls for C and Rust, on numbers, lent slices and small structs of numbers: each is the call of its area, exported by name.
+// The calls for C and Rust, on numbers, lent slices and small structs of numbers: each is the call of its area. `cundarivo_c` exports each by
+// its name.
 pub mod alert_trial_text;
 pub mod chart_numbers;
 pub mod programs;
@@ -18,8 +19,7 @@ use export_ball::CheckAnswer;
 
 // The drawing of the first m rows of n channels with a budget of moves. It fills the first n places of `scaled_centre` with X and
 // the first m places of `weights` where accepted, and writes nothing else. Refused: 8, 9, then 13.
-#[unsafe(no_mangle)]
-pub extern "C" fn cundarivo_draw(
+pub fn cundarivo_draw(
     rows: &[i32],
     m: usize,
     n: usize,
@@ -39,8 +39,7 @@ pub extern "C" fn cundarivo_draw(
 
 // The figures of the weights that the caller lends. It fills the first n places of `scaled_centre` with X where accepted, and
 // writes nothing else. Refused: 8, 12, then 13.
-#[unsafe(no_mangle)]
-pub extern "C" fn cundarivo_check(
+pub fn cundarivo_check(
     rows: &[i32],
     m: usize,
     n: usize,

@@ -17,8 +17,7 @@ use export_answers::WrittenAnswer;
 
 // The program `draw`: the record of the drawing of a reference text's rows. Where the output fits, it fills the first `length` places
 // of `output` and no other. Refused, with `output` as it was: 13.
-#[unsafe(no_mangle)]
-pub extern "C" fn cundarivo_program_draw(reference: &[u8], output: &mut [u8]) -> WrittenAnswer
+pub fn cundarivo_program_draw(reference: &[u8], output: &mut [u8]) -> WrittenAnswer
     ensures answer { result ≡ written_in_numbers (text_written (draw_output total row_limit channel_types reference.now)
         (length output.old)) }
     ensures output_filled { output.new ≡ filled result.number result.length
@@ -28,8 +27,7 @@ pub extern "C" fn cundarivo_program_draw(reference: &[u8], output: &mut [u8]) ->
 }
 
 // The program `verify`: whether a record agrees with a reference text. Output and refusal as for `draw`.
-#[unsafe(no_mangle)]
-pub extern "C" fn cundarivo_program_verify(
+pub fn cundarivo_program_verify(
     reference: &[u8],
     record_text: &[u8],
     output: &mut [u8],
@@ -43,8 +41,7 @@ pub extern "C" fn cundarivo_program_verify(
 }
 
 // The program `judge`: the verdict on each reading, against a record that agrees with a reference text. Output and refusal as for `draw`.
-#[unsafe(no_mangle)]
-pub extern "C" fn cundarivo_program_judge(
+pub fn cundarivo_program_judge(
     reference: &[u8],
     record_text: &[u8],
     readings: &[u8],
@@ -59,8 +56,7 @@ pub extern "C" fn cundarivo_program_judge(
 }
 
 // The program `alerts`: settings tried on readings, against a record that agrees with a reference text. Output and refusal as for `draw`.
-#[unsafe(no_mangle)]
-pub extern "C" fn cundarivo_program_alerts(
+pub fn cundarivo_program_alerts(
     reference: &[u8],
     record_text: &[u8],
     settings_text: &[u8],
@@ -77,8 +73,7 @@ pub extern "C" fn cundarivo_program_alerts(
 }
 
 // The program `panel`: the centre of a record that agrees with a reference text, in whole steps. Output and refusal as for `draw`.
-#[unsafe(no_mangle)]
-pub extern "C" fn cundarivo_program_panel(
+pub fn cundarivo_program_panel(
     reference: &[u8],
     record_text: &[u8],
     output: &mut [u8],
@@ -92,8 +87,7 @@ pub extern "C" fn cundarivo_program_panel(
 }
 
 // The program `plain`: a reference text with each value plain. Output and refusal as for `draw`.
-#[unsafe(no_mangle)]
-pub extern "C" fn cundarivo_program_plain(reference: &[u8], output: &mut [u8]) -> WrittenAnswer
+pub fn cundarivo_program_plain(reference: &[u8], output: &mut [u8]) -> WrittenAnswer
     ensures answer { result ≡ written_in_numbers (text_written (plain_output row_limit channel_types reference.now)
         (length output.old)) }
     ensures output_filled { output.new ≡ filled result.number result.length

@@ -12,8 +12,7 @@ use export_reading::{MeasuredAnswer, VerdictAnswer};
 
 // The verdict on a text against the figures of an envelope. Of `codes` and `scaled_centre` the first n places count; fewer are
 // refused by 8, and so is an ending that is neither 0 nor 1. Refused: 8, 1, 3, the leftmost 10, the leftmost 4.
-#[unsafe(no_mangle)]
-pub extern "C" fn cundarivo_judge(
+pub fn cundarivo_judge(
     figures: FiguresGiven,
     codes: &[Code],
     scaled_centre: &[i64],
@@ -26,8 +25,7 @@ pub extern "C" fn cundarivo_judge(
 
 // The same with s, and with the values as they read: it fills the first n places of `values` where accepted, and writes nothing else.
 // Refused as above, then 13.
-#[unsafe(no_mangle)]
-pub extern "C" fn cundarivo_measure(
+pub fn cundarivo_measure(
     figures: FiguresGiven,
     codes: &[Code],
     scaled_centre: &[i64],

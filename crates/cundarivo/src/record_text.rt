@@ -13,8 +13,7 @@ use export_figures::FiguresGiven;
 
 // Reads a record against the first m rows of n channels and the first n codes. It fills the first n places of `scaled_centre`
 // with X and the first m places of `weights` where accepted, and writes nothing else. Refused: 8, 1, 11, 12, then 13.
-#[unsafe(no_mangle)]
-pub extern "C" fn cundarivo_read_record(
+pub fn cundarivo_read_record(
     rows: &[i32],
     m: usize,
     n: usize,
@@ -37,8 +36,7 @@ pub extern "C" fn cundarivo_read_record(
 // Writes the record of an envelope, drawn from the first m rows, to the first places of the buffer, and to no other. Of `codes` and
 // `scaled_centre` the first n places count. `weights` has m places or more, up to the row limit; a weight that is not lent is 0.
 // Fewer or more places are refused by 8, and so is an ending that is neither 0 nor 1. Refused, with the buffer as it was: 8, 12, 13.
-#[unsafe(no_mangle)]
-pub extern "C" fn cundarivo_write_record(
+pub fn cundarivo_write_record(
     figures: FiguresGiven,
     codes: &[Code],
     scaled_centre: &[i64],

@@ -18,8 +18,7 @@ use export_reference::{LabelAnswer, ReferenceAnswer};
 // Reads a reference text. It fills the first m·n places of `table` with the values and the first n places of `codes` with the
 // codes where accepted, and writes nothing else. Refused: 1, 2, then line by line 6 for a row past the limit, 3, the leftmost
 // 4, 5; then 6 for no row; 7; last 13 for too few places for the codes.
-#[unsafe(no_mangle)]
-pub extern "C" fn cundarivo_read_reference(
+pub fn cundarivo_read_reference(
     text: &[u8],
     table: &mut [i32],
     codes: &mut [Code],
@@ -35,8 +34,7 @@ pub extern "C" fn cundarivo_read_reference(
 }
 
 // Where the label of a row, counted from 1, stands in a reference text.
-#[unsafe(no_mangle)]
-pub extern "C" fn cundarivo_label(text: &[u8], row: usize) -> LabelAnswer
+pub fn cundarivo_label(text: &[u8], row: usize) -> LabelAnswer
     ensures { result ≡ label_answer (label_part row_limit channel_types text.now row) }
 {
     export_reference::label(text, row)
@@ -45,8 +43,7 @@ pub extern "C" fn cundarivo_label(text: &[u8], row: usize) -> LabelAnswer
 // Writes the reference text of a table: m rows of n channels of these codes, of `rows` the first m·n places and of `codes` the first n.
 // The labels are lent as their bytes, one label after another, and `ends` has the index at which each ends. Where the text fits, it fills
 // the first `length` places of `buffer` and no other. Refused, with `buffer` as it was: 8, then row by row 3, 4, 5, last 13.
-#[unsafe(no_mangle)]
-pub extern "C" fn cundarivo_write_reference(
+pub fn cundarivo_write_reference(
     rows: &[i32],
     m: usize,
     n: usize,
