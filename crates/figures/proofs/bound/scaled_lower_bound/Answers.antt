@@ -1,6 +1,5 @@
 -- `figures::bound::scaled_lower_bound` meets its contract: X is within its limit, and its squared length is at most D times the weighted
 -- squared length, so that the difference does not wrap.
-use borrow.Author.Rules.{rules}
 use mathlib.Core.Path.{◌≡◌, ap₂, ◌∙◌}
 use mathlib.Core.List.{List}
 use Prim.Native.Nat.{ℕ, ◌*◌, ◌-◌, ◌≤◌, ◌<◌}
@@ -17,18 +16,7 @@ use Rattle.geometry.specs.Places.{centre_list, centre_of, weights_total}
 use Rattle.geometry.specs.PlacesLaws.{centre_list_at}
 use Rattle.geometry.specs.TableLaws.{weights-within}
 use Rattle.geometry.specs.Clauses.{Table, WeightsOf}
-use Rattle.figures.proofs.bound.scaled_lower_bound.Statement.{statement}
-use Rattle.figures.proofs.bound.scaled_lower_bound.Tie as tie
-
-weighted-squared-length-requires : tie.Need-weighted-squared-length-requires
-weighted-squared-length-requires c κs =
-    let p = c.before.requires in
-    (p.0, weights-within (le_refl total) p.1.0)
-
-squared-length-of-centre-requires : tie.Need-squared-length-of-centre-requires
-squared-length-of-centre-requires c κs =
-    let p = c.before.before.requires in
-    (rw p.1.1 (centre_within p.0 (weights-within (le_refl total) p.1.0)), omega arith)
+use Rattle.figures.proofs.bound.scaled_lower_bound.Goals as goal
 
 -- for any total D above 0: the squared length of the list is that of X, and at most what it is subtracted from; y and z stand for the
 -- two results
@@ -47,23 +35,22 @@ module _ {D : ℕ} (positive : 0 < D) {rows : List ℤ} {m n : ℕ} {w : List �
     unfolding scaled_lower_bound
     bound-is = ap₂ (λ a b. D * a - b) first (second ∙ length-is)
 
-sub-result : tie.Need-overflow-sub-result
-sub-result c =
-    let p = c.before.before.before.requires in
-    second-most (lit< tt) p.0 p.1.0 p.1.1 c.before.weighted-squared-length.ensures.is c.squared-length-of-centre.ensures.is
+pub weighted_squared_length-requires : goal.weighted_squared_length-requires
+weighted_squared_length-requires c =
+    let p = c.requires in
+    (p.0, weights-within (le_refl total) p.1.0)
 
-returns : tie.Need-returns
+pub squared_length_of_centre-requires : goal.squared_length_of_centre-requires
+squared_length_of_centre-requires c =
+    let p = c.requires in
+    (rw p.1.1 (centre_within p.0 (weights-within (le_refl total) p.1.0)), omega arith)
+
+pub overflow_sub-result : goal.overflow_sub-result
+overflow_sub-result c =
+    let p = c.requires in
+    second-most (lit< tt) p.0 p.1.0 p.1.1 c.weighted_squared_length.ensures.is c.squared_length_of_centre.ensures.is
+
+pub returns : goal.returns
 returns c =
-    let p = c.before.before.before.requires in
-    bound-is (lit< tt) p.0 p.1.0 p.1.1 c.before.weighted-squared-length.ensures.is c.squared-length-of-centre.ensures.is
-
-pub scaled-lower-bound-spec : {M : Type 1} → statement M
-scaled-lower-bound-spec =
-    tie.close
-    (tie.spec
-    (λ c. search rules)
-    weighted-squared-length-requires
-    (λ c. search rules)
-    squared-length-of-centre-requires
-    sub-result
-    returns)
+    let p = c.requires in
+    bound-is (lit< tt) p.0 p.1.0 p.1.1 c.weighted_squared_length.ensures.is c.squared_length_of_centre.ensures.is

@@ -1,0 +1,24 @@
+use native.Mathlib.Omega.{arith}
+use Rattle.integers.specs.Sum.{square}
+use Rattle.geometry.specs.Figures.{squared_length}
+use Rattle.limits.specs.Limits.{channel_limit}
+use Rattle.integers.specs.Partial.{partial_none, partial_more, partial_all}
+use Rattle.geometry.specs.TableLaws.{row-held}
+use Rattle.integers.specs.Reading.{passed, given}
+use Rattle.figures.proofs.bound.squared_length.Goals as goal
+
+pub loop-k-init : goal.loop-k-init
+loop-k-init c = partial_none
+
+pub square_of-sum-requires : goal.square_of-sum-requires
+square_of-sum-requires c = passed (row-held c.requires c.loop-k.k (omega arith))
+
+pub loop-k-preserved : goal.loop-k-preserved
+loop-k-preserved c =
+    let l = c.loop-k in
+    partial_more 1 l.invariant (omega arith)
+    (given (row-held c.requires l.k (omega arith)) square c.square_of-sum.ensures)
+
+pub returns : goal.returns
+unfolding squared_length
+returns c = partial_all channel_limit c.loop-k.invariant c.loop-k-test.false (omega arith)

@@ -1,0 +1,24 @@
+use native.Mathlib.Omega.{arith}
+use Rattle.integers.specs.Sum.{square}
+use Rattle.geometry.specs.Figures.{squared_length}
+use Rattle.integers.specs.Partial.{partial_none, partial_more, partial_all}
+use Rattle.geometry.specs.TableLaws.{centre_held}
+use Rattle.integers.specs.Reading.{passed, given}
+use Rattle.limits.specs.Limits.{channel_limit}
+use Rattle.figures.proofs.bound.squared_length_of_centre.Goals as goal
+
+pub loop-k-init : goal.loop-k-init
+loop-k-init c = partial_none
+
+pub square_of_centre-sum-requires : goal.square_of_centre-sum-requires
+square_of_centre-sum-requires c = passed (centre_held c.requires.0 c.loop-k.k (omega arith))
+
+pub loop-k-preserved : goal.loop-k-preserved
+loop-k-preserved c =
+    let l = c.loop-k in
+    partial_more 1 l.invariant (omega arith)
+    (given (centre_held c.requires.0 l.k (omega arith)) square c.square_of_centre-sum.ensures)
+
+pub returns : goal.returns
+unfolding squared_length
+returns c = partial_all channel_limit c.loop-k.invariant c.loop-k-test.false (omega arith)
