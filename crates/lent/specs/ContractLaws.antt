@@ -23,23 +23,19 @@ use Rattle.lent.specs.declared.TextWritten.{TextWritten}
 -- ---- a text
 
 module _ (text : List ℕ) (places : ℕ) where
-  chosen : {b : Bool} → leb (length text) places ≡ b
-      → text_written text places ≡ require b (not_written (refused buffer_short)) (λ _. written (length text))
-  chosen e = ap (λ (b : Bool). require b (not_written (refused buffer_short)) (λ _. written (length text))) e
-
   pub text_short : places < length text → text_written text places ≡ not_written (refused buffer_short)
-  text_short h = chosen (lt-leb (length text) places h)
+  text_short h = rw (lt-leb (length text) places h)
 
   pub text_fits : length text ≤ places → text_written text places ≡ written (length text)
-  text_fits h = chosen (le-leb (length text) places h)
+  text_fits h = rw (le-leb (length text) places h)
+
+  most : (b : Bool) → (b ≡ true → length text ≤ places)
+      → let r = require b (not_written (refused buffer_short)) (λ _. written (length text)) in (r.length ≤ places) × (r.length ≤ length text)
+  most true h = (h refl, omega arith)
+  most false h = (zero-le, zero-le)
 
   pub text_most : ((text_written text places).length ≤ places) × ((text_written text places).length ≤ length text)
-  text_most = go (leb (length text) places) refl
-    where
-      go : (b : Bool) → leb (length text) places ≡ b
-          → let r = require b (not_written (refused buffer_short)) (λ _. written (length text)) in (r.length ≤ places) × (r.length ≤ length text)
-      go true e = (leb-true (length text) places e, omega arith)
-      go false e = (zero-le, zero-le)
+  text_most = most (leb (length text) places) (leb-true (length text) places)
 
 -- the buffer after a text is copied to it
 pub buffer_filled : (text buffer : List ℕ) → take (length text) text ++ drop (length text) buffer ≡ filled 0 (length text) text buffer
@@ -55,7 +51,7 @@ buffer_left w k source buffer e =
 pub buffer_part : (text buffer after : List ℕ) (w : TextWritten) → w ≡ text_written text (length buffer)
     → after ≡ filled (number_of w.outcome) w.length text buffer → Part after w.length
 buffer_part text buffer after w is filling =
-    let most = text_most text (length buffer) in
+    let most = most text (length buffer) (leb (length text) (length buffer)) (leb-true (length text) (length buffer)) in
     let count = ap (λ (x : TextWritten). x.length) is in
     let within : w.length ≤ length after =
     omega (

@@ -1,5 +1,7 @@
 // What is handed out to lent memory: a text to a buffer, and places to slices, each whole or not at all. Where a call is refused,
 // nothing is written.
+#![tactic(auto)]
+
 ghost use Rattle.std.specs.Prelude.{◌≤◌, ◌≡◌, length};
 ghost use Rattle.refusal.specs.Outcome.{number_of, refused_at};
 ghost use Rattle.lent.specs.Filled.{filled};

@@ -1,5 +1,6 @@
 // The limits of documents 01 and 02, each named once: a constant here, a definition in specs/. How many digits the largest number of a kind has
 // is among them, since the room for a printed text is computed from it.
+#![tactic(auto)]
 
 // D
 pub const TOTAL: u32 = 65536;

@@ -1,1 +1,3 @@
+#![tactic(auto)]
+
 // Proof-only: laws of lists. The modules are in specs/.

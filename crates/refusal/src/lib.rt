@@ -1,5 +1,7 @@
 // The refusals of document 01's table "Turned-back input", and after them those that document 02 adds: each has a number and the line at fault, counted from 1, or 0
 // where no line is at fault. Every public call answers an `Outcome`, alone or beside its figures.
+#![tactic(auto)]
+
 ghost use Rattle.std.specs.Prelude.{◌≡◌};
 ghost use Rattle.refusal.specs.Outcome.{number_of, line_of, refused_at};
 

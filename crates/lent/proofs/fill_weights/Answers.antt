@@ -1,4 +1,3 @@
-use Prim.Native.Nat.{◌-◌}
 use mathlib.Core.Path.{refl}
 use Rattle.lent.specs.Filled.{filling_none, filling_next, filling_done}
 use Rattle.lent.proofs.fill_weights.Goals as goal

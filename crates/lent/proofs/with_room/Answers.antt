@@ -2,4 +2,4 @@
 use Rattle.lent.proofs.with_room.Goals as goal
 
 pub returns-else-room : goal.returns-else-room
-returns-else-room c = rw (c.enum_told-1.given.1, c.if-room.false)
+returns-else-room c = rw (c.in-Accepted.is, c.if-room.false)
