@@ -3,35 +3,31 @@
 use Prim.Native.Nat.{◌*◌}
 use mathlib.Core.Path.{refl, subst, ◌∙◌}
 use native.Mathlib.Omega.{arith}
-use borrow.Author.Rules.{rules}
 use lib.ListN.{get_or, length-set}
 use Rattle.limits.specs.Limits.{row_limit}
 use Rattle.scores.specs.Clauses.{IsColumn}
 use Rattle.scores.specs.ColumnLaws.{column_filled, columns_filled, filled_elsewhere}
-use Rattle.scores.proofs.kept.keep_column.Statement.{statement}
-use Rattle.scores.proofs.kept.keep_column.Tie as tie
+use Rattle.scores.proofs.kept.keep_column.Goals as goal
 
-returns : tie.Need-returns
-returns c =
-    let start = c.before.before.before.before.before.before.before in
-    let a = start.args in
-    let asked = start.requires in
+pub returns-then-kept-slot : goal.returns-then-kept-slot
+returns-then-kept-slot c =
+    let a = c.args in
+    let asked = c.requires in
     let slot = get_or a.slots.now a.j 0 in
     record {
       slot_within = omega arith;
       column =
-          subst (λ k. IsColumn a.rows.now a.m a.n k (slot * row_limit) a.columns.now) c.if2.true
+          subst (λ k. IsColumn a.rows.now a.m a.n k (slot * row_limit) a.columns.now) c.if-kept-slot.true
           (asked.1.1.all.are slot (omega arith) (omega arith));
       keeping = asked.1.1;
       elsewhere = record { same_length = refl; same = λ p apart. refl };
     }
 
-returns-2 : tie.Need-returns-2
-returns-2 c =
-    let start = c.before.before.before.before.before.before.before.before.before in
-    let a = start.args in
-    let asked = start.requires in
-    let filled = c.before.before.fill-column.ensures in
+pub returns : goal.returns
+returns c =
+    let a = c.args in
+    let asked = c.requires in
+    let filled = c.fill_column.ensures in
     record {
       slot_within = asked.1.1.next_within;
       column = column_filled filled (omega (arith, asked.1.1.all.places, asked.0.rows_most, asked.1.1.next_within));
@@ -42,24 +38,3 @@ returns-2 c =
       };
       elsewhere = filled_elsewhere asked.0.rows_most filled;
     }
-
-pub keep-column-spec : {M : Type 1} → statement M
-keep-column-spec =
-    tie.close
-    (tie.spec
-    (λ c. search rules)
-    (λ c. search rules)
-    (λ c. search rules)
-    (λ c. search rules)
-    returns
-    (λ c. search rules)
-    (λ c κs. search rules)
-    (λ c. search rules)
-    (λ c. search rules)
-    (λ c. search rules)
-    (λ c. search rules)
-    (λ c. search rules)
-    (λ c. search rules)
-    (λ c. search rules)
-    (λ c. search rules)
-    returns-2)
