@@ -79,8 +79,8 @@ fn peak_at_first_write(mut child: Child, output: PipeReader, input: &[u8]) -> us
 fn start(name: &str, files: &[PathBuf]) -> (Child, PipeReader) {
     let (reader, mut writer) = pipe().expect("a pipe");
     writer.write_all(&[0; PIPE]).expect("a pipe with room");
-    let folder = Path::new(env!("CARGO_MANIFEST_DIR")).join("../target/bin");
-    let mut command = Command::new(folder.join(name));
+    let crates = Path::new(env!("CARGO_MANIFEST_DIR")).join("../crates");
+    let mut command = Command::new(crates.join(name).join("out").join(name));
     command.args(files).stdin(Stdio::piped()).stdout(writer);
     let child = command.spawn().expect("a program that runs");
     (child, reader)

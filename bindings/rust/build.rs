@@ -1,5 +1,4 @@
-//! Links the proved library, which `rt staticlib cundarivo` writes into the repository's target
-//! folder.
+//! Links the proved library, which `bindings/archive` writes into the repository's target folder.
 
 use std::path::Path;
 
@@ -9,9 +8,7 @@ fn main() {
     let archive = folder.join("libcundarivo.a");
     if !archive.exists() {
         let name = archive.display();
-        println!(
-            "cargo::warning={name} is missing: run 'rt staticlib cundarivo' in the repository"
-        );
+        println!("cargo::warning={name} is missing: run 'bindings/archive' in the repository");
     }
     println!("cargo::rustc-link-search=native={}", folder.display());
     println!("cargo::rustc-link-lib=static=cundarivo");

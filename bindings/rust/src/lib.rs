@@ -178,7 +178,7 @@
 //!
 //! # Building
 //!
-//! The package links `target/staticlib/libcundarivo.a` of the repository, which `rt staticlib cundarivo`
+//! The package links `target/staticlib/libcundarivo.a` of the repository, which `bindings/archive`
 //! writes, for x86-64.
 
 mod alerts;

@@ -1,5 +1,4 @@
-//! What the tests of the built programs share. `rt check` builds the programs to `target/bin` of the
-//! repository.
+//! What the tests of the built programs share. `rt ci` leaves each program in the folder `out` of its crate.
 //!
 //! - `process`: running a command to its end on input, whole, in pieces or endless.
 //! - `call`: running a program on its texts, by itself and as a command of `envelope`.
@@ -57,8 +56,8 @@ pub fn root() -> PathBuf {
 
 /// Where a program has been built.
 pub fn program(name: &str) -> PathBuf {
-    let path = root().join("target/bin").join(name);
-    assert!(path.exists(), "build it first: rt check {name}");
+    let path = root().join("crates").join(name).join("out").join(name);
+    assert!(path.exists(), "build it first: rt ci");
     path
 }
 

@@ -2,14 +2,17 @@
 
 use crate::folder::Folder;
 use crate::process::{Ended, command, end, write_to_run};
+use crate::root;
 use crate::script::starter;
 use std::fs;
 use std::os::unix::fs::PermissionsExt;
 use std::path::Path;
 use std::process::Command;
 
-/// Writes down that it was asked; its input would be in its messages, which it must be able to write.
-pub const PROVES: &str = "#!/bin/sh\necho \"rt $*\" >> runs\necho proving || exit 1; cat\n";
+/// Writes down that it was asked, in the repository's folder, and makes an archive; its input would be in its messages, which it
+/// must be able to write.
+pub const PROVES: &str = "#!/bin/sh\ncd ../..; echo \"rt $*\" >> runs\necho proving || exit 1; cat\n\
+    mkdir -p crates/cundarivo_c/out; echo archive > crates/cundarivo_c/out/libcundarivo_c.a\n";
 /// Builds a program that prints its arguments and its input; nothing where it finds what it left of an
 /// earlier build, as cargo does where no time of modification is a later one.
 pub const BUILDS: &str = "#!/bin/sh
@@ -20,9 +23,9 @@ mkdir -p target/release/.fingerprint
 printf '#!/bin/sh\\nprintf \"%%s.\" \"$@\"; /bin/cat\\n' > target/release/new
 chmod +x target/release/new; mv -f target/release/new target/release/envelope
 ";
-/// What the two are asked where something is built.
-pub const BUILD: &str =
-    "rt check cundarivo\nrt staticlib cundarivo\ncargo build --offline --release\n";
+/// What the two are asked: the first where crates have changed, the second where anything has.
+pub const ARCHIVE: &str = "rt lib\n";
+pub const COMMAND: &str = "cargo build --offline --release\n";
 
 pub struct Repository {
     pub folder: Folder,
@@ -40,6 +43,9 @@ impl Repository {
             repository.folder.write(name, "first\n");
         }
         copy_to_run(&starter(), &repository.path().join("envelope"));
+        for script in ["bindings/archive", "bindings/sources.sh"] {
+            copy_to_run(&root().join(script), &repository.path().join(script));
+        }
         repository.write_executable("path/rt", rt);
         repository.write_executable("path/cargo", cargo);
         repository
@@ -87,18 +93,28 @@ impl Repository {
         ended
     }
 
-    /// How often everything was built.
+    /// How often the command was built.
     pub fn runs(&self) -> usize {
-        let runs = String::from_utf8(self.folder.read("runs")).expect("runs in UTF-8");
-        let count = runs.lines().count() / BUILD.lines().count();
-        assert_eq!(runs, BUILD.repeat(count));
+        let runs = self.asked();
+        let count = runs.matches(COMMAND).count();
+        let commands = runs.replace(&[ARCHIVE, COMMAND].concat(), COMMAND);
+        assert_eq!(commands, COMMAND.repeat(count));
         count
+    }
+
+    /// How often the archive was made.
+    pub fn proofs(&self) -> usize {
+        self.asked().matches(ARCHIVE).count()
+    }
+
+    fn asked(&self) -> String {
+        String::from_utf8(self.folder.read("runs")).expect("runs in UTF-8")
     }
 }
 
 /// A file of each part whose contents count.
 pub const SOURCES: [&str; 4] = [
-    "crates/draw/src/main.rt",
+    "crates/cundarivo_c/src/lib.rt",
     "crates.txt",
     "bindings/rust/src/lib.rs",
     "cli/src/main.rs",

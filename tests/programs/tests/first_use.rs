@@ -3,7 +3,7 @@
 
 use programs::folder::Folder;
 use programs::process::{Ended, command, end, spawn};
-use programs::repository::{BUILDS, PROVES, Repository, SOURCES, set_mode};
+use programs::repository::{ARCHIVE, BUILDS, PROVES, Repository, SOURCES, set_mode};
 use programs::system::{kill_group, run_without_privileges};
 use std::fs::{self, File};
 use std::os::unix::fs::{chown, symlink};
@@ -30,7 +30,7 @@ fn the_first_start_builds_and_the_second_does_not() {
     let repository = Repository::new(PROVES, BUILDS);
     let first = repository.assert_runs();
     let progress = "envelope: proving and building, which may take minutes\n\
-                    proving\nproving\nbuilding\n";
+                    proving\nbuilding\n";
     assert_eq!(first.messages, progress);
     for _ in 0..3 {
         repository.run().assert_printed("draw.input\n", 0);
@@ -50,7 +50,7 @@ fn other_contents_build_again() {
     }
     for new in [
         "crates/new/specs/New.antt",
-        "crates/draw/must-fail/a b\n.edit",
+        "crates/cundarivo_c/must-fail/a b\n.edit",
         "bindings/c/new.h",
         "cli/.cargo/config.toml",
         "cli/src/target/mod.rs",
@@ -64,6 +64,39 @@ fn other_contents_build_again() {
         ["lib.rs", "moved.rs"].map(|name| repository.path().join("bindings/rust/src").join(name));
     fs::rename(from, to).expect("a file of ours");
     assert_builds(&repository, true, "another name");
+}
+
+/// The archive is that of the crates alone, and is made again where it is not the one that was made.
+#[test]
+fn only_other_crates_and_another_archive_prove_again() {
+    let repository = Repository::built();
+    assert_eq!(repository.proofs(), 1);
+    let mut proofs = 1;
+    for name in SOURCES {
+        repository.folder.write(name, "other\n");
+        assert_builds(&repository, true, name);
+        proofs += usize::from(name.starts_with("crates"));
+        assert_eq!(repository.proofs(), proofs, "{name}");
+    }
+    for name in ["libcundarivo.a", "contents"] {
+        for other in [None, Some(""), Some("other\n")] {
+            let path = repository.path().join("target/staticlib").join(name);
+            match other {
+                Some(content) => fs::write(path, content).expect("a file of ours"),
+                None => fs::remove_file(path).expect("a file of ours"),
+            }
+            repository
+                .folder
+                .write("cli/src/main.rs", format!("{name}, {other:?}\n"));
+            assert_builds(&repository, true, name);
+            proofs += 1;
+            assert_eq!(repository.proofs(), proofs, "{name}");
+            assert_eq!(
+                repository.folder.read("target/staticlib/libcundarivo.a"),
+                b"archive\n"
+            );
+        }
+    }
 }
 
 /// As long as the old one, and with its time of modification, as a copy that keeps its times has it.
@@ -199,7 +232,7 @@ fn meddling(tool: &str, with: &str) -> String {
 #[test]
 fn a_source_that_changes_during_a_build_builds_again() {
     for change in [
-        "echo changed >> crates/draw/src/main.rt",
+        "echo changed >> crates/cundarivo_c/src/lib.rt",
         "echo changed >> cli/src/main.rs",
         "echo > crates/new.rt",
         "rm crates.txt; echo > crates.txt",
@@ -268,8 +301,9 @@ fn starts_at_the_same_time_build_once() {
 }
 
 /// A prover that tells when it runs and goes on when it may.
-const WAITS: &str = "#!/bin/sh\necho \"rt $*\" >> runs\n\
-    if [ ! -e waited ]; then >waited; while [ ! -e go ]; do sleep 0.01; done; fi\n";
+const WAITS: &str = "#!/bin/sh\ncd ../..; echo \"rt $*\" >> runs\n\
+    if [ ! -e waited ]; then >waited; while [ ! -e go ]; do sleep 0.01; done; fi\n\
+    mkdir -p crates/cundarivo_c/out; echo archive > crates/cundarivo_c/out/libcundarivo_c.a\n";
 
 #[test]
 fn a_killed_start_leaves_nothing_that_runs() {
@@ -293,31 +327,28 @@ fn a_start_waits_for_what_a_killed_one_left_running() {
     child.wait().expect("an ended child");
     let next = start(&repository);
     thread::sleep(Duration::from_millis(200));
-    assert_eq!(repository.folder.read("runs"), b"rt check cundarivo\n");
+    assert_eq!(repository.folder.read("runs"), ARCHIVE.as_bytes());
     repository.folder.write("go", "");
     assert!(next.wait_with_output().expect("an end").status.success());
     assert_eq!(repository.runs(), 1);
 }
 
-/// A step of a build that fails: `rt check`, `rt staticlib`, `cargo build`, and one that builds nothing.
+/// A step of a build that fails: `rt lib`, which may have made an archive or say that it has, and `cargo build`, which may say that it
+/// has built something.
 #[test]
 fn what_is_not_proved_and_built_does_not_run() {
-    let refuses = |word: &str| format!("{PROVES}[ \"$1\" != {word} ]\n");
+    let refuses = format!("{PROVES}exit 1\n");
     let fails = format!("{BUILDS}exit 1\n");
     for (rt, cargo, words) in [
-        (refuses("check").as_str(), BUILDS, "not proved"),
-        (
-            &refuses("staticlib"),
-            BUILDS,
-            "rt staticlib cundarivo has failed",
-        ),
+        (refuses.as_str(), BUILDS, "not proved"),
+        ("#!/bin/sh\n", BUILDS, "not proved"),
         (PROVES, &fails, "cargo build has failed"),
         (PROVES, "#!/bin/sh\n", "cargo build has not built "),
     ] {
         let repository = Repository::built();
         repository.write_executable("path/rt", rt);
         repository.write_executable("path/cargo", cargo);
-        repository.folder.write("cli/src/main.rs", "other\n");
+        repository.folder.write("crates.txt", "other\n");
         for _ in 0..2 {
             let ended = repository.run();
             assert_eq!((ended.text(), ended.status), ("", 2));
@@ -353,7 +384,7 @@ fn sources_taken_back_run_at_once() {
     let repository = Repository::built();
     repository.write_executable("path/rt", "#!/bin/sh\nexit 1\n");
     repository.folder.write("crates.txt", "other\n");
-    repository.run().assert_failed("envelope: not proved\n");
+    repository.run().assert_failed("envelope: not proved");
     repository.folder.write("crates.txt", "first\n");
     repository.run().assert_printed("draw.input\n", 0);
 }
@@ -467,7 +498,7 @@ fn no_other_variable_reaches_a_build() {
         );
         assert!(name != "USER" || value == "somebody", "{line}");
     }
-    assert_eq!(variables.matches("USER=").count(), 3);
+    assert_eq!(variables.matches("USER=").count(), 2);
 }
 
 /// Every folder and file below this one, without leave to write.
@@ -544,7 +575,7 @@ fn links_are_followed() {
     assert_builds(&repository, true, "to another file");
     symlink("nowhere", repository.path().join("cli/src/.#main.rs")).expect("a link");
     assert_builds(&repository, false, "to nowhere");
-    symlink("..", repository.path().join("crates/draw/loop")).expect("a link");
+    symlink("..", repository.path().join("crates/cundarivo_c/loop")).expect("a link");
     let ended = repository.run();
     assert_eq!((ended.text(), ended.status), ("", 2));
     let words = "envelope: cannot list the sources\n";

@@ -154,6 +154,7 @@ fn no_variable_of_the_caller_changes_anything() {
         ("self", "/none"),
         ("program", "/bin/false"),
         ("stamps", "/none"),
+        ("parts", "/none"),
         ("callers_path", "/none"),
         ("UID", "1"),
         ("BASH_SOURCE", "/none"),

@@ -1,6 +1,6 @@
 //! `./test --changed` tries the edits of the crates that changed since a run passed and of those that
-//! cite them, and tests the packages in two chains beside each other. The `rt` and `cargo` here write
-//! down what they are asked and do nothing else.
+//! cite them, and tests the packages in two chains beside each other. The whole gate ends as `rt ci` did.
+//! The `rt` and `cargo` here write down what they are asked and do nothing else.
 
 use programs::folder::Folder;
 use programs::process::{Ended, command, end, redirected, spawn, write_to_run};
@@ -14,14 +14,19 @@ use std::process::{Command, Stdio};
 use std::thread;
 use std::time::{Duration, Instant};
 
-/// Writes down its arguments and, where it tries edits, which crates have some in the folder that it
-/// runs in; as the whole prover it says that 7 passed. Fails where a line of the file `broken` says so, and
-/// changes a source where one called `meddling` is there.
+/// Writes down its arguments; as the whole prover it says what `told` has and that 7 passed, as a program it prints what its
+/// argument names. Fails where a line of the file `broken` says so, and changes a source where one called `meddling` is there.
 const RT: &str = "#!/bin/sh\nfolder=\"${0%/*}/..\"\necho \"rt $*\" >> \"$folder/asked\"\n\
-    if [ \"$1\" = ci ]; then echo \"7 passed, 0 failed\"; fi\n\
-    if [ \"$1\" = must-fail ]; then echo \"edits in\" crates/*/must-fail >> \"$folder/asked\"; fi\n\
+    if [ \"$1\" = ci ]; then cat \"$folder/told\"; echo \"7 passed, 0 failed\"; fi\n\
     ! grep -qxF -e \"$*\" \"$folder/broken\" 2>/dev/null || exit 1\n\
+    if [ \"$1\" = run ]; then cat \"$3\"; fi\n\
     if [ -e \"$folder/meddling\" ]; then echo >> \"$folder/crates/top/src/lib.rt\"; fi\n";
+
+/// What `rt ci` tells of edits, before and after their numbers.
+const TOLD: [&str; 2] = [
+    "rt: ok; handles allowed: none; must-fail edits: ",
+    "; done in this run: 2 of the 5 proofs\n",
+];
 
 /// Writes down the package whose folder it runs in, its arguments and what its input is; prints two lines,
 /// between which the other side has time for one; fails where a line of `broken` says so. In the packages
@@ -39,13 +44,16 @@ const TESTS: &str = "test --offline --release --quiet";
 const OTHERS: [&str; 4] = ["tests/outside", "tests/programs", "bindings/rust", "cli"];
 const LONG: &str = "tests/differential";
 
-/// Does the same, in the folder of the project.
+/// Do the same, in the folder of the project: the command, and what makes the archive.
 const COMMAND: &str = "#!/bin/sh\necho \"./envelope $*\" >> asked\n\
     ! grep -qxF -e \"$*\" broken 2>/dev/null\n";
+const ARCHIVE: &str = "#!/bin/sh\necho \"bindings/archive $1\" >> asked\n\
+    ! grep -qxF -e \"archive $1\" broken 2>/dev/null\n";
 
-/// Four crates: `above` cites `below`, `top` cites `above`, and `alone` none. `above` has no edits.
+/// Four crates: `above` cites `below`, `top` cites `above`, and `alone` none. `above` has no edits, `top` is a static library, and
+/// `alone` a program.
 const CRATES: &str =
-    "# One over the other\nbelow:\nabove: below\ntop: above\n\n# Another\nalone:\n";
+    "# One over the other\nbelow:\nabove: below\ntop staticlib: above\n\n# Another\nalone:\n";
 
 struct Project {
     folder: Folder,
@@ -59,9 +67,19 @@ impl Project {
         let folder = &project.folder;
         copy_to_run(&root().join("test"), &folder.path().join("test"));
         folder.write("crates.txt", CRATES);
-        for name in ["below", "above", "top", "alone"] {
+        for name in ["below", "above", "top"] {
             folder.write(format!("crates/{name}/src/lib.rt"), "// A crate.\n");
         }
+        for (name, content) in [
+            ("src/main.rt", "// A crate.\n"),
+            ("args", "text\n"),
+            ("data/text", "printed\n"),
+            ("stdin", ""),
+            ("stdout", "printed\n"),
+        ] {
+            folder.write(format!("crates/alone/{name}"), content);
+        }
+        folder.write("told", TOLD.concat().replace(": ;", ": 5 refused;"));
         for name in ["below", "top", "alone"] {
             folder.write(format!("crates/{name}/must-fail/wrong.edit"), "");
         }
@@ -69,6 +87,7 @@ impl Project {
             ("path/rt", RT),
             ("path/cargo", CARGO),
             ("envelope", COMMAND),
+            ("bindings/archive", ARCHIVE),
             ("bindings/c/test", "#!/bin/sh\n"),
         ] {
             let file = write_to_run(|| folder.write(name, content));
@@ -112,23 +131,15 @@ impl Project {
         assert!(!last.contains("0 failed"));
         assert_eq!(ended.status, 0);
         let asked = self.asked();
-        let first = format!("rt fmt --check\ntests/documents: {TESTS}\nrt check\n");
+        let first = format!("rt version\ntests/documents: {TESTS}\nrt all check\n");
         assert!(asked.starts_with(&first), "{asked}");
-        let built = "rt staticlib cundarivo\n./envelope --version\n";
+        let built = "rt run -- data/text\nbindings/archive \n./envelope --version\n";
         let (_, tested) = asked.split_once(built).expect("a library");
         assert_packages_tested(tested);
-        let after = |start| {
-            asked
-                .lines()
-                .filter_map(move |line: &str| line.strip_prefix(start))
-        };
-        let named: Vec<&str> = after("rt must-fail ").collect();
-        let mut tried: Vec<&str> = named.iter().flat_map(|names| names.split(' ')).collect();
-        tried.sort();
-        // No other crate's edits are there to be tried.
-        let there = after("edits in ").flat_map(|paths| paths.split(' '));
-        let there: Vec<&str> = there.filter_map(|path| path.split('/').nth(1)).collect();
-        assert_eq!(there, tried);
+        let lines = asked.lines();
+        let named: Vec<&str> = lines
+            .filter_map(|line| line.strip_prefix("rt must-fail "))
+            .collect();
         named.join("; ")
     }
 
@@ -161,11 +172,13 @@ fn the_edits_of_what_changed_and_of_what_cites_it_are_tried() {
     assert_eq!(project.tried(), "top");
     project.change("alone/must-fail/more.edit", "");
     assert_eq!(project.tried(), "alone");
+    project.change("alone/out/alone", "built");
+    assert_eq!(project.tried(), "");
     project.change("top/specs/New.antt", "");
     assert_eq!(project.tried(), "top");
     project.folder.write(
         "crates.txt",
-        CRATES.replace("top: above", "top: below above"),
+        CRATES.replace("lib: above", "lib: below above"),
     );
     assert_eq!(project.tried(), "top");
     assert_eq!(project.tried(), "");
@@ -175,12 +188,13 @@ fn the_edits_of_what_changed_and_of_what_cites_it_are_tried() {
 fn what_failed_is_tried_again() {
     let project = Project::new();
     assert_eq!(project.tried(), "below top alone");
-    project.change("alone/src/lib.rt", "// Another.\n");
+    project.change("alone/src/main.rt", "// Another.\n");
     for broken in [
-        "fmt --check",
-        "check",
+        "version",
+        "all check",
         "must-fail alone",
-        "staticlib cundarivo",
+        "run -- data/text",
+        "archive ",
         "--version",
         "tests/documents: test --offline --release --quiet",
         "cli: test --offline --release --quiet",
@@ -199,6 +213,32 @@ fn what_failed_is_tried_again() {
     }
     project.folder.write("broken", "nothing");
     assert_eq!(project.tried(), "alone");
+}
+
+#[test]
+fn a_program_that_prints_something_else_fails() {
+    let project = Project::new();
+    project.change("alone/stdout", "other\n");
+    let ended = project.run();
+    assert!(
+        ended.text().ends_with("\nFAILED: rt run alone\n"),
+        "{}",
+        ended.text()
+    );
+    assert_eq!(ended.status, 1);
+}
+
+/// Its folder would be proved by nothing.
+#[test]
+fn a_crate_that_is_not_listed_fails() {
+    let project = Project::new();
+    for name in ["al", "alone_", "lon"] {
+        project.change(&format!("{name}/src/lib.rt"), "");
+        let ended = project.run();
+        let line = format!("FAILED: crate {name} is not listed in crates.txt\n");
+        assert_eq!((ended.text(), ended.status), (line.as_str(), 1));
+        std::fs::remove_dir_all(project.folder.path().join("crates").join(name)).expect("a folder");
+    }
 }
 
 /// What is written to a source while the tests run has not passed.
@@ -286,13 +326,62 @@ fn the_whole_gate_ends_as_the_prover_did() {
     );
     assert_eq!(ended.status, 0);
     let asked = project.asked();
-    let built = "rt ci\nrt staticlib cundarivo\n./envelope --version\n";
+    let built = "rt ci\nbindings/archive --after\n./envelope --version\n";
     let (_, tested) = asked.split_once(built).expect("a library");
     assert_packages_tested(tested);
     let inputs = String::from_utf8(project.folder.read("inputs")).expect("a text");
     for package in OTHERS.iter().chain(&[LONG]) {
         let none = format!("{package}: /dev/null\n");
         assert_eq!(inputs.matches(&none).count(), 1, "{inputs}");
+    }
+}
+
+/// Edits that cannot be applied fail the gate, and so does a prover that does not say how many there are.
+#[test]
+fn bad_edits_fail_the_whole_gate() {
+    let project = Project::new();
+    let [before, after] = TOLD;
+    for (edits, passes) in [
+        ("5 refused", true),
+        ("5 refused, 1 of them only by a limit", true),
+        ("5 refused, 0 bad", true),
+        ("5 refused, 1 bad", false),
+        ("5 refused, 1 of them only by a limit, 20 bad", false),
+    ] {
+        project
+            .folder
+            .write("told", format!("{before}{edits}{after}"));
+        let ended = end(&mut project.command(&[]), b"");
+        let last = ended.text().lines().last().expect("a line");
+        let begins = ["FAILED: rt ci has bad edits: ", "7 passed, 0 failed"][usize::from(passes)];
+        assert!(last.starts_with(begins), "{last}");
+        assert_eq!(ended.status, i32::from(!passes));
+    }
+    project.folder.write("told", "");
+    let ended = end(&mut project.command(&[]), b"");
+    let last = "\nFAILED: rt ci has no line rt: ok\n";
+    assert!(ended.text().ends_with(last), "{}", ended.text());
+}
+
+/// Libraries that `rt ci` left would stand in the way of those of its next run; those that a check left stay.
+#[test]
+fn the_whole_gate_takes_away_what_rt_ci_left() {
+    let project = Project::new();
+    project.change("below/out/rlib/below.rlib/format", "");
+    project.change("above/out/rlib/above.rlib/format", "");
+    project.change("above/out/rlib/stamp", "");
+    project.change("alone/out/alone", "");
+    assert_eq!(end(&mut project.command(&[]), b"").status, 0);
+    for (name, stays) in [
+        ("below/out/rlib", false),
+        ("above/out/rlib/above.rlib/format", true),
+        ("alone/out/alone", true),
+    ] {
+        assert_eq!(
+            project.folder.has(&format!("crates/{name}")),
+            stays,
+            "{name}"
+        );
     }
 }
 

@@ -54,7 +54,7 @@ fn no_variable_of_the_caller_reaches_a_test() {
     let first = repository.folder.write("first", "exit 0\n");
     let ended = end(command.env("BASH_ENV", first), b"");
     assert!(
-        ended.text().ends_with("FAILED: rt fmt --check\n"),
+        ended.text().ends_with("FAILED: rt version\n"),
         "{}",
         ended.text()
     );
