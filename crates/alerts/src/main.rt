@@ -7,9 +7,9 @@ use program_io::streams::{TEXT_READ, read_file, read_standard_input, write_outpu
 const NAME: [u8; 6] = *b"alerts";
 
 // Reads the readings, and writes the output of the program.
-fn try_on_input(reference: &[u8], record: &[u8], settings: &[u8]) {
+fn try_on_input(rt: &HostRuntime, reference: &[u8], record: &[u8], settings: &[u8]) {
     let mut readings = [0u8; TEXT_READ];
-    let readings_read = read_standard_input(&NAME, &mut readings);
+    let readings_read = read_standard_input(rt, &NAME, &mut readings);
     if !readings_read.whole {
         return;
     }
@@ -23,25 +23,25 @@ fn try_on_input(reference: &[u8], record: &[u8], settings: &[u8]) {
         &mut output,
     );
     let length = answer.length;
-    write_output(&NAME, &output[..length]);
+    write_output(rt, &NAME, &output[..length]);
 }
 
-fn main() {
-    if !arguments(&NAME, 3) {
+fn main(rt: HostRuntime) {
+    if !arguments(&rt, &NAME, 3) {
         return;
     }
     let mut reference = [0u8; TEXT_READ];
-    let reference_read = read_file(&NAME, 1, &mut reference);
+    let reference_read = read_file(&rt, &NAME, 1, &mut reference);
     if !reference_read.whole {
         return;
     }
     let mut record = [0u8; TEXT_READ];
-    let record_read = read_file(&NAME, 2, &mut record);
+    let record_read = read_file(&rt, &NAME, 2, &mut record);
     if !record_read.whole {
         return;
     }
     let mut settings = [0u8; TEXT_READ];
-    let settings_read = read_file(&NAME, 3, &mut settings);
+    let settings_read = read_file(&rt, &NAME, 3, &mut settings);
     if !settings_read.whole {
         return;
     }
@@ -49,6 +49,7 @@ fn main() {
     let record_length = record_read.length;
     let settings_length = settings_read.length;
     try_on_input(
+        &rt,
         &reference[..reference_length],
         &record[..record_length],
         &settings[..settings_length],

@@ -1,10 +1,13 @@
-// What the programs that run stored cases share: numbers of the input, numbers of a digest, numbers of the output. What lies
+// What the programs that run stored cases share: the input and its numbers, numbers of a digest, numbers of the output. What lies
 // past the input reads as 0.
+#![tactic(auto)]
+
 ghost use Rattle.std.specs.Prelude.{◌≡◌, ◌<◌, nat_abs};
 ghost use Rattle.case_io.specs.Numbers.{byte_at, four_bytes};
 ghost use Rattle.case_io.specs.Clauses.{TwoBytes, Least, Raised};
+ghost use Rattle.io.specs.Counts.{IsPrefixLen};
 
-use libc::STDOUT_FILENO;
+use std::io::{Print, Read, Stdout};
 
 // The byte at this index.
 pub fn byte_at(text: &[u8], at: usize) -> u8
@@ -48,8 +51,22 @@ pub fn raised(x: i64, most: i64) -> u64
     (x + most) as u64
 }
 
+// Reads until the slice is full, the input ends or a read fails, and answers how many bytes.
+pub fn read_full<R: Read>(input: &mut R, text: &mut [u8]) -> usize
+    ensures { IsPrefixLen result text.new }
+{
+    let mut at = 0;
+    while at < text.len() {
+        match input.read(&mut text[at..]) {
+            Ok(0) | Err(_) => return at,
+            Ok(count) => at += count,
+        }
+    }
+    at
+}
+
 // Writes a number and the byte after it.
-pub fn print_number(number: u64, end: u8) {
-    io::print_decimal(STDOUT_FILENO, number);
-    io::write_all(STDOUT_FILENO, &[end]);
+pub fn print_number(stdout: &Stdout, number: u64, end: u8) {
+    let _ = stdout.print(number);
+    let _ = stdout.write_all(&[end]);
 }

@@ -6,12 +6,12 @@ use program_io::streams::{TEXT_READ, read_standard_input, write_output};
 
 const NAME: [u8; 4] = *b"draw";
 
-fn main() {
-    if !arguments(&NAME, 0) {
+fn main(rt: HostRuntime) {
+    if !arguments(&rt, &NAME, 0) {
         return;
     }
     let mut reference = [0u8; TEXT_READ];
-    let reference_read = read_standard_input(&NAME, &mut reference);
+    let reference_read = read_standard_input(&rt, &NAME, &mut reference);
     if !reference_read.whole {
         return;
     }
@@ -19,5 +19,5 @@ fn main() {
     let mut output = [0u8; OUTPUT_MOST];
     let answer = program_draw::draw(&reference[..reference_length], &mut output);
     let length = answer.length;
-    write_output(&NAME, &output[..length]);
+    write_output(&rt, &NAME, &output[..length]);
 }

@@ -3,12 +3,15 @@
 ghost use Rattle.std.specs.Prelude.{◌+◌, ◌≤◌, ◌<◌, ◌≡◌, length, take};
 
 use ball::Ball;
-use case_io::{byte_at, four_bytes, least, print_number, raised, two_bytes};
+use case_io::{byte_at, four_bytes, least, print_number, raised, read_full, two_bytes};
 use checking::Checked;
 use drawing::Drawing;
-use libc::STDIN_FILENO;
 use limits::{CENTRE_MOST, CHANNELS, PLACES, ROWS};
 use refusal::Outcome;
+use std::io::Stdout;
+
+// The most bytes of the input.
+const INPUT_MOST: usize = 65_536;
 
 const DRAW: u8 = 0;
 
@@ -92,34 +95,34 @@ fn weights_digest(weights: [u32; ROWS]) -> u64 {
 }
 
 // The line of a case.
-fn print_line(outcome: Outcome, ball: Ball, moves: u32, weights_digest: u64) {
-    print_number(refusal::number_of(outcome) as u64, b',');
-    print_number(refusal::line_of(outcome) as u64, b',');
-    print_number(ball.settled as u64, b',');
-    print_number(moves as u64, b',');
-    print_number(ball.scaled_squared_radius, b',');
-    print_number(ball.scaled_lower_bound, b',');
+fn print_line(stdout: &Stdout, outcome: Outcome, ball: Ball, moves: u32, weights_digest: u64) {
+    print_number(stdout, refusal::number_of(outcome) as u64, b',');
+    print_number(stdout, refusal::line_of(outcome) as u64, b',');
+    print_number(stdout, ball.settled as u64, b',');
+    print_number(stdout, moves as u64, b',');
+    print_number(stdout, ball.scaled_squared_radius, b',');
+    print_number(stdout, ball.scaled_lower_bound, b',');
     let centre = ball.scaled_centre;
-    print_number(centre_digest(centre), b',');
-    print_number(weights_digest, b'\n');
+    print_number(stdout, centre_digest(centre), b',');
+    print_number(stdout, weights_digest, b'\n');
 }
 
-fn print_drawing(drawing: Drawing) {
+fn print_drawing(stdout: &Stdout, drawing: Drawing) {
     let outcome = drawing.outcome;
     let ball = drawing.ball;
     let weights = drawing.weights;
     let digest = weights_digest(weights);
-    print_line(outcome, ball, drawing.moves, digest);
+    print_line(stdout, outcome, ball, drawing.moves, digest);
 }
 
-fn print_check(checked: Checked) {
+fn print_check(stdout: &Stdout, checked: Checked) {
     let outcome = checked.outcome;
     let ball = checked.ball;
-    print_line(outcome, ball, 0, 0);
+    print_line(stdout, outcome, ball, 0, 0);
 }
 
 // Runs the case at this byte, writes its line, and answers where the next one starts.
-fn run_case(text: &[u8], at: usize) -> usize
+fn run_case(stdout: &Stdout, text: &[u8], at: usize) -> usize
     requires { at < 65536 }
     ensures { at < result }
 {
@@ -131,27 +134,30 @@ fn run_case(text: &[u8], at: usize) -> usize
     let lent = read_rows(text, at + 10, places, &mut rows);
     let end = at + 10 + 2 * places;
     if byte_at(text, at) == DRAW {
-        print_drawing(drawing::draw(&rows[..lent], m, n, budget));
+        print_drawing(stdout, drawing::draw(&rows[..lent], m, n, budget));
         return end;
     }
     let count = two_bytes(text, end) as usize;
     let mut weights = [0u32; WEIGHTS];
     let given = read_weights(text, end + 2, count, &mut weights);
-    print_check(checking::check(&rows[..lent], m, n, &weights[..given]));
+    print_check(
+        stdout,
+        checking::check(&rows[..lent], m, n, &weights[..given]),
+    );
     end + 2 + 4 * count
 }
 
-fn run_all(text: &[u8])
+fn run_all(stdout: &Stdout, text: &[u8])
     requires { length text.now ≤ 65536 }
 {
     let mut at = 0;
     while at < text.len() && text[at] != END {
-        at = run_case(text, at);
+        at = run_case(stdout, text, at);
     }
 }
 
-fn main() {
-    let mut buffer = io::large_buffer();
-    let n = io::read_full(STDIN_FILENO, &mut buffer);
-    run_all(&buffer[..n]);
+fn main(rt: HostRuntime) {
+    let mut buffer = [0u8; INPUT_MOST];
+    let n = read_full(&mut rt.stdin(), &mut buffer);
+    run_all(&rt.stdout(), &buffer[..n]);
 }

@@ -6,22 +6,22 @@ use program_judge::OUTPUT_MOST;
 
 const NAME: [u8; 5] = *b"judge";
 
-fn main() {
-    if !arguments(&NAME, 2) {
+fn main(rt: HostRuntime) {
+    if !arguments(&rt, &NAME, 2) {
         return;
     }
     let mut reference = [0u8; TEXT_READ];
-    let reference_read = read_file(&NAME, 1, &mut reference);
+    let reference_read = read_file(&rt, &NAME, 1, &mut reference);
     if !reference_read.whole {
         return;
     }
     let mut record = [0u8; TEXT_READ];
-    let record_read = read_file(&NAME, 2, &mut record);
+    let record_read = read_file(&rt, &NAME, 2, &mut record);
     if !record_read.whole {
         return;
     }
     let mut readings = [0u8; TEXT_READ];
-    let readings_read = read_standard_input(&NAME, &mut readings);
+    let readings_read = read_standard_input(&rt, &NAME, &mut readings);
     if !readings_read.whole {
         return;
     }
@@ -36,5 +36,5 @@ fn main() {
         &mut output,
     );
     let length = answer.length;
-    write_output(&NAME, &output[..length]);
+    write_output(&rt, &NAME, &output[..length]);
 }

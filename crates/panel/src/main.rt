@@ -6,17 +6,17 @@ use program_panel::OUTPUT_MOST;
 
 const NAME: [u8; 5] = *b"panel";
 
-fn main() {
-    if !arguments(&NAME, 1) {
+fn main(rt: HostRuntime) {
+    if !arguments(&rt, &NAME, 1) {
         return;
     }
     let mut reference = [0u8; TEXT_READ];
-    let reference_read = read_file(&NAME, 1, &mut reference);
+    let reference_read = read_file(&rt, &NAME, 1, &mut reference);
     if !reference_read.whole {
         return;
     }
     let mut record = [0u8; TEXT_READ];
-    let record_read = read_standard_input(&NAME, &mut record);
+    let record_read = read_standard_input(&rt, &NAME, &mut record);
     if !record_read.whole {
         return;
     }
@@ -29,5 +29,5 @@ fn main() {
         &mut output,
     );
     let length = answer.length;
-    write_output(&NAME, &output[..length]);
+    write_output(&rt, &NAME, &output[..length]);
 }

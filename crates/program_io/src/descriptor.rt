@@ -1,7 +1,11 @@
-// A descriptor read into a lent slice.
-ghost use Rattle.std.specs.Prelude.{◌≡◌, ◌+◌, ◌^◌, ◌<◌, nat_abs};
+// An open file or stream read into a lent slice.
+ghost use Rattle.std.specs.Prelude.{◌≡◌, ◌+◌, ◌^◌, ◌<◌, nat_abs, length};
+ghost use Rattle.std.specs.Io.{ReadsAtMost};
 ghost use Rattle.program_io.specs.Reading.{text_read, not_read, after_read};
-ghost use Rattle.program_io.specs.Clauses.{Read};
+ghost use Rattle.program_io.specs.Clauses.{Moved, Read};
+
+use std::io;
+use std::io::{Error, ErrorKind};
 
 // Whether all that there is was read, up to the places of the slice, and how many bytes that are: none where a read failed.
 #[derive(Drop)]
@@ -44,13 +48,43 @@ fn after_read(got: isize, at: usize) -> AfterRead
     AfterRead::More(at + got as usize)
 }
 
-// Reads until the slice is full, the input ends or a read fails.
-pub fn read_descriptor(descriptor: i32, text: &mut [u8]) -> TextRead
+// Reads once, again where a signal interrupts it.
+fn read_again<D: io::Read>(descriptor: &mut D, text: &mut [u8]) -> io::Result<usize>
+    ensures { ReadsAtMost result text.new }
+{
+    for _ in 0..u64::MAX {
+        match descriptor.read(text) {
+            Err(error) if error.kind() == ErrorKind::Interrupted => {}
+            answer => return answer,
+        }
+    }
+    Err(Error::from(ErrorKind::Interrupted))
+}
+
+// Reads once, and answers how many bytes, or -1 where that fails, for the reason that is kept.
+fn read_once<D: io::Read>(descriptor: &mut D, text: &mut [u8], failure: &mut Option<Error>) -> isize
+    ensures { Moved (length text.new) result }
+{
+    match read_again(descriptor, text) {
+        Ok(count) => count as isize,
+        Err(error) => {
+            *failure = Some(error);
+            -1
+        }
+    }
+}
+
+// Reads until the slice is full, the input ends or a read fails, for the reason that is kept.
+pub fn read_descriptor<D: io::Read>(
+    descriptor: &mut D,
+    text: &mut [u8],
+    failure: &mut Option<Error>,
+) -> TextRead
     ensures { Read result text.new }
 {
     let mut at = 0;
     while at < text.len() {
-        let got = libc::read(descriptor, &mut text[at..]);
+        let got = read_once(descriptor, &mut text[at..], failure);
         match after_read(got, at) {
             AfterRead::Done(answer) => return answer,
             AfterRead::More(next) => at = next,

@@ -3,12 +3,12 @@
 // TOC 2000 is read, 2001 gives 4, the 256th row is read.
 ghost use Rattle.std.specs.Prelude.{◌+◌, ◌≤◌, ◌<◌, length};
 
-use case_io::{byte_at, least, print_number, raised, two_bytes};
+use case_io::{byte_at, least, print_number, raised, read_full, two_bytes};
 use channel::Code;
-use libc::STDIN_FILENO;
 use limits::{CHANNELS, COORDINATE_MOST, PLACES};
 use reference::read::{Reference, read};
 use reference_label::{Part, label_part};
+use std::io::Stdout;
 
 // The most bytes of the input.
 const INPUT_MOST: usize = 200_000;
@@ -59,22 +59,22 @@ fn codes_digest(codes: [Code; CHANNELS]) -> u64 {
 }
 
 // The line of a case.
-fn print_line(reference: Reference, table: u64, label: Part) {
+fn print_line(stdout: &Stdout, reference: Reference, table: u64, label: Part) {
     let outcome = reference.outcome;
     let codes = reference.codes;
-    print_number(refusal::number_of(outcome) as u64, b',');
-    print_number(refusal::line_of(outcome) as u64, b',');
-    print_number(reference.m as u64, b',');
-    print_number(reference.n as u64, b',');
-    print_number(table, b',');
-    print_number(codes_digest(codes), b',');
-    print_number(label.start as u64, b',');
-    print_number(label.length as u64, b'\n');
+    print_number(stdout, refusal::number_of(outcome) as u64, b',');
+    print_number(stdout, refusal::line_of(outcome) as u64, b',');
+    print_number(stdout, reference.m as u64, b',');
+    print_number(stdout, reference.n as u64, b',');
+    print_number(stdout, table, b',');
+    print_number(stdout, codes_digest(codes), b',');
+    print_number(stdout, label.start as u64, b',');
+    print_number(stdout, label.length as u64, b'\n');
 }
 
 // Reads a text into so many places of a table, writes the line of the case, and looks up the label of the last row, or of the
 // first where the text is refused.
-fn run_text(text: &[u8], places: usize) {
+fn run_text(stdout: &Stdout, text: &[u8], places: usize) {
     let mut table = [UNTOUCHED; PLACES];
     let lent = least(places, PLACES);
     let reference = read(text, &mut table[..lent]);
@@ -82,11 +82,11 @@ fn run_text(text: &[u8], places: usize) {
     let m = reference.m;
     let row = if m == 0 { 1 } else { m };
     let label = label_part(text, row);
-    print_line(reference, digest, label);
+    print_line(stdout, reference, digest, label);
 }
 
 // Runs the case at this byte and answers where the next one starts.
-fn run_case(input: &[u8], at: usize) -> usize
+fn run_case(stdout: &Stdout, input: &[u8], at: usize) -> usize
     requires { (at < length input.now) × (length input.now ≤ 200000) }
     ensures { at < result }
 {
@@ -98,21 +98,21 @@ fn run_case(input: &[u8], at: usize) -> usize
     }
     let rest = &input[start..];
     let length = least(stated, rest.len());
-    run_text(&rest[..length], places);
+    run_text(stdout, &rest[..length], places);
     start + stated
 }
 
-fn run_all(input: &[u8])
+fn run_all(stdout: &Stdout, input: &[u8])
     requires { length input.now ≤ 200000 }
 {
     let mut at = 0;
     while at < input.len() {
-        at = run_case(input, at);
+        at = run_case(stdout, input, at);
     }
 }
 
-fn main() {
+fn main(rt: HostRuntime) {
     let mut buffer = [0u8; INPUT_MOST];
-    let n = io::read_full(STDIN_FILENO, &mut buffer);
-    run_all(&buffer[..n]);
+    let n = read_full(&mut rt.stdin(), &mut buffer);
+    run_all(&rt.stdout(), &buffer[..n]);
 }
