@@ -45,7 +45,7 @@ pub fn edits(text: &str) -> BTreeSet<(String, String)> {
 pub fn promises(text: &str) -> BTreeSet<String> {
     let words = quoted(text).into_iter().map(|(_, word)| word);
     words
-        .filter(|word| word.starts_with("promise-"))
+        .filter(|word| word.starts_with("promise_"))
         .map(str::to_string)
         .collect()
 }
@@ -110,19 +110,18 @@ pub fn items(text: &str) -> BTreeSet<Vec<String>> {
         .collect()
 }
 
-/// The files of definitions that a file of definitions imports, as crate and name.
-pub fn imports(owner: &str, source: &str) -> BTreeSet<(String, String)> {
+/// The files of definitions that a file of definitions imports, as crate and name. What the prover declares of types and of contracts
+/// is no file.
+pub fn imports(source: &str) -> BTreeSet<(String, String)> {
     let lines = source
         .lines()
-        .filter_map(|line| line.strip_prefix("use Rattle·"));
+        .filter_map(|line| line.strip_prefix("use Rattle."));
     lines
         .filter_map(|line| {
-            let (from, rest) = line
-                .split_once(".specs.")
-                .or_else(|| line.split_once("·specs.specs."))?;
+            let (from, rest) = line.split_once(".specs.")?;
             let file = rest.split(['.', ' ']).next()?;
-            let from = if from.contains('·') { owner } else { from };
-            (file != "declared").then(|| (from.to_string(), file.to_string()))
+            let made = ["declared", "contracts"].contains(&file);
+            (!made).then(|| (from.to_string(), file.to_string()))
         })
         .collect()
 }

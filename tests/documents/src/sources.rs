@@ -25,8 +25,9 @@ impl Sources {
         };
         let listed = text("crates.txt");
         for line in listed.lines().filter(|line| !line.starts_with('#')) {
+            // `NAME: LIBRARY ..`, or `NAME staticlib: LIBRARY ..`.
             if let Some((name, _)) = line.split_once(':') {
-                sources.add_crate(name);
+                sources.add_crate(name.split(' ').next().expect("a name"));
             }
         }
         sources
@@ -44,7 +45,13 @@ impl Sources {
         let folder = root().join("crates").join(name);
         let mut names = BTreeSet::new();
         let mut files = Vec::new();
-        gather(&folder, &mut files);
+        // What the prover keeps is in `out`.
+        for part in ["src", "specs", "proofs", "must-fail"] {
+            let part = folder.join(part);
+            if part.exists() {
+                gather(&part, &mut files);
+            }
+        }
         for file in files {
             let path = Path::new(&file);
             let stem = path.file_stem().expect("a name").to_string_lossy();

@@ -28,7 +28,9 @@ fn every_document_is_looked_at() {
                 .file_name()
                 .into_string()
                 .expect("a name");
-            if name.ends_with(".md") && !name.starts_with(|c: char| c.is_ascii_digit()) {
+            // A page on what changed names what is not there any more.
+            let on_changes = name == "PORT.md" || name.starts_with(|c: char| c.is_ascii_digit());
+            if name.ends_with(".md") && !on_changes {
                 there.insert(format!("{folder}/{name}"));
             }
         }
@@ -195,7 +197,7 @@ fn the_order_of_reading_leaves_no_definition_out() {
     let sources = Sources::new();
     let mut left_out = BTreeSet::new();
     for file in &listed {
-        for used in cited::imports(&file.0, &definitions(file)) {
+        for used in cited::imports(&definitions(file)) {
             let there = match file.0.as_str() {
                 "promises" => named.contains(&used),
                 _ => used.1.ends_with("Laws") || listed.contains(&used),

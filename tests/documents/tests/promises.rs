@@ -33,7 +33,7 @@ fn owed() -> Vec<String> {
 }
 
 fn name_of(id: &str) -> String {
-    format!("promise-{}", id.replace('.', "-"))
+    format!("promise_{}", id.replace('.', "_"))
 }
 
 #[test]
@@ -41,7 +41,7 @@ fn every_promise_has_one_name_in_both() {
     let sources = Sources::new();
     let declared = sources.crates["promises"].iter();
     let declared: BTreeSet<String> = declared
-        .filter(|name| name.starts_with("promise-"))
+        .filter(|name| name.starts_with("promise_"))
         .cloned()
         .collect();
     assert_eq!(cited::promises(&document()), declared);
@@ -114,7 +114,7 @@ fn every_public_call_is_listed_with_a_function_and_a_definition() {
     for function in &functions {
         let (owner, path) = function.split_once("::").expect("a path");
         let name = path.rsplit("::").next().expect("a name");
-        let start = format!("use Rattle·{owner}.proofs.");
+        let start = format!("use Rattle.{owner}.proofs.");
         let end = format!(".{name}.Met as ");
         let proved = promised
             .lines()
@@ -122,20 +122,83 @@ fn every_public_call_is_listed_with_a_function_and_a_definition() {
         assert!(proved, "{function}");
     }
     // Those for C and Rust are all that the archive exports.
-    let listed = functions
+    let listed: BTreeSet<&str> = functions
         .iter()
-        .filter_map(|function| function.strip_prefix("cundarivo::"));
-    let exported = sources.crates["cundarivo"].iter();
-    let exported = exported
-        .filter(|name| name.starts_with("cundarivo_"))
-        .map(String::as_str);
-    assert_eq!(listed.collect::<BTreeSet<_>>(), exported.collect());
+        .filter_map(|function| function.strip_prefix("cundarivo::"))
+        .collect();
+    for owner in ["cundarivo", "cundarivo_c"] {
+        let exported = sources.crates[owner].iter();
+        let exported = exported
+            .filter(|name| name.starts_with("cundarivo_"))
+            .map(String::as_str);
+        assert_eq!(listed, exported.collect(), "{owner}");
+    }
+}
+
+/// The functions of a crate's module: each one's text from its name to its end, without what makes it an export.
+fn functions(owner: &str, module: &str) -> Vec<String> {
+    let source = text(&format!("crates/{owner}/src/{module}.rt"));
+    let starts = source.split("\npub ").skip(1);
+    starts
+        .filter_map(|function| {
+            let plain = function.strip_prefix("fn ");
+            let (function, _) = plain
+                .or(function.strip_prefix("extern \"C\" fn "))?
+                .split_once("\n}\n")
+                .expect("an end");
+            Some(function.to_string())
+        })
+        .collect()
+}
+
+/// What is promised of the library's calls holds of what the archive exports: the same parameters and clauses, and a body that is
+/// the library's call.
+#[test]
+fn every_export_states_the_call_that_it_makes() {
+    let mut count = 0;
+    for module in [
+        "lib",
+        "alert_trial_text",
+        "chart_numbers",
+        "programs",
+        "reading_text",
+        "record_text",
+        "reference_text",
+    ] {
+        let path = match module {
+            "lib" => "cundarivo::".to_string(),
+            _ => format!("cundarivo::{module}::"),
+        };
+        let calls = functions("cundarivo", module);
+        let exports = functions("cundarivo_c", module);
+        assert_eq!(calls.len(), exports.len(), "{module}");
+        for (call, export) in calls.iter().zip(&exports) {
+            let [call, export] = [call, export].map(|function| {
+                let parts = function.split_once("\n{\n");
+                parts.expect("a body")
+            });
+            assert_eq!(call.0, export.0);
+            let (name, rest) = call.0.split_once('(').expect("parameters");
+            let (parameters, _) = rest.split_once(") ->").expect("a result");
+            let names: Vec<&str> = parameters
+                .split(',')
+                .filter_map(|parameter| parameter.split_once(':'))
+                .map(|(name, _)| name.trim())
+                .collect();
+            // However it is laid out.
+            let words: Vec<&str> = export.1.split_whitespace().collect();
+            let body = words.join(" ").replace("( ", "(").replace(", )", ")");
+            assert_eq!(body, format!("{path}{name}({})", names.join(", ")));
+            count += 1;
+        }
+    }
+    assert_eq!(count, 18);
 }
 
 #[test]
 fn a_missing_edit_a_wrong_crate_and_a_renamed_promise_are_found() {
     let sources = Sources::new();
-    let text = "| 2.9 | A sentence. | `promise-2-99` | drawing: `moves_invented`, `no_such_edit`; ball: `moves_invented` |";
+    let text = "| 2.9 | A sentence. | `promise_2_99` | drawing: `moves_invented`, `no_such_edit`; ball: `moves_invented` |";
     let missing: Vec<_> = cited::edits(text)
         .difference(&sources.edits)
         .cloned()
@@ -150,7 +213,7 @@ fn a_missing_edit_a_wrong_crate_and_a_renamed_promise_are_found() {
     );
     assert_eq!(
         cited::promises(text),
-        BTreeSet::from(["promise-2-99".to_string()])
+        BTreeSet::from(["promise_2_99".to_string()])
     );
-    assert!(!sources.has("promise-2-99"));
+    assert!(!sources.has("promise_2_99"));
 }
