@@ -1,5 +1,7 @@
 // Plain numbers of any length, as a sign and a magnitude that stops at 10^19, so that a number of a thousand digits is in form
 // and out of every range, and one of at most 19 digits is told from a longer one.
+#![tactic(auto)]
+
 ghost use Rattle.std.specs.Prelude.{◌≡◌, ◌≤◌, length};
 ghost use Rattle.text.specs.Clauses.{FieldRead};
 ghost use Rattle.number.specs.Number.{digit_zero, digit_nine, is_digit};
