@@ -1,4 +1,6 @@
 // One move (document 01): the far and the near row by their scores, g and d², t, and the weights after it.
+#![tactic(auto)]
+
 pub mod distances;
 pub mod select;
 pub mod step;

@@ -5,12 +5,10 @@ use mathlib.Core.Path.{◌≡◌, sym, subst}
 use mathlib.Core.List.{List}
 use native.Mathlib.Decide.{ℕ_discrete}
 use native.Mathlib.Omega.{arith}
-use borrow.Author.Rules.{rules}
 use lib.ListN.{length, get_or, set}
 use lib.Seq.{get_or-set_same, get_or-set_other}
 use Rattle.geometry.specs.Move.{move_weight}
-use Rattle.moves.proofs.step.one_move.Statement.{statement}
-use Rattle.moves.proofs.step.one_move.Tie as tie
+use Rattle.moves.proofs.step.one_move.Goals as goal
 
 -- a store of a number that is at most the element in its place raises no element
 set-lowers : (ws : List ℕ) (j k v : ℕ) → j < length ws → v ≤ get_or ws j 0 → get_or (set ws j v) k 0 ≤ get_or ws k 0
@@ -20,27 +18,11 @@ set-lowers ws j k v l h = go (ℕ_discrete k j)
     go (yes e) = subst (λ i. get_or (set ws j v) i 0 ≤ get_or ws i 0) (sym e) (omega (arith, get_or-set_same ws j v 0 l))
     go (no e) = omega (arith, get_or-set_other ws j k v 0 e)
 
-add-weights : tie.Need-overflow-add-weights
-add-weights c =
+pub overflow_add-weights : goal.overflow_add-weights
+overflow_add-weights c =
     let a = c.args in
-    omega (arith, set-lowers a.t1 a.from a.to (get_or a.t1 a.from 0 - a.t) (omega arith) (omega arith))
+    omega (arith, set-lowers a.weights a.from a.to (get_or a.weights a.from 0 - a.t) (omega arith) (omega arith))
 
-returns : tie.Need-returns
+pub returns : goal.returns
 unfolding move_weight
 returns c = cc
-
-pub one-move-spec : {M : Type 1} → statement M
-one-move-spec =
-    tie.close
-    (tie.spec
-    (λ c. search rules)
-    (λ c. search rules)
-    (λ c. search rules)
-    (λ c. search rules)
-    (λ c. search rules)
-    (λ c. search rules)
-    (λ c. search rules)
-    add-weights
-    (λ c. search rules)
-    (λ c. search rules)
-    returns)

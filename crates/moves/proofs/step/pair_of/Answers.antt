@@ -5,7 +5,6 @@ use mathlib.Core.Path.{◌≡◌, refl, sym, ◌∙◌, ap, ap₂, subst}
 use mathlib.Core.List.{List}
 use native.Mathlib.Nat.{le_refl}
 use native.Mathlib.Omega.{arith}
-use borrow.Author.Rules.{rules}
 use lib.Dec.{ltb}
 use lib.IntN.{ℤ}
 use lib.ListN.{length}
@@ -23,8 +22,7 @@ use Rattle.scores.specs.Clauses.{ScoresWithin, score_of}
 use Rattle.moves.specs.Clauses.{FoundRow}
 use Rattle.moves.specs.declared.Selected.{Selected}
 use Rattle.moves.proofs.Laws.{near_most, far_score, near_score, paired}
-use Rattle.moves.proofs.step.pair_of.Statement.{statement}
-use Rattle.moves.proofs.step.pair_of.Tie as tie
+use Rattle.moves.proofs.step.pair_of.Goals as goal
 
 module _ {D : ℕ} (most : D ≤ total) {rows x : List ℤ} {m n : ℕ} {ws : List ℕ} (t : Table rows m n) (g : WeightsOf D m ws)
     (e : x ≡ centre_list n (scaled_centre (coordinate rows n) (weight_of ws) m)) where
@@ -65,51 +63,35 @@ module _ {D : ℕ} (most : D ≤ total) {rows x : List ℤ} {m n : ℕ} {ws : Li
     unfolding difference
     gap f k = ap₂ (λ d e. (d - e) / D) (far_score most t g are far-by near_by f k) (near_score most t g are far-by near_by f k)
 
-fill-distances-requires : tie.Need-fill-distances-requires
-fill-distances-requires c κs =
-    let p = c.before.before.requires in
+pub fill_distances-requires : goal.fill_distances-requires
+fill_distances-requires c =
+    let p = c.requires in
     (p.0, (centre (le_refl total) p.0 p.1.0 p.1.1, p.0.rows_most))
 
-farthest-row-requires : tie.Need-farthest-row-requires
-farthest-row-requires c κs =
-    let p = c.before.before.before.before.before.requires in
-    (p.0.some_row, within (le_refl total) p.0 p.1.0 p.1.1 c.before.before.fill-distances.ensures p.0.rows_most)
+pub farthest_row-far-requires : goal.farthest_row-far-requires
+farthest_row-far-requires c =
+    let p = c.requires in
+    (p.0.some_row, within (le_refl total) p.0 p.1.0 p.1.1 c.fill_distances.ensures p.0.rows_most)
 
-nearest-row-requires : tie.Need-nearest-row-requires
-nearest-row-requires c κs =
-    let p = c.before.before.before.before.before.before.before.requires in
-    (within (le_refl total) p.0 p.1.0 p.1.1 c.before.before.before.before.fill-distances.ensures p.0.rows_most, p.1.0)
+pub nearest_row-near-requires : goal.nearest_row-near-requires
+nearest_row-near-requires c =
+    let p = c.requires in
+    (within (le_refl total) p.0 p.1.0 p.1.1 c.fill_distances.ensures p.0.rows_most, p.1.0)
 
-sub-gap : tie.Need-overflow-sub-gap
-sub-gap c = near_most c.before.before.before.before.farthest-row.ensures c.before.before.nearest-row.ensures
+pub overflow_sub-gap : goal.overflow_sub-gap
+overflow_sub-gap c = near_most c.farthest_row-far.ensures c.nearest_row-near.ensures
 
-squared-distance-requires : tie.Need-squared-distance-requires
-squared-distance-requires c κs =
-    let table = c.before.before.before.before.before.before.before.before.before.before.requires.0 in
-    (table-row table _ c.before.before.before.before.farthest-row.ensures.within, table-row table _ c.before.before.nearest-row.ensures.within)
+pub squared_distance-separation-requires : goal.squared_distance-separation-requires
+squared_distance-separation-requires c =
+    let table = c.requires.0 in
+    (table-row table _ c.farthest_row-far.ensures.within, table-row table _ c.nearest_row-near.ensures.within)
 
-returns : tie.Need-returns
+pub returns : goal.returns
 returns c =
-    let p = c.before.before.before.before.before.before.before.before.before.before.before.requires in
-    let filled = c.before.before.before.before.before.before.before.before.fill-distances.ensures in
-    let far = c.before.before.before.before.before.farthest-row.ensures in
-    let near = c.before.before.before.nearest-row.ensures in
+    let p = c.requires in
+    let filled = c.fill_distances.ensures in
+    let far = c.farthest_row-far.ensures in
+    let near = c.nearest_row-near.ensures in
     paired (le_refl total) p.0 p.1.0 (are (le_refl total) p.0 p.1.0 p.1.1 filled)
     (far-by (le_refl total) p.0 p.1.0 p.1.1 filled) (near_by (le_refl total) p.0 p.1.0 p.1.1 filled) far near
-    (gap (le_refl total) p.0 p.1.0 p.1.1 filled far near) c.squared-distance.ensures
-
-pub pair-of-spec : {M : Type 1} → statement M
-pair-of-spec =
-    tie.close
-    (tie.spec
-    (λ c. search rules)
-    fill-distances-requires
-    (λ c. search rules)
-    farthest-row-requires
-    (λ c. search rules)
-    nearest-row-requires
-    sub-gap
-    (λ c. search rules)
-    (λ c. search rules)
-    squared-distance-requires
-    returns)
+    (gap (le_refl total) p.0 p.1.0 p.1.1 filled far near) c.squared_distance-separation.ensures

@@ -4,12 +4,10 @@ use mathlib.Core.Path.{◌≡◌, sym, ◌∙◌, ap}
 use mathlib.Core.Bool.{not}
 use native.Mathlib.Decide.{dec_lt}
 use native.Mathlib.Omega.{arith}
-use borrow.Author.Rules.{rules}
 use borrow.Author.Tests.{lt-ltb, le-ltb, le-leb, lt-leb}
 use lib.Dec.{ltb, leb}
 use Rattle.moves.specs.Clauses.{no_score}
-use Rattle.moves.proofs.select.at_most.Statement.{statement}
-use Rattle.moves.proofs.select.at_most.Tie as tie
+use Rattle.moves.proofs.select.at_most.Goals as goal
 
 top-tells : (top best score : ℕ) → score ≤ top → leb top (top + best - score) ≡ not (ltb best score)
 top-tells top best score low = go (dec_lt best score)
@@ -18,13 +16,5 @@ top-tells top best score low = go (dec_lt best score)
     go (yes l) = lt-leb top (top + best - score) (omega arith) ∙ sym (ap not (lt-ltb best score l))
     go (no l) = le-leb top (top + best - score) (omega arith) ∙ sym (ap not (le-ltb best score (omega arith)))
 
-returns : tie.Need-returns
+pub returns : goal.returns
 returns c = top-tells no_score c.args.best c.args.score (omega (arith, c.requires.0))
-
-pub at-most-spec : {M : Type 1} → statement M
-at-most-spec =
-    tie.close
-    (tie.spec
-    (λ c. search rules)
-    (λ c. search rules)
-    returns)
