@@ -1,5 +1,7 @@
 // The ball round the reference rows of a sampling point (document 01), from weights of the rows: its figures X, M and L, and whether the
 // weights are Settled. A table holds m rows of n channels, row by row. Rows and channels count from 0 in the code.
+#![tactic(auto)]
+
 ghost use Rattle.std.specs.Prelude.{◌≡◌, ◌*◌, ◌-◌, ◌≤◌};
 ghost use Rattle.geometry.specs.Move.{scaled_squared_distance_of, is_settled, weight_of};
 ghost use Rattle.geometry.specs.Scores.{weighted_squared_distance};

@@ -1,6 +1,5 @@
 -- `ball::ball_of_scores` meets its contract: M is D times e of the far row, less L, and the weights are Settled by the test of the
 -- definition.
-use borrow.Author.Rules.{rules}
 use Prim.Native.Nat.{ℕ, ◌*◌, ◌-◌, ◌≤◌, ◌<◌}
 use mathlib.Core.Path.{◌≡◌, sym, ap, subst}
 use mathlib.Core.Bool.{Bool}
@@ -21,8 +20,7 @@ use Rattle.moves.specs.Clauses.{Paired}
 use Rattle.moves.specs.declared.Pair.{Pair}
 use Rattle.ball.specs.declared.Ball.{Ball}
 use Rattle.ball.specs.Ball.{filled_ball, ball_of}
-use Rattle.ball.proofs.ball_of_scores.Statement.{statement}
-use Rattle.ball.proofs.ball_of_scores.Tie as tie
+use Rattle.ball.proofs.ball_of_scores.Goals as goal
 
 module _ {D : ℕ} (some : 0 < D) {rows : List ℤ} {m n : ℕ} {ws : List ℕ} {pair : Pair} (table : Table rows m n) (good : WeightsOf D m ws)
     (pairs : Paired D rows m n ws (weighted_squared_distance m n (coordinate rows n) (weight_of ws)) pair) where
@@ -49,28 +47,16 @@ module _ {D : ℕ} (some : 0 < D) {rows : List ℤ} {m n : ℕ} {ws : List ℕ} 
   gathered centres bounds radii settles filled =
       cc (score_radius D m n (coordinate rows n) (weight_of ws) some good.sum table.some_row, pairs.score_is, pairs.difference_is, pairs.separation_is)
 
-radius-of-score-requires : tie.Need-radius-of-score-requires
-radius-of-score-requires c κs =
-    let asked = c.before.before.before.before.requires in (
+pub radius_of_score-radius-requires : goal.radius_of_score-radius-requires
+radius_of_score-radius-requires c =
+    let asked = c.requires in (
       score_most (lit< tt) asked.0 asked.1.0 asked.1.1,
-      subst (λ b. b ≤ total * c.before.before.before.before.args.pair.score) (sym c.scaled-lower-bound.ensures)
+      subst (λ b. b ≤ total * c.args.pair.score) (sym c.scaled_lower_bound-scaled_lower_bound.ensures)
           (bound-most (lit< tt) asked.0 asked.1.0 asked.1.1),
     )
 
-returns : tie.Need-returns
+pub returns : goal.returns
 returns c =
-    let at_bound = c.before.before.before in
-    let asked = at_bound.before.before.before.before.requires in
-    gathered (lit< tt) asked.0 asked.1.0 asked.1.1 at_bound.before.before.scaled-centre.ensures at_bound.scaled-lower-bound.ensures
-    c.before.before.radius-of-score.ensures c.before.is-settled.ensures c.filled-ball.ensures
-
-pub ball-of-scores-spec : {M : Type 1} → statement M
-ball-of-scores-spec =
-    tie.close
-    (tie.spec
-    (λ c κs. search rules)
-    (λ c κs. search rules)
-    radius-of-score-requires
-    (λ c κs. search rules)
-    (λ c κs. search rules)
-    returns)
+    let asked = c.requires in
+    gathered (lit< tt) asked.0 asked.1.0 asked.1.1 c.scaled_centre-scaled_centre.ensures c.scaled_lower_bound-scaled_lower_bound.ensures
+    c.radius_of_score-radius.ensures c.is_settled-settled.ensures c.filled_ball.ensures

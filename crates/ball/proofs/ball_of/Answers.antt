@@ -1,5 +1,4 @@
 -- `ball::ball_of` meets its contract: M is s of the far row, and the weights are Settled by the test of the definition.
-use borrow.Author.Rules.{rules}
 use Prim.Native.Nat.{ℕ}
 use mathlib.Core.Path.{◌≡◌}
 use mathlib.Core.Bool.{Bool}
@@ -14,11 +13,9 @@ use Rattle.moves.specs.Clauses.{Paired}
 use Rattle.moves.specs.declared.Pair.{Pair}
 use Rattle.ball.specs.declared.Ball.{Ball}
 use Rattle.ball.specs.Ball.{filled_ball, ball_of}
-use Rattle.ball.proofs.ball_of.Statement.{statement}
-use Rattle.ball.proofs.ball_of.Tie as tie
+use Rattle.ball.proofs.ball_of.Goals as goal
 
 -- the figures, put together
-
 module _ {rows : List ℤ} {m n : ℕ} where
   gathered : {D : ℕ} {ws : List ℕ} {centre : List ℤ} {pair : Pair} {bound : ℕ} {settles : Bool} {b : Ball} → Table rows m n
       → IsCentre rows m n ws centre
@@ -30,12 +27,8 @@ module _ {rows : List ℤ} {m n : ℕ} where
   unfolding ball_of settled
   gathered {D} {ws} table centres pairs bounds tells filled = cc (radius_far D m n (coordinate rows n) (weight_of ws) table.some_row)
 
-returns : tie.Need-returns
+pub returns : goal.returns
 returns c =
-    let at-scaled-lower-bound = c.before.before in
-    let asked = at-scaled-lower-bound.before.before.before.requires in
-    gathered asked.0 asked.1.1.0 asked.1.1.1 at-scaled-lower-bound.scaled-lower-bound.ensures
-    c.before.is-settled.ensures c.filled-ball.ensures
-
-pub ball-of-spec : {M : Type 1} → statement M
-ball-of-spec = tie.close (tie.spec (λ c κs. search rules) (λ c κs. search rules) (λ c κs. search rules) returns)
+    let asked = c.requires in
+    gathered asked.0 asked.1.1.0 asked.1.1.1 c.scaled_lower_bound-scaled_lower_bound.ensures
+    c.is_settled-settled.ensures c.filled_ball.ensures
