@@ -1,4 +1,6 @@
 // The check of anybody's weights (document 01, "Weights from anybody").
+#![tactic(auto)]
+
 ghost use Rattle.std.specs.Prelude.{◌≡◌, ◌≤◌, true, length};
 ghost use Rattle.geometry.specs.Table.{rows_within};
 ghost use Rattle.limits.specs.Limits.{total, row_limit};
