@@ -208,7 +208,7 @@ fn ending(shown: &Shown<'_>) -> String {
 #[cfg(test)]
 mod tests {
     use super::{Reference, Shown, draw, page, require_figures};
-    use crate::texts::{Source, Text};
+    use crate::texts::Text;
 
     fn text(bytes: &[u8]) -> Text {
         Text {
