@@ -1,4 +1,6 @@
 // The drawing: moves from all weight on the first row until the weights are Settled or the budget is used.
+#![tactic(auto)]
+
 ghost use Rattle.std.specs.Prelude.{◌≡◌, not, ◌&&◌, ltb};
 ghost use Rattle.geometry.specs.Move.{is_settled};
 ghost use Rattle.geometry.specs.Table.{coordinate};
