@@ -14,9 +14,9 @@ import os
 import re
 import sys
 
-# A definition that would get the name of a parameter in a clause that cites it, a number of a refusal that would get the name of a count,
-# and a lemma that would get the name of a word of the library that its file cites.
-APART = {"settingsText": "text_of_settings", "row-count": "row_count_number", "in-float": "in_float_lem"}
+# A definition that would get the name of a parameter in a clause that cites it, and a lemma that would get the name of a word of the
+# library that its file cites.
+APART = {"settingsText": "text_of_settings", "in-float": "in_float_lem"}
 NAME = r"[A-Za-zα-ωΑ-Ω][\w'₀-₉]*(?:-[\w'₀-₉]+)*"
 WORD = re.compile(r"(?<![\w'₀-₉·-])" + NAME + r"(?![\w'₀-₉])")
 HEAD = re.compile(r"^( *)((?:pub |abbrev |unfoldable )*)(" + NAME + r")((?: *(?:\([^()]*(?:\([^()]*\)[^()]*)*\)|\{[^}]*\}))*) *: ", re.M)
