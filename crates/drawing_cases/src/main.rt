@@ -1,5 +1,7 @@
 // Runs stored cases of the drawing and the check, which another implementation of document 01 wrote with the answers that are
 // owed. tests/outside/src/stored.rs has the form of the input and of the output. What lies past the input reads as 0.
+#![tactic(auto)]
+
 ghost use Rattle.std.specs.Prelude.{◌+◌, ◌≤◌, ◌<◌, ◌≡◌, length, take};
 
 use ball::Ball;
