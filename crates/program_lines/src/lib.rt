@@ -1,4 +1,6 @@
 // The lines that the programs print. A refused text is answered by a line `NO`, number, line.
+#![tactic(auto)]
+
 ghost use Rattle.std.specs.Prelude.{◌+◌, ◌^◌, ◌≤◌, ◌<◌, length};
 ghost use Rattle.printing.specs.Clauses.{Put};
 ghost use Rattle.reading.specs.Verdict.{verdict_excess};
