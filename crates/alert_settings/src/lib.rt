@@ -1,5 +1,7 @@
 // Settings of an alert as they are lent (document 02, job 2): one list of numbers k, c, k, c. They are split into two slices, so that a
 // loop over the settings meets all k side by side, and all c.
+#![tactic(auto)]
+
 ghost use Rattle.std.specs.Prelude.{◌≡◌};
 ghost use Rattle.alert_settings.specs.Settings.{run_within, runs_within, settings_within};
 ghost use Rattle.alert_settings.specs.Clauses.{SplitAsked, Split};
