@@ -1,4 +1,6 @@
 // Bytes and plain numbers printed into a lent slice from an index on. Each function answers the index after what it printed.
+#![tactic(auto)]
+
 ghost use Rattle.std.specs.Prelude.{◌≡◌, ℕ, ◌+◌, ◌*◌, ◌^◌, ◌≤◌, ◌<◌, pos, nat_abs, length, get_or, take};
 ghost use Rattle.number.specs.Number.{print_magnitude, print};
 ghost use Rattle.number.specs.Clauses.{magnitude_limit};
