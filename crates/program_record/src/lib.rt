@@ -1,5 +1,7 @@
 // A reference text and a record, from which the programs that need an envelope start. Each text of a program is a slice of its own. Texts
 // are never joined: in one input, whoever writes the first could say where it ends.
+#![tactic(auto)]
+
 ghost use Rattle.std.specs.Prelude.{◌≡◌};
 ghost use Rattle.limits.specs.Limits.{total, row_limit};
 ghost use Rattle.channel.specs.Channel.{channel_types};
