@@ -1,5 +1,7 @@
 // The answers that several calls for C and Rust share: small structs of numbers. X and the weights are written to slices of the
 // caller's, so that these structs stay as they are where the row limit changes.
+#![tactic(auto)]
+
 ghost use Rattle.std.specs.Prelude.{◌≤◌, ◌≡◌, ◌&&◌, leb, length};
 ghost use Rattle.refusal.specs.Outcome.{number_of};
 ghost use Rattle.refusal.specs.declared.Outcome.TheVariants.{Accepted};

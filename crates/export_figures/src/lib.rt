@@ -1,5 +1,7 @@
 // The figures of an envelope as C and Rust give them: numbers, with the codes and X in lent slices beside them. Each call on them
 // tests the ending first, else it answers 8.
+#![tactic(auto)]
+
 ghost use Rattle.std.specs.Prelude.{◌≡◌};
 ghost use Rattle.export_figures.specs.Clauses.{ending_known, scalars_given};
 
