@@ -166,7 +166,7 @@ pub record TrialRefused (f : Figures) (settings readings : List ℕ) (places : �
   pub figures_8 : figures_known total channel_types f ≡ false → trying f settings readings places ≡ not_written (refused outside_limits)
   pub settings_14 : figures_known total channel_types f ≡ true → settings_within settings ≡ false
       → trying f settings readings places ≡ not_written (refused alert_settings)
-  pub settings_within_lem : (settings_within settings ≡ true) ↔ WithinLimits settings
+  pub settings_limits : (settings_within settings ≡ true) ↔ WithinLimits settings
   pub readings_1 : figures_known total channel_types f ≡ true → settings_within settings ≡ true → text_within readings ≡ false
       → trying f settings readings places ≡ not_written (refused text_length)
   -- and else there is a text
@@ -177,19 +177,19 @@ pub record TrialRefused (f : Figures) (settings readings : List ℕ) (places : �
   pub else_written : (text : List ℕ) → trial_of total channel_types f settings readings ≡ sound text → length text ≤ places
       → trying f settings readings places ≡ written (length text)
 
-runs_within_lem : (numbers : List ℕ) → ((i : ℕ) → i < length numbers → (1 ≤ get_or numbers i 0) × (get_or numbers i 0 ≤ run_limit)) → runs_within numbers ≡ true
+runs-within : (numbers : List ℕ) → ((i : ℕ) → i < length numbers → (1 ≤ get_or numbers i 0) × (get_or numbers i 0 ≤ run_limit)) → runs_within numbers ≡ true
 unfolding runs_within
-runs_within_lem [] each = refl
-runs_within_lem (number ∷ numbers) each =
+runs-within [] each = refl
+runs-within (number ∷ numbers) each =
     ap₂ ◌&&◌ (range_in 1 run_limit number (each 0 (omega arith)).0 (each 0 (omega arith)).1)
-    (runs_within_lem numbers (λ i below. each (suc i) (omega arith)))
+    (runs-within numbers (λ i below. each (suc i) (omega arith)))
 
 within_limits : (settings : List ℕ) → (settings_within settings ≡ true) ↔ WithinLimits settings
 within_limits settings = (
   λ h.
       let within = settings_within_lem settings h in
       record { even = within.even; some = within.some; most = within.most; each = runs_at settings within.runs },
-  λ limits. settings_runs settings limits.even limits.some limits.most ∙ runs_within_lem settings limits.each,
+  λ limits. settings_runs settings limits.even limits.some limits.most ∙ runs-within settings limits.each,
 )
 
 pub trials_refused : (f : Figures) (settings readings : List ℕ) (places : ℕ) → TrialRefused f settings readings places
@@ -198,7 +198,7 @@ trials_refused f settings readings places =
     record {
       figures_8 = λ h. turned outside_limits places (trial-figures total channel_types f settings readings h);
       settings_14 = λ within h. turned alert_settings places (trial_settings total channel_types f settings readings within h);
-      settings_within_lem = within_limits settings;
+      settings_limits = within_limits settings;
       readings_1 = λ within settings_in h. turned text_length places (trial-length total channel_types f settings readings within settings_in h);
       some_text = trial_sound total channel_types f settings readings;
       buffer_13 = λ text is. trial_short total channel_types f settings readings text is places;

@@ -37,7 +37,7 @@ use Rattle.cundarivo.specs.contracts.programs.cundarivo_program_alerts as export
 use Rattle.cundarivo.proofs.programs.cundarivo_program_alerts.Symbol as exported-program-code
 use Rattle.cundarivo.proofs.programs.cundarivo_program_alerts.Met as exported-program-proof
 use Rattle.alert_trial.specs.contracts.walk as walk
-use Rattle.alert_trial.proofs.walk.Symbol as Walk-Code
+use Rattle.alert_trial.proofs.walk.Symbol as walk-code
 use Rattle.alert_trial.proofs.walk.Met as walk-proof
 
 module _ {M : Type 1} {𝓤 : Ura M} (𝓛 : Logic 𝓤) (𝓜 : Model 𝓤 𝓛.H) (𝓡 : Running 𝓤 𝓛.H 𝓜) where
@@ -45,7 +45,7 @@ module _ {M : Type 1} {𝓤 : Ura M} (𝓛 : Logic 𝓤) (𝓜 : Model 𝓤 𝓛
 
   pub record AlertCalls : Type 1 where
     -- settings tried on readings, which 13 does not meet with room for 384 bytes: try_settings(figures, settings, readings, output)
-    pub tries_settings : Answers 𝓛 𝓜 𝓡 trying.ended trying-code.routine
+    pub tries_settings : Answers 𝓛 𝓜 𝓡 trying.ended trying-code.code trying-code.name
         (λ κs a r e.
         let figures = a.0 in let settings = a.1.0.now in let readings = a.1.1.0.now in let output = a.1.1.1.0.now in
         let output-after = e.1.1.1.0.now in
@@ -54,7 +54,7 @@ module _ {M : Type 1} {𝓤 : Ura M} (𝓛 : Logic 𝓤) (𝓜 : Model 𝓤 𝓛
         ∗ ⌜ Part output-after r.length ⌝
         ∗ ⌜ length (trial_text (trial_of total channel_types figures settings readings)) ≤ trial_most ⌝)
     -- by a second form that is lent codes and X: try_settings_lent(scalars, codes, scaled_centre, settings, readings, output)
-    pub tries_settings_lent : Answers 𝓛 𝓜 𝓡 trying-lent.ended trying-lent-code.routine
+    pub tries_settings_lent : Answers 𝓛 𝓜 𝓡 trying-lent.ended trying-lent-code.code trying-lent-code.name
         (λ κs a r e.
         let figures = lent_figures a.0 a.1.0.now a.1.1.0.now in let settings = a.1.1.1.0.now in
         let readings = a.1.1.1.1.0.now in let output = a.1.1.1.1.1.0.now in let output-after = e.1.1.1.1.1.0.now in
@@ -63,7 +63,7 @@ module _ {M : Type 1} {𝓤 : Ura M} (𝓛 : Logic 𝓤) (𝓜 : Model 𝓤 𝓛
         ∗ ⌜ Part output-after r.length ⌝
         ∗ ⌜ length (trial_text (trial_of total channel_types figures settings readings)) ≤ trial_most ⌝)
     -- the program, from its texts to the whole output: alerts(reference, record_text, settings_text, readings, output)
-    pub program_tries_settings : Answers 𝓛 𝓜 𝓡 program.ended program-code.routine
+    pub program_tries_settings : Answers 𝓛 𝓜 𝓡 program.ended program-code.code program-code.name
         (λ κs a r e.
         let reference = a.0.now in let text = a.1.0.now in let settings = a.1.1.0.now in let readings = a.1.1.1.0.now in
         let output = a.1.1.1.1.0.now in let output-after = e.1.1.1.1.0.now in
@@ -72,14 +72,14 @@ module _ {M : Type 1} {𝓤 : Ura M} (𝓛 : Logic 𝓤) (𝓜 : Model 𝓤 𝓛
         ∗ ⌜ Part output-after r.length ⌝
         ∗ ⌜ length (alerts_output total row_limit channel_types reference text settings readings) ≤ trial_most ⌝)
     -- for C and Rust: cundarivo_try_settings(figures, codes, scaled_centre, settings, readings, output)
-    pub cundarivo_try_settings : Answers 𝓛 𝓜 𝓡 exported.ended exported-code.routine
+    pub cundarivo_try_settings : Answers 𝓛 𝓜 𝓡 exported.ended exported-code.code exported-code.name
         (λ κs a r e.
         let figures = a.0 in let codes = a.1.0.now in let centre = a.1.1.0.now in let settings = a.1.1.1.0.now in
         let readings = a.1.1.1.1.0.now in let output = a.1.1.1.1.1.0.now in let output-after = e.1.1.1.1.1.0.now in
         ⌜ r ≡ written_in_numbers (trial_written (trial_given total channel_types figures codes centre settings readings) (length output)) ⌝
         ∗ ⌜ output-after ≡ filled r.number r.length (trial_text (trial_given total channel_types figures codes centre settings readings)) output ⌝)
     -- cundarivo_program_alerts(reference, record_text, settings_text, readings, output)
-    pub cundarivo_program_alerts : Answers 𝓛 𝓜 𝓡 exported-program.ended exported-program-code.routine
+    pub cundarivo_program_alerts : Answers 𝓛 𝓜 𝓡 exported-program.ended exported-program-code.code exported-program-code.name
         (λ κs a r e.
         let reference = a.0.now in let text = a.1.0.now in let settings = a.1.1.0.now in let readings = a.1.1.1.0.now in
         let output = a.1.1.1.1.0.now in let output-after = e.1.1.1.1.0.now in
@@ -100,7 +100,7 @@ module _ {M : Type 1} {𝓤 : Ura M} (𝓛 : Logic 𝓤) (𝓜 : Model 𝓤 𝓛
   -- and the result counts the verdicts of each kind
   pub record AlertWalk : Type 1 where
     -- walk(scalars, codes, scaled_centre, readings, ks, cs, standing, raised, passed)
-    pub walks : AnswersWhere 𝓛 𝓜 𝓡 walk.ended Walk-Code.routine
+    pub walks : AnswersWhere 𝓛 𝓜 𝓡 walk.ended walk-code.code walk-code.name
         (λ κs a.
         let readings = a.1.1.1.0.now in let ks = a.1.1.1.1.0.now in let cs = a.1.1.1.1.1.0.now in
         let standing = a.1.1.1.1.1.1.0.now in let raised = a.1.1.1.1.1.1.1.0.now in

@@ -192,7 +192,7 @@ ReadingBelowOne f text = (values : List Written) → reading_content total chann
 
 pub record ReadingAsBefore (f : Figures) (text : List ℕ) : Type 0 where
   pub judged_as : judged total channel_types f text ≡ verdict_as_zero f text
-  pub measured_as_lem : measured total channel_types f text ≡ measured_as total f (content_as_zero (reading_content total channel_types f text))
+  pub measured_as : measured total channel_types f text ≡ measured_as total f (content_as_zero (reading_content total channel_types f text))
 
 -- a line with its byte 10 is a reading
 abbrev pub ReadingsBelowOne : Figures → List ℕ → Type 0
@@ -233,19 +233,19 @@ module _ (f : Figures) where
   measured_as_zero (reading.faulty refusal line) h = refl
   measured_as_zero (reading.sound values) h = ap measured_by (numbers_as_zero values (h values refl))
 
-  verdict_as_zero_lem : (content : reading.Content) → ((values : List Written) → content ≡ reading.sound values → BelowOnes values)
+  verdict-as-zero : (content : reading.Content) → ((values : List Written) → content ≡ reading.sound values → BelowOnes values)
       → verdict_on total f content ≡ verdict_on total f (content_as_zero content)
-  verdict_as_zero_lem (reading.faulty refusal line) h = refl
-  verdict_as_zero_lem (reading.sound values) h = ap (λ (m : MeasuredReading). m.answer.verdict) (measured_as_zero (reading.sound values) h)
+  verdict-as-zero (reading.faulty refusal line) h = refl
+  verdict-as-zero (reading.sound values) h = ap (λ (m : MeasuredReading). m.answer.verdict) (measured_as_zero (reading.sound values) h)
 
   judged_as_zero : (text : List ℕ) → ReadingBelowOne f text → judged total channel_types f text ≡ verdict_as_zero f text
   unfolding judged
-  judged_as_zero text h = verdict_as_zero_lem (reading_content total channel_types f text) h
+  judged_as_zero text h = verdict-as-zero (reading_content total channel_types f text) h
 
   reading_as_before : (text : List ℕ) → ReadingBelowOne f text → ReadingAsBefore f text
   unfolding measured
   reading_as_before text h =
-      record { judged_as = judged_as_zero text h; measured_as_lem = measured_as_zero (reading_content total channel_types f text) h }
+      record { judged_as = judged_as_zero text h; measured_as = measured_as_zero (reading_content total channel_types f text) h }
 
   lines_as_zero : (lines : List (List ℕ)) → Each (ReadingBelowOne f) [] lines
       → (map (judged total channel_types f) lines ≡ map (verdict_as_zero f) lines)

@@ -50,7 +50,7 @@ use Rattle.reading.proofs.judge.Met as judge-proof
 use Rattle.reading.specs.contracts.judge_lent as judge-lent
 use Rattle.reading.proofs.judge_lent.Symbol as judge-lent-code
 use Rattle.reading.proofs.judge_lent.Met as judge-lent-proof
-use Rattle.record_read.specs.contracts.read as record_read_lem
+use Rattle.record_read.specs.contracts.read as record-read
 use Rattle.record_read.proofs.read.Symbol as record-read-code
 use Rattle.record_read.proofs.read.Met as record-read-proof
 use Rattle.record_write.specs.contracts.write as writing
@@ -74,75 +74,75 @@ module _ {M : Type 1} {𝓤 : Ura M} (𝓛 : Logic 𝓤) (𝓜 : Model 𝓤 𝓛
 
   pub record Calls : Type 1 where
     -- drawing: draw(rows, m, n, budget); where accepted, demand 3 and the limits hold of it too
-    pub draws : Answers 𝓛 𝓜 𝓡 draw.ended draw-code.routine
+    pub draws : Answers 𝓛 𝓜 𝓡 draw.ended draw-code.code draw-code.name
         (λ κs a r e.
         let rows = a.0.now in let m = a.1.0 in let n = a.1.1.0 in let budget = a.1.1.1.0 in
         ⌜ (r ≡ drawing total row_limit rows m n budget) × DrawPromise rows m n budget r ⌝)
     -- check: check(rows, m, n, weights); where accepted, demand 3 holds of it too
-    pub checks : Answers 𝓛 𝓜 𝓡 check.ended check-code.routine
+    pub checks : Answers 𝓛 𝓜 𝓡 check.ended check-code.code check-code.name
         (λ κs a r e.
         let rows = a.0.now in let m = a.1.0 in let n = a.1.1.0 in let weights = a.1.1.1.0.now in
         ⌜ (r ≡ checking total row_limit rows m n weights) × CheckPromise rows m n weights r ⌝)
     -- reference text read: read(text, table)
-    pub reads_reference : Answers 𝓛 𝓜 𝓡 reference.ended reference-code.routine
+    pub reads_reference : Answers 𝓛 𝓜 𝓡 reference.ended reference-code.code reference-code.name
         (λ κs a r e.
         let text = a.0.now in let table = a.1.0.now in let table-after = e.1.0.now in
         ⌜ r ≡ reference_read row_limit channel_types text (length table) ⌝
         ∗ ⌜ table-after ≡ filled (number_of r.outcome) (r.m * r.n) (values_in (content row_limit channel_types text)) table ⌝)
     -- label of a row, as two numbers: label_part(text, row)
-    pub finds_label : Answers 𝓛 𝓜 𝓡 label-part.ended label-part-code.routine
+    pub finds_label : Answers 𝓛 𝓜 𝓡 label-part.ended label-part-code.code label-part-code.name
         (λ κs a r e.
         let text = a.0.now in let row = a.1.0 in
         ⌜ r ≡ label_part row_limit channel_types text row ⌝)
     -- and as that part of the text: label(text, row)
-    pub hands_back_label : Answers 𝓛 𝓜 𝓡 label.ended label-code.routine
+    pub hands_back_label : Answers 𝓛 𝓜 𝓡 label.ended label-code.code label-code.name
         (λ κs a r e.
         let text = a.0.now in let row = a.1.0 in
-        ⌜ (r.ptr.0 ≡ a.0.ptr.0) × (r.ptr.1 ≡ a.0.ptr.1 + (label_part row_limit channel_types text row).start) ⌝
+        ⌜ (r.ref_ptr.0 ≡ a.0.ref_ptr.0) × (r.ref_ptr.1 ≡ a.0.ref_ptr.1 + (label_part row_limit channel_types text row).start) ⌝
         ∗ ⌜ r.now ≡ take (label_part row_limit channel_types text row).length (drop (label_part row_limit channel_types text row).start text) ⌝)
     -- reading judged: judge(figures, text)
-    pub judges : Answers 𝓛 𝓜 𝓡 judge.ended judge-code.routine
+    pub judges : Answers 𝓛 𝓜 𝓡 judge.ended judge-code.code judge-code.name
         (λ κs a r e.
         let figures = a.0 in let text = a.1.0.now in
         ⌜ r ≡ judged total channel_types figures text ⌝)
     -- by a second form that is lent codes and X: judge_lent(n, scaled_squared_radius, scaled_lower_bound, settled, moves, codes, scaled_centre, text)
-    pub judges_lent : Answers 𝓛 𝓜 𝓡 judge-lent.ended judge-lent-code.routine
+    pub judges_lent : Answers 𝓛 𝓜 𝓡 judge-lent.ended judge-lent-code.code judge-lent-code.name
         (λ κs a r e.
         let n = a.0 in let radius = a.1.0 in let floor = a.1.1.0 in let settled = a.1.1.1.0 in
         let moves = a.1.1.1.1.0 in let codes = a.1.1.1.1.1.0.now in let centre = a.1.1.1.1.1.1.0.now in
         let text = a.1.1.1.1.1.1.1.0.now in
         ⌜ r ≡ judged total channel_types (figures_of n codes (filled_ball centre radius floor settled) moves) text ⌝)
     -- record read: read(rows, m, n, codes, text)
-    pub reads_record : Answers 𝓛 𝓜 𝓡 record_read_lem.ended record-read-code.routine
+    pub reads_record : Answers 𝓛 𝓜 𝓡 record-read.ended record-read-code.code record-read-code.name
         (λ κs a r e.
         let rows = a.0.now in let m = a.1.0 in let n = a.1.1.0 in let codes = a.1.1.1.0.now in
         let text = a.1.1.1.1.0.now in
         ⌜ r ≡ record_read total row_limit channel_types rows m n codes text ⌝)
     -- record written: write(envelope, rows, m, buffer)
-    pub writes_record : Answers 𝓛 𝓜 𝓡 writing.ended writing-code.routine
+    pub writes_record : Answers 𝓛 𝓜 𝓡 writing.ended writing-code.code writing-code.name
         (λ κs a r e.
         let envelope = a.0 in let rows = a.1.0.now in let m = a.1.1.0 in let buffer = a.1.1.1.0.now in
         let buffer-after = e.1.1.1.0.now in
         ⌜ r ≡ record_written total row_limit channel_types rows m envelope (length buffer) ⌝
         ∗ ⌜ buffer-after ≡ filled (number_of r.outcome) r.length (record_text channel_types envelope) buffer ⌝)
     -- chart: chart(figures, horizontal, vertical)
-    pub charts : Answers 𝓛 𝓜 𝓡 chart.ended chart-code.routine
+    pub charts : Answers 𝓛 𝓜 𝓡 chart.ended chart-code.code chart-code.name
         (λ κs a r e.
         let figures = a.0 in let horizontal = a.1.0 in let vertical = a.1.1.0 in
         ⌜ r ≡ chart_mark total channel_types figures horizontal vertical ⌝)
     -- by a second form that is lent codes and X: chart_lent(scalars, codes, scaled_centre, horizontal, vertical)
-    pub charts_lent : Answers 𝓛 𝓜 𝓡 chart-lent.ended chart-lent-code.routine
+    pub charts_lent : Answers 𝓛 𝓜 𝓡 chart-lent.ended chart-lent-code.code chart-lent-code.name
         (λ κs a r e.
         let scalars = a.0 in let codes = a.1.0.now in let centre = a.1.1.0.now in let horizontal = a.1.1.1.0 in
         let vertical = a.1.1.1.1.0 in
         ⌜ r ≡ chart_mark total channel_types (lent_figures scalars codes centre) horizontal vertical ⌝)
     -- panel: panel(figures)
-    pub shows_panel : Answers 𝓛 𝓜 𝓡 panel.ended panel-code.routine
+    pub shows_panel : Answers 𝓛 𝓜 𝓡 panel.ended panel-code.code panel-code.name
         (λ κs a r e.
         let figures = a.0 in
         ⌜ r ≡ panel_shown total channel_types figures ⌝)
     -- by a second form that is lent codes and X: panel_lent(scalars, codes, scaled_centre)
-    pub shows_panel_lent : Answers 𝓛 𝓜 𝓡 panel-lent.ended panel-lent-code.routine
+    pub shows_panel_lent : Answers 𝓛 𝓜 𝓡 panel-lent.ended panel-lent-code.code panel-lent-code.name
         (λ κs a r e.
         let scalars = a.0 in let codes = a.1.0.now in let centre = a.1.1.0.now in
         ⌜ r ≡ panel_shown total channel_types (lent_figures scalars codes centre) ⌝)
@@ -151,12 +151,12 @@ module _ {M : Type 1} {𝓤 : Ura M} (𝓛 : Logic 𝓤) (𝓜 : Model 𝓤 𝓛
   calls =
       record {
         draws =
-            answers_so 𝓛 𝓜 𝓡 draw.ended draw-code.routine
+            answers_so 𝓛 𝓜 𝓡 draw.ended draw-code.code draw-code.name
             (λ κs a r e. DrawPromise a.0.now a.1.0 a.1.1.0 a.1.1.1.0 r)
             (λ κs a r e. (r ≡ drawing total row_limit a.0.now a.1.0 a.1.1.0 a.1.1.1.0) × DrawPromise a.0.now a.1.0 a.1.1.0 a.1.1.1.0 r)
             (λ κs a r e promise. (promise.is, promise)) (draw-proof.met 𝓤 𝓛 𝓜 𝓡);
         checks =
-            answers_so 𝓛 𝓜 𝓡 check.ended check-code.routine
+            answers_so 𝓛 𝓜 𝓡 check.ended check-code.code check-code.name
             (λ κs a r e. CheckPromise a.0.now a.1.0 a.1.1.0 a.1.1.1.0.now r)
             (λ κs a r e. (r ≡ checking total row_limit a.0.now a.1.0 a.1.1.0 a.1.1.1.0.now) × CheckPromise a.0.now a.1.0 a.1.1.0 a.1.1.1.0.now r)
             (λ κs a r e promise. (promise.is, promise)) (check-proof.met 𝓤 𝓛 𝓜 𝓡);

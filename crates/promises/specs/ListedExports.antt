@@ -67,9 +67,9 @@ chart_given given codes X h v =
     (λ _. mark_numbers (refused_mark outside_limits) (mark_answered (refused_mark outside_limits) refl))
     (λ _. mark_numbers (chart_mark total channel_types (figures_given given codes X) h v) (answers_listed.of_chart (figures_given given codes X) h v))
 
-panel_given_lem : (given : FiguresGiven) (codes : List ℕ) (X : List ℤ) → Listed (panel_given total channel_types given codes X).outcome
+panel-given : (given : FiguresGiven) (codes : List ℕ) (X : List ℤ) → Listed (panel_given total channel_types given codes X).outcome
 unfolding panel_given
-panel_given_lem given codes X =
+panel-given given codes X =
     each_answer (λ (p : PanelShown). Listed p.outcome) (ending_known given) (λ _. refl) (λ _. (answers_listed.of_panel (figures_given given codes X)).listed)
 
 writing-given : (given : FiguresGiven) (codes : List ℕ) (X : List ℤ) (ws : List ℕ) (rows : List ℤ) (m places : ℕ)
@@ -111,6 +111,6 @@ exports_listed =
       of_chart = chart_given;
       of_panel = λ given codes X n places.
           let o = (panel_given total channel_types given codes X).outcome in
-          listed_number (with_room (leb n places) o) (room_listed (leb n places) o (panel_given_lem given codes X));
+          listed_number (with_room (leb n places) o) (room_listed (leb n places) o (panel-given given codes X));
       of_output = λ output places. written-numbers (text_written output places) (answers_listed.of_output output places);
     }

@@ -47,7 +47,7 @@ module _ {M : Type 1} {𝓤 : Ura M} (𝓛 : Logic 𝓤) (𝓜 : Model 𝓤 𝓛
 
   pub record ProgramCalls : Type 1 where
     -- the programs, from their texts to the whole output, which 13 does not meet with this room: draw(reference, output)
-    pub program_draws : Answers 𝓛 𝓜 𝓡 program-draw.ended program-draw-code.routine
+    pub program_draws : Answers 𝓛 𝓜 𝓡 program-draw.ended program-draw-code.code program-draw-code.name
         (λ κs a r e.
         let reference = a.0.now in let output = a.1.0.now in let output-after = e.1.0.now in
         ⌜ r ≡ text_written (draw_output total row_limit channel_types reference) (length output) ⌝
@@ -55,7 +55,7 @@ module _ {M : Type 1} {𝓤 : Ura M} (𝓛 : Logic 𝓤) (𝓜 : Model 𝓤 𝓛
         ∗ ⌜ Part output-after r.length ⌝
         ∗ ⌜ length (draw_output total row_limit channel_types reference) ≤ draw_room ⌝)
     -- verify(reference, record_text, output)
-    pub program_verifies : Answers 𝓛 𝓜 𝓡 program-verify.ended program-verify-code.routine
+    pub program_verifies : Answers 𝓛 𝓜 𝓡 program-verify.ended program-verify-code.code program-verify-code.name
         (λ κs a r e.
         let reference = a.0.now in let text = a.1.0.now in let output = a.1.1.0.now in
         let output-after = e.1.1.0.now in
@@ -64,7 +64,7 @@ module _ {M : Type 1} {𝓤 : Ura M} (𝓛 : Logic 𝓤) (𝓜 : Model 𝓤 𝓛
         ∗ ⌜ Part output-after r.length ⌝
         ∗ ⌜ length (verify_output total row_limit channel_types reference text) ≤ answer_room ⌝)
     -- judge(reference, record_text, readings, output)
-    pub program_judges : Answers 𝓛 𝓜 𝓡 program-judge.ended program-judge-code.routine
+    pub program_judges : Answers 𝓛 𝓜 𝓡 program-judge.ended program-judge-code.code program-judge-code.name
         (λ κs a r e.
         let reference = a.0.now in let text = a.1.0.now in let readings = a.1.1.0.now in
         let output = a.1.1.1.0.now in let output-after = e.1.1.1.0.now in
@@ -74,7 +74,7 @@ module _ {M : Type 1} {𝓤 : Ura M} (𝓛 : Logic 𝓤) (𝓜 : Model 𝓤 𝓛
         ∗ ⌜ length (judge_output total row_limit channel_types reference text readings) ≤ verdicts_room ⌝
         ∗ ⌜ length (judge_output total row_limit channel_types reference text readings) ≤ readings_room readings ⌝)
     -- panel(reference, record_text, output)
-    pub program_shows_panel : Answers 𝓛 𝓜 𝓡 program-panel.ended program-panel-code.routine
+    pub program_shows_panel : Answers 𝓛 𝓜 𝓡 program-panel.ended program-panel-code.code program-panel-code.name
         (λ κs a r e.
         let reference = a.0.now in let text = a.1.0.now in let output = a.1.1.0.now in
         let output-after = e.1.1.0.now in
@@ -95,15 +95,15 @@ module _ {M : Type 1} {𝓤 : Ura M} (𝓛 : Logic 𝓤) (𝓜 : Model 𝓤 𝓛
   -- No public calls: each asks for a slice of more places than a text may have bytes, and what it gives is no equation, since no argument
   -- says what is there to be read. What was read stands in the first places of the slice, nothing where a read failed (`Read`)
   pub record ProgramReaders : Type 1 where
-    -- read_file(program, index, text)
-    pub reads_file : AnswersWhere 𝓛 𝓜 𝓡 read-file.ended read-file-code.routine (λ κs a. ⌜ text_limit < length a.1.1.0.now ⌝)
+    -- read_file(rt, program, index, text)
+    pub reads_file : AnswersWhere 𝓛 𝓜 𝓡 read-file.ended read-file-code.code read-file-code.name (λ κs a. ⌜ text_limit < length a.1.1.1.0.now ⌝)
+        (λ κs a r e.
+        let text-after = e.1.1.1.0.now in
+        ⌜ Read r text-after ⌝)
+    -- read_standard_input(rt, program, text)
+    pub reads_standard_input : AnswersWhere 𝓛 𝓜 𝓡 read-input.ended read-input-code.code read-input-code.name (λ κs a. ⌜ text_limit < length a.1.1.0.now ⌝)
         (λ κs a r e.
         let text-after = e.1.1.0.now in
-        ⌜ Read r text-after ⌝)
-    -- read_standard_input(program, text)
-    pub reads_standard_input : AnswersWhere 𝓛 𝓜 𝓡 read-input.ended read-input-code.routine (λ κs a. ⌜ text_limit < length a.1.0.now ⌝)
-        (λ κs a r e.
-        let text-after = e.1.0.now in
         ⌜ Read r text-after ⌝)
 
   pub program_readers : ProgramReaders

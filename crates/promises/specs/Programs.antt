@@ -21,7 +21,7 @@ use Rattle.program_io.specs.declared.descriptor.AfterRead.TheVariants.{Done, Mor
 
 pub record ProgramTexts : Type 0 where
   -- the first 65,537 bytes of each text give the output of the whole
-  pub bytes_read : (text : List ℕ) → bytes_read text ≡ take 65537 text
+  pub first_bytes : (text : List ℕ) → bytes_read text ≡ take 65537 text
   pub draw_long : (reference : List ℕ) → draw_output total row_limit channel_types (bytes_read reference) ≡ draw_output total row_limit channel_types reference
   pub verify_long : (reference text : List ℕ)
       → verify_output total row_limit channel_types (bytes_read reference) (bytes_read text) ≡ verify_output total row_limit channel_types reference text
@@ -55,7 +55,7 @@ pub program_texts : ProgramTexts
 unfolding bytes_read
 program_texts =
     record {
-      bytes_read = λ text. refl;
+      first_bytes = λ text. refl;
       draw_long = draw_long total row_limit channel_types;
       verify_long = verify_long total row_limit channel_types;
       panel_long = panel_long total row_limit channel_types;

@@ -38,7 +38,7 @@ use Rattle.promises.specs.House.{text_content}
 -- the values are those of row i of m rows, within the ranges of the n codes, under any label
 pub record RowAsReading (n : ℕ) (codes label : List ℕ) (values : List Written) (rows : List ℤ) (m i : ℕ) : Type 0 where
   pub typed : n ≤ length codes
-  pub codes_known_lem : codes_known channel_types (take n codes) ≡ true
+  pub codes_known : codes_known channel_types (take n codes) ≡ true
   pub labelled : is_label label ≡ true
   pub complete : length values ≡ n
   pub in_ranges : values_in_range channel_types (take n codes) values ≡ true
@@ -55,7 +55,7 @@ distance f values = scaled_squared_distance total f.n (centre_of f.ball.scaled_c
 
 -- what an accepted reading is: the printing of a label, the envelope's tags and values within their ranges, `<v` kept
 pub record AcceptedReading (f : Figures) (text : List ℕ) : Type 0 where
-  pub figures_within_lem : figures_known total channel_types f ≡ true
+  pub figures_within : figures_known total channel_types f ≡ true
   pub label : List ℕ
   pub values : List Written
   pub labelled : is_label label ≡ true
@@ -72,7 +72,7 @@ pub record AcceptedReading (f : Figures) (text : List ℕ) : Type 0 where
 abbrev accepted_reading : (f : Figures) (text : List ℕ) → Accepting total channel_types f text → AcceptedReading f text
 accepted_reading f text a =
     record {
-      figures_within_lem = a.within;
+      figures_within = a.within;
       label = a.label;
       values = a.values;
       labelled = a.labelled;
@@ -157,10 +157,10 @@ promise_2_9 =
             alarm = alarm_measured total channel_types f text m;
           };
       drawn_row = λ n codes label values rows m i r.
-          drawn_row_quiet total channel_types house_sound n codes label r.labelled values r.complete r.in_ranges r.typed r.codes_known_lem
+          drawn_row_quiet total channel_types house_sound n codes label r.labelled values r.complete r.in_ranges r.typed r.codes_known
           (omega arith) row_limit rows m i r.row r.same_values;
       checked_row = λ n codes label values rows m i r.
-          checked_row_quiet total channel_types house_sound n codes label r.labelled values r.complete r.in_ranges r.typed r.codes_known_lem
+          checked_row_quiet total channel_types house_sound n codes label r.labelled values r.complete r.in_ranges r.typed r.codes_known
           (omega arith) row_limit rows m i r.row r.same_values;
       reference_drawn_row = λ text found is more held taken. reference_drawn_quiet total (omega arith) row_limit channel_types house_sound text found is more held taken;
       reference_checked_row = λ text found is more held taken. reference_checked_quiet total (omega arith) row_limit channel_types house_sound text found is more held taken;

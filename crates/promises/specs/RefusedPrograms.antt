@@ -49,7 +49,7 @@ pub record ProgramsRefused (reference : List ℕ) : Type 0 where
   pub record_reference : (number line : ℕ) → text_content reference ≡ faulty number line → (text : List ℕ)
       → against reference text ≡ not_read row_limit (refused_at number line)
   -- then the record against the text's rows and codes
-  pub record_text : (found : ReferenceText) → text_content reference ≡ sound found → (text : List ℕ)
+  pub record_by_text : (found : ReferenceText) → text_content reference ≡ sound found → (text : List ℕ)
       → against reference text ≡ record_read total row_limit channel_types (table_of found) (row_count found) (channel_count found) (codes_of found) text
   -- then the readings together by 1, and else each by its verdict
   pub readings_1 : (f : Figures) (readings : List ℕ) → text_within readings ≡ false → readings_output total channel_types f readings ≡ print_refusal text_length 0
@@ -58,9 +58,9 @@ pub record ProgramsRefused (reference : List ℕ) : Type 0 where
   -- no 8 past an accepted reference text and record
   pub drawn : (found : ReferenceText) → text_content reference ≡ sound found
       → (drawing total row_limit (table_of found) (row_count found) (channel_count found) draw_budget).outcome ≡ Accepted
-  pub figures_within_lem : (text : List ℕ) → (against reference text).outcome ≡ Accepted
+  pub figures_within : (text : List ℕ) → (against reference text).outcome ≡ Accepted
       → figures_known total channel_types (against reference text).envelope.figures ≡ true
-  pub panel_shown : (text : List ℕ) → (against reference text).outcome ≡ Accepted
+  pub panel_sound : (text : List ℕ) → (against reference text).outcome ≡ Accepted
       → (panel_shown total channel_types (against reference text).envelope.figures).outcome ≡ Accepted
   -- what is printed of the rest
   pub draw_else : (found : ReferenceText) → text_content reference ≡ sound found
@@ -91,12 +91,12 @@ programs_refused reference =
       draw_reference = draw_faulty total row_limit channel_types reference;
       plain_reference = plain_faulty row_limit channel_types reference;
       record_reference = against_faulty total row_limit channel_types reference;
-      record_text = against_sound total row_limit channel_types reference;
+      record_by_text = against_sound total row_limit channel_types reference;
       readings_1 = readings_refused total channel_types;
       readings_judged = readings_judged total channel_types;
       drawn = λ found is. draw_accepted total row_limit channel_types reference found is house_sound;
-      figures_within_lem = against-within total row_limit channel_types house_sound (omega arith) reference;
-      panel_shown = panel_accepted total row_limit channel_types house_sound (omega arith) reference;
+      figures_within = against-within total row_limit channel_types house_sound (omega arith) reference;
+      panel_sound = panel_accepted total row_limit channel_types house_sound (omega arith) reference;
       draw_else = λ found is. draw_record total row_limit channel_types reference found is house_sound;
       plain_else = λ found is.
           let plain = plain-accepted row_limit channel_types reference found is house_sound in

@@ -146,16 +146,16 @@ promise_2_11 =
             most_bytes = λ is. house_most rows m e (written-writing total row_limit channel_types rows m e places is);
             room_enough = house_enough rows m e places;
           };
-      own = λ rows m n codes coded codes_known_lem.
+      own = λ rows m n codes coded known.
           record {
             drawn_cleared = λ budget is. drawn_cleared total row_limit rows m n (omega arith) budget is codes coded;
-            drawn_written = drawn_written total row_limit channel_types (omega arith) rows m n codes coded codes_known_lem;
-            drawn_room = house_drawn_written rows m n codes coded codes_known_lem;
-            drawn_read = house_drawn_read rows m n codes coded codes_known_lem;
+            drawn_written = drawn_written total row_limit channel_types (omega arith) rows m n codes coded known;
+            drawn_room = house_drawn_written rows m n codes coded known;
+            drawn_read = house_drawn_read rows m n codes coded known;
             checked_written = λ ws is moves most all first rest places.
                 writing-written total row_limit channel_types rows m
                 (envelope_of (figures_of n (padded channel_limit codes) (checking total row_limit rows m n ws).ball moves) all) places
-                (checked-writing total row_limit channel_types (omega arith) rows m n codes coded codes_known_lem ws is moves most all first rest);
+                (checked-writing total row_limit channel_types (omega arith) rows m n codes coded known ws is moves most all first rest);
           };
       programs = λ reference found is.
           record { verified = draw_verified reference found is; judged_lines = draw_judged reference found is; rows_quiet = rows_quiet reference found is };

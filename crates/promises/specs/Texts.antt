@@ -114,7 +114,7 @@ pub record ReferenceTexts : Type 0 where
   -- a heading and a row, printed and read
   pub heading_printed : (line codes : List ℕ) → heading_of reference_word channel_limit channel_types line ≡ some codes
       → print_heading reference_word channel_types codes ≡ line
-  pub heading_read_lem : (codes : List ℕ) → CodesWithin channel_limit channel_types codes
+  pub heading_read : (codes : List ℕ) → CodesWithin channel_limit channel_types codes
       → heading_of reference_word channel_limit channel_types (print_heading reference_word channel_types codes) ≡ some codes
   pub row_printed : (n : ℕ) (line : List ℕ) (row : Row) → row_of n line ≡ some row
       → (print_row row ≡ line) × (is_row_label row.label ≡ true) × (length row.values ≡ n)
@@ -134,7 +134,7 @@ promise_2_7 =
       row_is = λ row. refl;
       text_is = λ found. refl;
       heading_printed = heading_printed channel_types house_sound reference_word channel_limit;
-      heading_read_lem = printed-heading channel_types house_sound reference_word channel_limit refl;
+      heading_read = printed-heading channel_types house_sound reference_word channel_limit refl;
       row_printed = row_printed;
       row_read = λ n row labelled. printed-row row labelled n;
       accepted = λ text found is.

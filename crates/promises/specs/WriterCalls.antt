@@ -23,7 +23,7 @@ use Rattle.reference_write.specs.contracts.write as writing
 use Rattle.reference_write.proofs.write.Symbol as writing-code
 use Rattle.reference_write.proofs.write.Met as writing-proof
 use Rattle.program_plain.specs.contracts.plain as plain
-use Rattle.program_plain.proofs.plain.Symbol as plain_code
+use Rattle.program_plain.proofs.plain.Symbol as plain-code
 use Rattle.program_plain.proofs.plain.Met as plain-proof
 use Rattle.cundarivo.specs.contracts.reference_text.cundarivo_write_reference as exported
 use Rattle.cundarivo.proofs.reference_text.cundarivo_write_reference.Symbol as exported-code
@@ -37,7 +37,7 @@ module _ {M : Type 1} {𝓤 : Ura M} (𝓛 : Logic 𝓤) (𝓜 : Model 𝓤 𝓛
 
   pub record WriterCalls : Type 1 where
     -- reference text written: write(rows, m, n, codes, labels, ends, buffer)
-    pub writes_reference : Answers 𝓛 𝓜 𝓡 writing.ended writing-code.routine
+    pub writes_reference : Answers 𝓛 𝓜 𝓡 writing.ended writing-code.code writing-code.name
         (λ κs a r e.
         let rows = a.0.now in let m = a.1.0 in let n = a.1.1.0 in let codes = a.1.1.1.0.now in
         let labels = a.1.1.1.1.0.now in let ends = a.1.1.1.1.1.0.now in let buffer = a.1.1.1.1.1.1.0.now in
@@ -46,7 +46,7 @@ module _ {M : Type 1} {𝓤 : Ura M} (𝓛 : Logic 𝓤) (𝓜 : Model 𝓤 𝓛
         ∗ ⌜ buffer-after
         ≡ filled (number_of r.outcome) r.length (written_text channel_types (lent_text row_limit channel_types (lent_table rows m n codes labels ends))) buffer ⌝)
     -- the program, from its text to the whole output, which 13 does not meet with this room: plain(reference, output)
-    pub program_prints_plain : Answers 𝓛 𝓜 𝓡 plain.ended plain_code.routine
+    pub program_prints_plain : Answers 𝓛 𝓜 𝓡 plain.ended plain-code.code plain-code.name
         (λ κs a r e.
         let reference = a.0.now in let output = a.1.0.now in let output-after = e.1.0.now in
         ⌜ r ≡ text_written (plain_output row_limit channel_types reference) (length output) ⌝
@@ -54,7 +54,7 @@ module _ {M : Type 1} {𝓤 : Ura M} (𝓛 : Logic 𝓤) (𝓜 : Model 𝓤 𝓛
         ∗ ⌜ Part output-after r.length ⌝
         ∗ ⌜ length (plain_output row_limit channel_types reference) ≤ plain_room ⌝)
     -- for C and Rust: cundarivo_write_reference(rows, m, n, codes, labels, ends, buffer)
-    pub cundarivo_write_reference : Answers 𝓛 𝓜 𝓡 exported.ended exported-code.routine
+    pub cundarivo_write_reference : Answers 𝓛 𝓜 𝓡 exported.ended exported-code.code exported-code.name
         (λ κs a r e.
         let rows = a.0.now in let m = a.1.0 in let n = a.1.1.0 in let codes = a.1.1.1.0.now in
         let labels = a.1.1.1.1.0.now in let ends = a.1.1.1.1.1.0.now in let buffer = a.1.1.1.1.1.1.0.now in
@@ -63,7 +63,7 @@ module _ {M : Type 1} {𝓤 : Ura M} (𝓛 : Logic 𝓤) (𝓜 : Model 𝓤 𝓛
         ∗ ⌜ buffer-after
         ≡ filled r.number r.length (written_text channel_types (lent_text row_limit channel_types (lent_table rows m n codes labels ends))) buffer ⌝)
     -- cundarivo_program_plain(reference, output)
-    pub cundarivo_program_plain : Answers 𝓛 𝓜 𝓡 program-plain.ended program-plain-code.routine
+    pub cundarivo_program_plain : Answers 𝓛 𝓜 𝓡 program-plain.ended program-plain-code.code program-plain-code.name
         (λ κs a r e.
         let reference = a.0.now in let output = a.1.0.now in let output-after = e.1.0.now in
         ⌜ r ≡ written_in_numbers (text_written (plain_output row_limit channel_types reference) (length output)) ⌝

@@ -55,14 +55,14 @@ pub record WriterRefused (lent : Lent) (places : ℕ) : Type 0 where
       → writing lent places ≡ written (length (print_text channel_types found))
 
 module _ (lent : Lent) (places : ℕ) where
-  answer_of_lem : (c : Content) → lent_content lent ≡ c → writing lent places ≡ content_written channel_types c places
+  answer-of : (c : Content) → lent_content lent ≡ c → writing lent places ≡ content_written channel_types c places
   unfolding reference_written
-  answer_of_lem c is = ap (λ (x : Content). content_written channel_types x places) is
+  answer-of c is = ap (λ (x : Content). content_written channel_types x places) is
 
   module _ (within : lent_within row_limit channel_types lent ≡ true) (i : ℕ) (below : i < lent.m) (passed : NoFault channel_types lent i) where
     row-fault : (number : ℕ) → 1 ≤ number → lent_fault channel_types lent i ≡ number → writing lent places ≡ not_written (refused_at number (i + 2))
     row-fault number some is =
-        answer_of_lem (faulty number (i + 2))
+        answer-of (faulty number (i + 2))
         (first_fault row_limit channel_types lent within i below passed (omega arith) ∙ ap (λ k. faulty k (i + 2)) is)
 
   pub writer_refused : WriterRefused lent places
@@ -70,20 +70,20 @@ module _ (lent : Lent) (places : ℕ) where
       let codes = take lent.n lent.codes in
       record {
         within_is = refl;
-        outside_8 = λ h. answer_of_lem (faulty outside_limits 0) (outside row_limit channel_types lent h);
+        outside_8 = λ h. answer-of (faulty outside_limits 0) (outside row_limit channel_types lent h);
         form_3 = λ within i below passed formless.
             row-fault within i below passed line_form (omega arith) (fault-form channel_types codes (take i (labels_lent lent)) (lent_row lent i) formless);
         range_4 = λ within i below passed labelled outside-range.
             row-fault within i below passed value_range (omega arith)
             (fault_range channel_types codes (take i (labels_lent lent)) (lent_row lent i) labelled outside-range);
-        label_5 = λ within i below passed labelled in_range_lem used.
+        label_5 = λ within i below passed labelled in_range used.
             row-fault within i below passed label_repeated (omega arith)
-            (fault-label channel_types codes (take i (labels_lent lent)) (lent_row lent i) labelled in_range_lem used);
+            (fault-label channel_types codes (take i (labels_lent lent)) (lent_row lent i) labelled in_range used);
         none_exactly = λ i. (
           fault_none channel_types codes (take i (labels_lent lent)) (lent_row lent i),
           λ tests. none_fault channel_types codes (take i (labels_lent lent)) (lent_row lent i) tests.0 tests.1 tests.2,
         );
         some_text = λ within none. let text = no_fault row_limit channel_types lent within none in (text.0, text.1);
-        buffer_13 = λ found is short. answer_of_lem (sound found) is ∙ text_short (print_text channel_types found) places short;
-        else_written = λ found is fits. answer_of_lem (sound found) is ∙ text_fits (print_text channel_types found) places fits;
+        buffer_13 = λ found is short. answer-of (sound found) is ∙ text_short (print_text channel_types found) places short;
+        else_written = λ found is fits. answer-of (sound found) is ∙ text_fits (print_text channel_types found) places fits;
       }

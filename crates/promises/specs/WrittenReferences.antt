@@ -30,7 +30,7 @@ use Rattle.promises.specs.House.{text_content}
 use Rattle.promises.specs.WriterAnswers.{WriterListed, writer_listed, writing}
 use Rattle.promises.specs.WriterCalls.{WriterCalls, writer_calls}
 use Rattle.promises.specs.WriterRefusals.{WriterRefused, writer_refused}
-use Rattle.promises.specs.WrittenTexts.{OwnText, ReadBack, WrittenExactly, WrittenLength, own-text, read_back_lem, text_of, written_exactly, written-length}
+use Rattle.promises.specs.WrittenTexts.{OwnText, ReadBack, WrittenExactly, WrittenLength, own-text, read-back, text_of, written_exactly, written-length}
 use seplogic.Ra.Ura.{Ura}
 use types.Logic.{Logic}
 use contract.Running.{Running}
@@ -80,9 +80,9 @@ module _ {M : Type 1} {𝓤 : Ura M} (𝓛 : Logic 𝓤) (𝓜 : Model 𝓤 𝓛
     pub listed : (lent : Lent) (places : ℕ) → WriterListed lent places
     pub order : (lent : Lent) (places : ℕ) → WriterRefused lent places
     -- labels are lent as their bytes, one after another, with the index at which each ends
-    pub labels_lent_lem : (labels : List (List ℕ)) → labels_from (labels_joined labels) 0 (ends_from 0 labels) ≡ labels
+    pub labels_lent : (labels : List (List ℕ)) → labels_from (labels_joined labels) 0 (ends_from 0 labels) ≡ labels
     -- what is accepted gives a text that reads as what is lent
-    pub read_back_lem : (lent : Lent) (places : ℕ) → (writing lent places).outcome ≡ Accepted
+    pub read_back : (lent : Lent) (places : ℕ) → (writing lent places).outcome ≡ Accepted
         → (writing lent places ≡ written (length (text_of lent))) × ReadBack lent (text_of lent)
     pub exactly : (lent : Lent) → WrittenExactly lent
     pub own : (text : List ℕ) (found : ReferenceText) → text_content text ≡ sound found → OwnText text found
@@ -99,8 +99,8 @@ module _ {M : Type 1} {𝓤 : Ura M} (𝓛 : Logic 𝓤) (𝓜 : Model 𝓤 𝓛
         of_calls = writer_calls 𝓛 𝓜 𝓡;
         listed = writer_listed;
         order = writer_refused;
-        labels_lent_lem = lent_labels;
-        read_back_lem = read_back_lem;
+        labels_lent = lent_labels;
+        read_back = read-back;
         exactly = written_exactly;
         own = own-text;
         lengths = written-length;

@@ -152,9 +152,9 @@ room_for lent places room = go (lent_content lent) refl
 
 -- ---- the statements
 
-pub read_back_lem : (lent : Lent) (places : ℕ) → (writing lent places).outcome ≡ Accepted
+pub read-back : (lent : Lent) (places : ℕ) → (writing lent places).outcome ≡ Accepted
     → (writing lent places ≡ written (length (text_of lent))) × ReadBack lent (text_of lent)
-read_back_lem lent places e =
+read-back lent places e =
     let (found, is) = accepted-text lent places e in
     rw (text_is lent found is) (accepted_whole lent found is places e, reads lent found is)
 
