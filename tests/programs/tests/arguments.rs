@@ -170,6 +170,9 @@ fn words(files: &[OsString]) -> Vec<OsString> {
     [OsString::from("--")].into_iter().chain(words).collect()
 }
 
+/// What a program says of a name that is not UTF-8: std of Rattle takes names as text. The command has no such limit.
+const NOT_TEXT: &str = "File name not in UTF-8";
+
 /// In the folder itself, so that the name is all of the path.
 #[test]
 fn a_file_of_any_name_is_read() {
@@ -187,7 +190,13 @@ fn a_file_of_any_name_is_read() {
                 let input = File::open(folder.path().join(last)).expect("a file");
                 let mut alone = Way::Program.command(name, before);
                 let ended = end_on(alone.current_dir(folder.path()), input);
-                ended.assert_printed(answer(name), 0);
+                match before.iter().any(|file| file.to_str().is_none()) {
+                    true => {
+                        let line = format!("{name}: {}: {NOT_TEXT}", quoted(odd.as_bytes()));
+                        ended.assert_told(&line, 0);
+                    }
+                    false => ended.assert_printed(answer(name), 0),
+                }
                 let mut command = Way::Command.command(name, &words(&files));
                 let ended = end(command.current_dir(folder.path()), b"");
                 ended.assert_printed(answer(name), 0);
@@ -206,7 +215,11 @@ fn a_missing_file_of_any_name_is_told_in_one_line_of_printable_bytes() {
             let before = &files[..files.len() - 1];
             let mut alone = Way::Program.command(program, before);
             let ended = end(alone.current_dir(folder.path()), b"");
-            ended.assert_told(&format!("{program}: {reason}"), 0);
+            let line = match odd.to_str() {
+                Some(_) => format!("{program}: {reason}"),
+                None => format!("{program}: {}: {NOT_TEXT}", quoted(odd.as_bytes())),
+            };
+            ended.assert_told(&line, 0);
             if odd != "-" {
                 let mut command = Way::Command.command(program, &words(files));
                 let ended = end(command.current_dir(folder.path()), b"");
