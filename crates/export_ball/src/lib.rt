@@ -1,4 +1,6 @@
 // The drawing and the check for C and Rust, on rows in a lent slice. X and the weights are written to slices of the caller's.
+#![tactic(auto)]
+
 ghost use Rattle.std.specs.Prelude.{◌≡◌, length};
 ghost use Rattle.limits.specs.Limits.{total, row_limit};
 ghost use Rattle.lent.specs.Filled.{filled};
