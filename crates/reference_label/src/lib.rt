@@ -1,4 +1,6 @@
 // The label of a row of a reference text.
+#![tactic(auto)]
+
 ghost use Rattle.std.specs.Prelude.{◌≡◌, ◌+◌, take, drop};
 ghost use Rattle.limits.specs.Limits.{row_limit};
 ghost use Rattle.channel.specs.Channel.{channel_types};
