@@ -1,4 +1,6 @@
 // The trial of alert settings on readings for C and Rust: the figures of an envelope are given in numbers, its codes and X in lent slices.
+#![tactic(auto)]
+
 ghost use Rattle.std.specs.Prelude.{◌≡◌, length};
 ghost use Rattle.limits.specs.Limits.{total};
 ghost use Rattle.lent.specs.Filled.{filled};

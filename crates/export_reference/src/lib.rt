@@ -1,5 +1,7 @@
 // The reference text for C and Rust: where it is read, its table and codes go into slices of the caller's, and a label is handed back by
 // its place in the text; where it is written, the text goes into such a slice.
+#![tactic(auto)]
+
 ghost use Rattle.std.specs.Prelude.{◌*◌, ◌≡◌, length};
 ghost use Rattle.limits.specs.Limits.{row_limit};
 ghost use Rattle.lent.specs.Filled.{filled};
