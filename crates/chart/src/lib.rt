@@ -1,6 +1,8 @@
 // The mark of an envelope on a chart of two channels (document 01, "Chart and panel"). Its numbers are binary64, and each is exactly
 // a whole number divided by 65,536: nothing is rounded, since that whole number has at most 31 binary digits and a binary64 number
 // holds 53.
+#![tactic(auto)]
+
 ghost use Rattle.std.specs.Prelude.{◌≡◌, ◌≤◌, ◌-◌, ◌^◌, nat_abs};
 ghost use Rattle.refusal.specs.Number.{outside_limits};
 ghost use Rattle.limits.specs.Limits.{total, distance_limit};

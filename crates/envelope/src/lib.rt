@@ -1,6 +1,8 @@
 // An envelope as it is handed from call to call: its figures, and the weights that they come from. The limits on the figures
 // (document 01, "Turned-back input", 8) and their codes are tested by one function, `figures_known_lent`, whoever made the envelope;
 // the codes and X are lent to it beside the figures that are single numbers.
+#![tactic(auto)]
+
 ghost use Rattle.std.specs.Prelude.{◌≡◌, List, ℕ, ◌≤◌, leb, nat_abs, length};
 ghost use Rattle.limits.specs.Limits.{total, row_limit, centre_limit};
 ghost use Rattle.geometry.specs.Table.{places_within};

@@ -1,4 +1,6 @@
 // What the panel shows: the centre of an envelope to the nearest whole step, halves away from zero.
+#![tactic(auto)]
+
 ghost use Rattle.std.specs.Prelude.{◌≡◌, ◌≤◌, nat_abs};
 ghost use Rattle.integers.specs.Reading.{Bounded};
 ghost use Rattle.refusal.specs.Number.{outside_limits};

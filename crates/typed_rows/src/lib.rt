@@ -1,4 +1,6 @@
 // Rows of channels whose types are given by their codes: what a call is lent of them is within its limits.
+#![tactic(auto)]
+
 ghost use Rattle.std.specs.Prelude.{◌≡◌};
 ghost use Rattle.limits.specs.Limits.{row_limit};
 ghost use Rattle.channel.specs.Channel.{channel_types};

@@ -1,5 +1,4 @@
 -- `panel_steps::nearest_step` meets its contract: the magnitude is rounded, and a place of X below 0 has the opposite of that.
-use borrow.Author.Rules.{rules}
 use Prim.Native.Nat.{ℕ, ◌^◌, ◌<◌}
 use mathlib.Core.Path.{◌≡◌, refl, sym, ap, ◌∙◌}
 use mathlib.Core.Bool.{true, false}
@@ -15,8 +14,7 @@ use Rattle.integers.specs.Absolute.{abs_neg, abs_nonneg, fits32, back32, back64}
 use Rattle.integers.specs.Reading.{Bounded, back, number_cast, sign_read, opposite_fits, opposite_read, natural_read}
 use Rattle.limits.specs.Limits.{total, coordinate_limit}
 use Rattle.panel_steps.specs.Panel.{nearest_magnitude, nearest_step}
-use Rattle.panel_steps.proofs.nearest_step.Statement.{statement}
-use Rattle.panel_steps.proofs.nearest_step.Tie as tie
+use Rattle.panel_steps.proofs.nearest_step.Goals as goal
 
 step-below : (D : ℕ) (z : ℤ) → lt_z z (pos 0) ≡ true → nearest_step D z ≡ neg_ℤ (pos (nearest_magnitude D (nat_abs z)))
 step-below D (pos k) e = clash e (le-ltb k 0 (omega arith))
@@ -39,52 +37,37 @@ module _ (r : ℕ) {d : ℕ} (b : Bounded coordinate_limit r d) where
       let small : nat_abs z < 2 ^ 31 = omega (arith, b.most, b.is, ap nat_abs opposite, abs_neg (pos d)) in
       (fits32 z small, back32 z small ∙ opposite)
 
-sub-nearest-magnitude : tie.Need-overflow-sub-nearest-magnitude
-sub-nearest-magnitude c = opposite_fits c.before.args.x (omega arith) c.if1.true
+pub overflow_sub-x : goal.overflow_sub-x
+overflow_sub-x c = opposite_fits c.args.x (omega arith) c.if-x-lt0.true
 
-cast-nearest-magnitude : tie.Need-overflow-cast-nearest-magnitude
-cast-nearest-magnitude c =
-    let x = c.before.args.x in
-    number_cast w32 (nat_abs x) (opposite_read x (omega arith) c.if1.true) (omega arith)
+pub overflow_cast-x : goal.overflow_cast-x
+overflow_cast-x c =
+    let x = c.args.x in
+    number_cast w32 (nat_abs x) (opposite_read x (omega arith) c.if-x-lt0.true) (omega arith)
 
-nearest-magnitude-requires : tie.Need-nearest-magnitude-requires
-nearest-magnitude-requires c κs = omega (arith, ap nat_abs (opposite_read c.before.args.x (omega arith) c.if1.true))
+pub nearest_magnitude-below-requires : goal.nearest_magnitude-below-requires
+nearest_magnitude-below-requires c = omega (arith, ap nat_abs (opposite_read c.args.x (omega arith) c.if-x-lt0.true))
 
-sub-result : tie.Need-overflow-sub-result
-sub-result c = (opposite-held c.nearest-magnitude.result c.nearest-magnitude.ensures).0
+pub overflow_sub-result : goal.overflow_sub-result
+overflow_sub-result c = (opposite-held c.nearest_magnitude-below.result c.nearest_magnitude-below.ensures).0
 
-returns : tie.Need-returns
-returns c =
-    let x = c.before.before.args.x in
-    let taken = c.before.if1.true in
-    (opposite-held c.nearest-magnitude.result c.nearest-magnitude.ensures).1
+pub returns-then-x-lt0 : goal.returns-then-x-lt0
+returns-then-x-lt0 c =
+    let x = c.args.x in
+    let taken = c.if-x-lt0.true in
+    (opposite-held c.nearest_magnitude-below.result c.nearest_magnitude-below.ensures).1
     ∙ ap (λ y. neg_ℤ (pos (nearest_magnitude total (nat_abs y)))) (opposite_read x (omega arith) taken)
     ∙ sym (step-below total x (sign_read x (omega arith) true taken))
 
-cast-nearest-magnitude-2 : tie.Need-overflow-cast-nearest-magnitude-2
-cast-nearest-magnitude-2 c =
-    let x = c.before.args.x in
-    number_cast w32 (nat_abs x) (natural_read x (omega arith) c.if1.false) (omega arith)
+pub overflow_cast-x-2 : goal.overflow_cast-x-2
+overflow_cast-x-2 c =
+    let x = c.args.x in
+    number_cast w32 (nat_abs x) (natural_read x (omega arith) c.if-x-lt0.false) (omega arith)
 
-returns-2 : tie.Need-returns-2
-returns-2 c =
-    let x = c.before.before.args.x in
-    let left = c.before.if1.false in
-    signed c.nearest-magnitude2.result c.nearest-magnitude2.ensures
+pub returns : goal.returns
+returns c =
+    let x = c.args.x in
+    let left = c.if-x-lt0.false in
+    signed c.nearest_magnitude.result c.nearest_magnitude.ensures
     ∙ ap (λ y. pos (nearest_magnitude total (nat_abs y))) (back64 x (omega arith))
     ∙ sym (step-natural total x (sign_read x (omega arith) false left))
-
-pub nearest-step-spec : {M : Type 1} → statement M
-nearest-step-spec =
-    tie.close
-    (tie.spec
-    sub-nearest-magnitude
-    cast-nearest-magnitude
-    nearest-magnitude-requires
-    (λ c. search rules)
-    sub-result
-    returns
-    cast-nearest-magnitude-2
-    (λ c κs. search rules)
-    (λ c. search rules)
-    returns-2)
