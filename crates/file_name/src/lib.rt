@@ -1,5 +1,7 @@
 // Names as they are told: bytes 33 to 126 stand for themselves except the backslash, every other byte is a backslash, `x` and two hex
 // digits, so that a name is always on one line and tells its bytes.
+#![tactic(auto)]
+
 ghost use Rattle.std.specs.Prelude.{◌≡◌, ◌+◌, ◌≤◌, ◌<◌, length};
 ghost use Rattle.io.specs.Digits.{hex_digit_ascii};
 ghost use Rattle.file_name.specs.Name.{

@@ -1,4 +1,6 @@
 // The messages of the programs, as they are printed before they are told. Each starts with the program's name.
+#![tactic(auto)]
+
 ghost use Rattle.std.specs.Prelude.{◌^◌, ◌≤◌, ◌<◌, length};
 ghost use Rattle.message.specs.Message.{
   program_part,

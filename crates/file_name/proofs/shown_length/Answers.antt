@@ -4,18 +4,14 @@ use native.Mathlib.Omega.{arith}
 use lib.ListN.{length}
 use lib.Seq.{take_all, length-take-le}
 use Rattle.file_name.specs.Name.{name_limit}
-use Rattle.file_name.proofs.shown_length.Statement.{statement}
-use Rattle.file_name.proofs.shown_length.Tie as tie
+use Rattle.file_name.proofs.shown_length.Goals as goal
 
-returns : tie.Need-returns
-returns c =
-    let name = c.before.args.name.now in
+pub returns-then-name-lt-NAME_MOST : goal.returns-then-name-lt-NAME_MOST
+returns-then-name-lt-NAME_MOST c =
+    let name = c.args.name.now in
     record { is = ap length (sym (take_all name_limit name (omega arith))); within = omega arith; most = omega arith }
 
-returns-2 : tie.Need-returns-2
-returns-2 c =
-    let name = c.before.args.name.now in
+pub returns-else-name-lt-NAME_MOST : goal.returns-else-name-lt-NAME_MOST
+returns-else-name-lt-NAME_MOST c =
+    let name = c.args.name.now in
     record { is = sym (length-take-le name_limit name (omega arith)); within = omega arith; most = omega arith }
-
-pub shown-length-spec : {M : Type 1} → statement M
-shown-length-spec = tie.close (tie.spec returns returns-2)
