@@ -1,5 +1,5 @@
 // An open file or stream read into a lent slice.
-ghost use Rattle.std.specs.Prelude.{◌≡◌, ◌+◌, ◌^◌, ◌<◌, nat_abs, length};
+ghost use Rattle.std.specs.Prelude.{◌≡◌, ◌+◌, ◌^◌, ◌<◌, false, pos, ◌<ℤ◌, nat_abs, length, IsSome};
 ghost use Rattle.std.specs.Io.{ReadsAtMost};
 ghost use Rattle.program_io.specs.Reading.{text_read, not_read, after_read};
 ghost use Rattle.program_io.specs.Clauses.{Moved, Read};
@@ -63,7 +63,8 @@ fn read_again<D: io::Read>(descriptor: &mut D, text: &mut [u8]) -> io::Result<us
 
 // Reads once, and answers how many bytes, or -1 where that fails, for the reason that is kept.
 fn read_once<D: io::Read>(descriptor: &mut D, text: &mut [u8], failure: &mut Option<Error>) -> isize
-    ensures { Moved (length text.new) result }
+    ensures moved { Moved (length text.new) result }
+    ensures reason { result <ℤ pos 0 → IsSome failure.new }
 {
     match read_again(descriptor, text) {
         Ok(count) => count as isize,
@@ -80,7 +81,8 @@ pub fn read_descriptor<D: io::Read>(
     text: &mut [u8],
     failure: &mut Option<Error>,
 ) -> TextRead
-    ensures { Read result text.new }
+    ensures text { Read result text.new }
+    ensures reason { result.whole ≡ false → IsSome failure.new }
 {
     let mut at = 0;
     while at < text.len() {

@@ -1,5 +1,7 @@
 // What the programs tell on standard error: each message goes out in one write up to the reason. What is printed of a message is an
 // equation (`message`); that it is written, no contract can say.
+#![tactic(auto)]
+
 ghost use Rattle.std.specs.Prelude.{◌^◌, ◌<◌};
 
 use message::{
