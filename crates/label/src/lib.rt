@@ -1,5 +1,7 @@
 // Labels: 1 to 12 bytes of A-Z, 0-9 and hyphen. There are 37 such bytes and 38^12 is below 2^64, so that a label is told from
 // every other one by a number.
+#![tactic(auto)]
+
 pub mod marks;
 pub mod row;
 
