@@ -1,3 +1,4 @@
+#![tactic(auto)]
 // A settings text (document 02, job 2): 1 to 20 lines `k,c`, each ended by byte 10. A text is read line by line and no further than the
 // first line that is not one, or the 21st, so that a text in form is short and no test of its length is needed.
 ghost use Rattle.std.specs.Prelude.{◌≡◌, ◌*◌, ◌≤◌, length};
