@@ -1,5 +1,7 @@
 // The programs for C and Rust: each call takes the texts of a program, each as a slice of its own, and hands out its whole output, the
 // line of a refused text included, with its answer in numbers.
+#![tactic(auto)]
+
 ghost use Rattle.std.specs.Prelude.{◌≡◌, length};
 ghost use Rattle.limits.specs.Limits.{total, row_limit};
 ghost use Rattle.lent.specs.Filled.{filled};

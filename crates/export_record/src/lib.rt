@@ -1,4 +1,6 @@
 // Records for C and Rust: an envelope is given in numbers, its codes, X and weights in lent slices.
+#![tactic(auto)]
+
 ghost use Rattle.std.specs.Prelude.{◌≤◌, ◌≡◌, pos, length, replicate};
 ghost use Rattle.limits.specs.Limits.{total, row_limit, channel_limit};
 ghost use Rattle.lent.specs.Filled.{filled};
