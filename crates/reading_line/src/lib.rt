@@ -1,5 +1,7 @@
 // A reading's line: a label, then tag and value n times. What its tags and its ranges say counts once every field is in form: 3
 // stands before 10 and 10 before 4, wherever in the line they are.
+#![tactic(auto)]
+
 ghost use Rattle.std.specs.Prelude.{◌≡◌, true, ◌≤◌, length, take};
 ghost use Rattle.text.specs.Parts.{comma, parts_from};
 ghost use Rattle.channel.specs.Channel.{channel_types, codes_known};
