@@ -1,6 +1,8 @@
 // Document 01, "Channel types": constant tables of code, low and high, and the tags. A type is found by its tag, compared as bytes; its
 // range and its tag are found by its code. Code 0 stands for no type. Whoever keeps, compares or copies codes does it by `Code` and the
 // functions here. A place of a table is named in each arm of a match: of a table with a computed index all places are written to the stack.
+#![tactic(auto)]
+
 ghost use Rattle.std.specs.Prelude.{◌≡◌, ◌≤◌, ◌<◌, length, get_or, take, drop};
 ghost use Rattle.lent.specs.Filled.{filled};
 ghost use Rattle.text.specs.Parts.{same};

@@ -13,8 +13,7 @@ use lib.Seq.{length-take-le, get_or-take}
 use Rattle.text.specs.Parts.{same}
 use Rattle.text.specs.PartsLaws.{same_lengths, same_on, same_off, same_done}
 use Rattle.channel.specs.declared.Tag.{Tag}
-use Rattle.channel.proofs.has_bytes.Statement.{statement}
-use Rattle.channel.proofs.has_bytes.Tie as tie
+use Rattle.channel.proofs.has_bytes.Goals as goal
 
 -- the bytes of the tag
 abbrev tagged : Tag → List ℕ
@@ -58,72 +57,48 @@ module _ {tag : Tag} {field : List ℕ} (as_long : AsLong tag field) (k : ℕ) (
       done as_long (k + 1) (on as_long k so_far (omega arith) (eqb-true (get_or field k 0) (get_or tag.bytes k 0) e)) (omega arith)
   last false e = off as_long k so_far (omega arith) (eqb-false (get_or field k 0) (get_or tag.bytes k 0) e)
 
-held : (c : tie.After-bytes) → Held c.before.args.tag
-held c =
-    let three : length c.before.args.tag.bytes ≡ 3 = search rules in
-    omega (arith, three, c.before.requires)
+-- what is compared is as long as the tag
+as_long_lem : (tag : Tag) (field : List ℕ) → length tag.bytes ≡ 3 → tag.length ≤ 3 → length field ≡ tag.length → AsLong tag field
+as_long_lem tag field three most e = record { held = omega arith; lengths = e }
 
-returns : tie.Need-returns
+pub returns-then-field-tag : goal.returns-then-field-tag
+returns-then-field-tag c =
+    let tag = c.args.tag in
+    let three : length tag.bytes ≡ 3 = search rules in
+    sym (same_lengths (tagged tag) _ (λ e. c.if-field-tag.true (sym e ∙ counts tag (omega (arith, three, c.requires)))))
+
+pub returns-then-field-eq0 : goal.returns-then-field-eq0
+returns-then-field-eq0 c =
+    let long = as_long_lem c.args.tag c.args.field.now (search rules) c.requires c.if-field-tag.false in
+    done long 0 refl (omega arith)
+
+pub returns-then-field-bytes : goal.returns-then-field-bytes
+returns-then-field-bytes c =
+    let long = as_long_lem c.args.tag c.args.field.now (search rules) c.requires c.if-field-tag.false in
+    off long 0 refl (omega arith) c.if-field-bytes.true
+
+pub returns-then-field-eq1 : goal.returns-then-field-eq1
+returns-then-field-eq1 c =
+    let long = as_long_lem c.args.tag c.args.field.now (search rules) c.requires c.if-field-tag.false in
+    let first = on long 0 refl (omega arith) c.if-field-bytes.false in
+    done long 1 first (omega arith)
+
+pub returns-then-field-bytes-2 : goal.returns-then-field-bytes-2
+returns-then-field-bytes-2 c =
+    let long = as_long_lem c.args.tag c.args.field.now (search rules) c.requires c.if-field-tag.false in
+    let first = on long 0 refl (omega arith) c.if-field-bytes.false in
+    off long 1 first (omega arith) c.if-field-bytes-2.true
+
+pub returns-then-field-eq2 : goal.returns-then-field-eq2
+returns-then-field-eq2 c =
+    let long = as_long_lem c.args.tag c.args.field.now (search rules) c.requires c.if-field-tag.false in
+    let first = on long 0 refl (omega arith) c.if-field-bytes.false in
+    let second = on long 1 first (omega arith) c.if-field-bytes-2.false in
+    done long 2 second (omega arith)
+
+pub returns : goal.returns
 returns c =
-    let tag = c.before.before.before.args.tag in
-    sym (same_lengths (tagged tag) _ (λ e. c.if1.true (sym e ∙ counts tag (held c.before.before))))
-
-abbrev start_of : tie.Else1 → tie.Start
-start_of c = c.before.before.before
-
-abbrev else1-of : tie.Else3 → tie.Else1
-else1-of c = c.before.before.before
-
-long : (c : tie.Else1) → AsLong (start_of c).args.tag (start_of c).args.field.now
-long c = record { held = held c.before.before; lengths = c.if1.false }
-
-returns-2 : tie.Need-returns-2
-returns-2 c = done (long c.before) 0 refl (omega arith)
-
-returns-3 : tie.Need-returns-3
-returns-3 c = off (long c.before.before.before) 0 refl (omega arith) c.if3.true
-
--- the first bytes are the same
-first : (c : tie.Else3) → let start = start_of (else1-of c) in Agree start.args.tag start.args.field.now 1
-first c = on (long (else1-of c)) 0 refl (omega arith) c.if3.false
-
-returns-4 : tie.Need-returns-4
-returns-4 c = done (long (else1-of c.before)) 1 (first c.before) (omega arith)
-
-returns-5 : tie.Need-returns-5
-returns-5 c =
-    let one = c.before.before.before in
-    off (long (else1-of one)) 1 (first one) (omega arith) c.if5.true
-
--- the first two bytes are the same
-second : (c : tie.Else5) → let start = start_of (else1-of c.before.before.before) in Agree start.args.tag start.args.field.now 2
-second c =
-    let one = c.before.before.before in
-    on (long (else1-of one)) 1 (first one) (omega arith) c.if5.false
-
-returns-6 : tie.Need-returns-6
-returns-6 c = done (long (else1-of c.before.before.before.before)) 2 (second c.before) (omega arith)
-
-returns-7 : tie.Need-returns-7
-returns-7 c =
-    let two = c.before.before in
-    let some = else1-of two.before.before.before in
-    last (long some) 2 (second two) (omega (arith, (start_of some).pre)) _ refl
-
-pub has-bytes-spec : {M : Type 1} → statement M
-has-bytes-spec =
-    tie.close
-    (tie.spec
-    returns
-    returns-2
-    (λ c. search rules)
-    (λ c. search rules)
-    returns-3
-    returns-4
-    (λ c. search rules)
-    (λ c. search rules)
-    returns-5
-    returns-6
-    (λ c. search rules)
-    (λ c. search rules)
-    returns-7)
+    let long = as_long_lem c.args.tag c.args.field.now (search rules) c.requires c.if-field-tag.false in
+    let first = on long 0 refl (omega arith) c.if-field-bytes.false in
+    let second = on long 1 first (omega arith) c.if-field-bytes-2.false in
+    last long 2 second (omega (arith, c.requires)) _ refl

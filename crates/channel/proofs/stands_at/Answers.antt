@@ -8,12 +8,11 @@ use lib.ListN.{length, take, drop, length-take, length-drop}
 use lib.Seq.{length-take-le}
 use Rattle.text.specs.Parts.{same}
 use Rattle.text.specs.PartsLaws.{same_lengths}
-use Rattle.channel.proofs.stands_at.Statement.{statement}
-use Rattle.channel.proofs.stands_at.Tie as tie
+use Rattle.channel.proofs.stands_at.Goals as goal
 
-returns : tie.Need-returns
-returns c =
-    let args = c.before.before.before.args in
+pub returns-then-line-next : goal.returns-then-line-next
+returns-then-line-next c =
+    let args = c.args in
     let line = args.line.now in
     let k = args.tag.length in
     let three : length args.tag.bytes ≡ 3 = search rules in
@@ -23,25 +22,13 @@ returns c =
     omega (
       arith,
       e,
-      length-take-le k args.tag.bytes (omega (arith, three, c.before.before.before.requires.0)),
+      length-take-le k args.tag.bytes (omega (arith, three, c.requires.0)),
       length-take k (drop args.at line),
       length-drop args.at line,
     )))
 
-returns-2 : tie.Need-returns-2
-returns-2 c =
-    let args = c.before.before.before.before.before.args in
+pub returns : goal.returns
+returns c =
+    let args = c.args in
     let many : args.at + args.tag.length - args.at ≡ args.tag.length = omega arith in
-    c.has-bytes.ensures ∙ ap (λ k. same (take args.tag.length args.tag.bytes) (take k (drop args.at args.line.now))) many
-
-pub stands-at-spec : {M : Type 1} → statement M
-stands-at-spec =
-    tie.close
-    (tie.spec
-    (λ c. search rules)
-    returns
-    (λ c. search rules)
-    (λ c. search rules)
-    (λ c. search rules)
-    (λ c κs. search rules)
-    returns-2)
+    c.has_bytes.ensures ∙ ap (λ k. same (take args.tag.length args.tag.bytes) (take k (drop args.at args.line.now))) many
