@@ -1,4 +1,6 @@
 // The heading of a reference text or a record: a word, n and n tags.
+#![tactic(auto)]
+
 ghost use Rattle.std.specs.Prelude.{◌≡◌, ◌+◌, ◌≤◌, length, take};
 ghost use Rattle.std.proofs.Math.Option.{none};
 ghost use Rattle.limits.specs.Limits.{channel_limit, tag_limit};
