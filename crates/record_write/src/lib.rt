@@ -1,4 +1,6 @@
 // Records written (document 01, "Texts"): the record of an envelope is written only where it would be read back.
+#![tactic(auto)]
+
 ghost use Rattle.std.specs.Prelude.{◌≡◌, length};
 ghost use Rattle.refusal.specs.Outcome.{number_of};
 ghost use Rattle.limits.specs.Limits.{total, row_limit};
