@@ -14,8 +14,8 @@ use Rattle.limits.specs.Limits.{channel_limit, coordinate_limit, centre_limit}
 use Rattle.geometry.specs.Places.{centre_list, centre_of, weights_total}
 use Rattle.geometry.specs.PlacesLaws.{centre_list_at, centre_list_most}
 use Rattle.geometry.specs.TableLaws.{within_limits}
-use Rattle.geometry.specs.FigureLaws.{squared_length_cong, distance_centre_list, centre_most_lem}
-use Rattle.geometry.specs.Demand.{rival, holds_every_row, reaches_some_row, floor_below_ball, settled_gap, ball_most}
+use Rattle.geometry.proofs.FigureLaws.{squared_length_cong, distance_centre_list, centre_most_lem}
+use Rattle.geometry.proofs.Demand.{rival, holds_every_row, reaches_some_row, floor_below_ball, settled_gap, ball_most}
 use Rattle.ball.specs.Ball.{ball_of}
 use Rattle.ball.specs.Clauses.{Tight}
 

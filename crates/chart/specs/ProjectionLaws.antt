@@ -1,8 +1,6 @@
 -- A disc holds the projection of each row that its ball holds, for any total D above 0.
 --     OnDisc D n X M p         on each chart of two different channels, and in each channel, the point p is within the mark's radius
---     within_disc              a point of the ball is
 --     Projected D n b p        the same of the centre and the radius of the ball b
---     tight_projected          it holds of every row where demand 3 holds, so of every accepted drawing, check and record
 --     ten_apart, ten_apart_ball   the rows 0 and 10 of one channel, and their ball
 --     same_channel_outside     on a chart of one channel against itself a row may lie outside
 use Rattle.std.specs.Prelude.{ℕ, ◌-◌, ◌*◌, ◌≤◌, ◌<◌, ◌≢◌, List, [], ◌∷◌, ℤ, pos, nat_abs, ◌-ℤ◌, ◌*ℤ◌}
@@ -29,26 +27,10 @@ pub record OnDisc (D n : ℕ) (X : ℕ → ℤ) (M : ℕ) (p : ℕ → ℤ) : Ty
       → projected_squared_distance D X p h v ≤ ceiling_root M * ceiling_root M
   pub each_channel_within : (h : ℕ) → 1 ≤ h → h ≤ n → nat_abs (pos D *ℤ p (h - 1) -ℤ X (h - 1)) ≤ ceiling_root M
 
-pub within_disc : (D n : ℕ) (X : ℕ → ℤ) (M : ℕ) (p : ℕ → ℤ) → scaled_squared_distance D n X p ≤ M → OnDisc D n X M p
-unfolding projected_squared_distance scaled_squared_distance squared_length
-within_disc D n X M p ball =
-    let term : ℕ → ℕ = λ k. square (pos D *ℤ p k -ℤ X k) in
-    let disc : sumℕ n term ≤ ceiling_root M * ceiling_root M = le_trans ball (root_reaches M) in
-    record {
-      projection_within = λ h v h-some h-most v-some v-most different.
-          le_trans (sumℕ_two term n (h - 1) (v - 1) (λ e. different (omega arith)) (omega arith) (omega arith)) disc;
-      each_channel_within = λ h some most.
-          square_inv (pos D *ℤ p (h - 1) -ℤ X (h - 1)) (ceiling_root M) (le_trans (sumℕ_term term n (h - 1) (omega arith)) disc);
-    }
-
 -- ---- the rows of a ball
 
 abbrev pub Projected : ℕ → ℕ → Ball → (ℕ → ℤ) → Type 0
 Projected D n b p = OnDisc D n (centre_of b.scaled_centre) b.scaled_squared_radius p
-
-pub tight_projected : (D m n : ℕ) (a : ℕ → ℕ → ℤ) (b : Ball) → Tight D m n a b → (i : ℕ) → i < m → Projected D n b (a i)
-tight_projected D m n a b tight i l =
-    within_disc D n (centre_of b.scaled_centre) b.scaled_squared_radius (a i) (tight.every_row i l)
 
 -- ---- the same channel twice
 

@@ -23,7 +23,7 @@ use Rattle.geometry.specs.Table.{coordinate}
 use Rattle.limits.specs.Limits.{total, row_limit}
 use Rattle.integers.specs.Reading.{Bounded}
 use Rattle.geometry.specs.Clauses.{Table, WeightsOf}
-use Rattle.geometry.specs.MoveLaws.{separation_positive, move_weight_length, moved_by}
+use Rattle.geometry.proofs.MoveLaws.{separation_positive, move_weight_length, moved_by}
 use Rattle.scores.specs.Clauses.{ScoresWithin, column_limit, Keeping, Raised, Carriable, Carried}
 use Rattle.scores.specs.ColumnLaws.{columns_none}
 use Rattle.moves.specs.Clauses.{Paired, Movable, Scored}

@@ -23,7 +23,7 @@ use Rattle.geometry.specs.Table.{coordinate, rows_within}
 use Rattle.limits.specs.Limits.{total, row_limit, budget_limit}
 use Rattle.geometry.specs.Places.{weights_total}
 use Rattle.geometry.specs.TableLaws.{within_limits}
-use Rattle.geometry.specs.MoveLaws.{moved_length, moved-total, lower_bound_rises, rise_some}
+use Rattle.geometry.proofs.MoveLaws.{moved_length, moved-total, lower_bound_rises, rise_some}
 use Rattle.ball.specs.Ball.{ball_of}
 use Rattle.ball.specs.Demand.{weights_tight}
 use Rattle.drawing.specs.Draw.{start, run_from, drawn, drawing}

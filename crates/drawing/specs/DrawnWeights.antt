@@ -15,7 +15,7 @@ use Rattle.geometry.specs.Move.{settled, moved, weight_of}
 use Rattle.geometry.specs.Table.{coordinate, rows_within}
 use Rattle.limits.specs.Limits.{budget_limit}
 use Rattle.geometry.specs.Places.{weights_total}
-use Rattle.geometry.specs.MoveLaws.{near_within, far_within, moved_length, moved_other}
+use Rattle.geometry.proofs.MoveLaws.{near_within, far_within, moved_length, moved_other}
 use Rattle.ball.specs.Ball.{ball_of}
 use Rattle.drawing.specs.Draw.{start, run_from, drawing}
 use Rattle.checking.specs.Check.{checking}

@@ -9,8 +9,4 @@ pub mod Places
 pub mod Clauses
 pub mod PlacesLaws
 pub mod TableLaws
-pub mod FigureLaws
 pub mod SelectLaws
-pub mod MoveLaws
-pub mod ScoreLaws
-pub mod Demand

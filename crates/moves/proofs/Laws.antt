@@ -16,7 +16,7 @@ use Rattle.geometry.specs.Select.{farthest, nearest}
 use Rattle.geometry.specs.Move.{far_row, near_row, difference, separation, weight_of}
 use Rattle.geometry.specs.Table.{coordinate}
 use Rattle.geometry.specs.Clauses.{Table, WeightsOf}
-use Rattle.geometry.specs.MoveLaws.{difference-within}
+use Rattle.geometry.proofs.MoveLaws.{difference-within}
 use Rattle.geometry.specs.SelectLaws.{Picked, farthest_cong, farthest_mostℕ, nearest_cong}
 use Rattle.limits.specs.Limits.{separation_limit, total}
 use Rattle.scores.specs.Clauses.{score_of}

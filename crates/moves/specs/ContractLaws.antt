@@ -17,8 +17,8 @@ use Rattle.std.proofs.Math.Bool.{true, ◌&&◌}
 use Rattle.std.proofs.Math.Decide.{dec_lt}
 use Rattle.geometry.specs.Clauses.{Table, WeightsOf}
 use Rattle.geometry.specs.Move.{weight_of, move_weight}
-use Rattle.geometry.specs.MoveLaws.{move_weight_length, move_weight_total}
-use Rattle.geometry.specs.ScoreLaws.{score_part, score_first, score_moved, score_within}
+use Rattle.geometry.proofs.MoveLaws.{move_weight_length, move_weight_total}
+use Rattle.geometry.proofs.ScoreLaws.{score_part, score_first, score_moved, score_within}
 use Rattle.geometry.specs.Scores.{weighted_squared_distance}
 use Rattle.geometry.specs.Table.{coordinate}
 use Rattle.geometry.specs.TableLaws.{weights-within, weight_most_lem}

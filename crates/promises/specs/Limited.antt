@@ -9,8 +9,9 @@ use Rattle.integers.specs.Sum.{sumℕ}
 use Rattle.refusal.specs.Number.{outside_limits}
 use Rattle.refusal.specs.declared.Outcome.TheVariants.{Accepted}
 use Rattle.limits.specs.Limits.{budget_limit, centre_limit, channel_limit, coordinate_limit, distance_limit, row_limit, total}
-use Rattle.geometry.specs.Demand.{ball_most, floor_most}
-use Rattle.geometry.specs.FigureLaws.{centre_most_lem, distance-within}
+use Rattle.geometry.proofs.Demand.{ball_most, floor_most}
+use Rattle.geometry.proofs.FigureLaws.{centre_most_lem}
+use Rattle.geometry.proofs.LimitLaws.{distance-within}
 use Rattle.geometry.specs.Figures.{scaled_centre, scaled_lower_bound, scaled_squared_distance, scaled_squared_radius}
 use Rattle.geometry.specs.Places.{centre_of}
 use Rattle.checking.specs.Check.{checking}

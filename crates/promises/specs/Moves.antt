@@ -6,10 +6,10 @@
 use Rattle.std.specs.Prelude.{◌*◌, ◌+◌, ◌-◌, ◌/◌, ◌<◌, ◌≤◌, min, ℕ, ◌≡◌, refl, false, List, leb, ◌*ℤ◌, ◌-ℤ◌, pos, ℤ, length, ◌≢◌}
 use Rattle.std.proofs.Common.{sym}
 use Rattle.integers.specs.Sum.{square, sumℕ, sumℤ}
-use Rattle.geometry.specs.FigureLaws.{lower_bound_ℤ}
+use Rattle.geometry.proofs.FigureLaws.{lower_bound_ℤ}
 use Rattle.geometry.specs.Figures.{largest, scaled_centre, scaled_lower_bound, scaled_squared_distance, scaled_squared_radius, squared_distance, squared_length, weighted_squared_length}
 use Rattle.geometry.specs.Move.{difference, far_row, move_weight, moved, near_row, scaled_squared_distance_of, separation, settled, transfer, weight_of}
-use Rattle.geometry.specs.MoveLaws.{difference_exact, far_within, lower_bound_rises, moved_by, moved-far, moved-near, moved_other, moved-total, near_within, rise_some}
+use Rattle.geometry.proofs.MoveLaws.{difference_exact, far_within, lower_bound_rises, moved_by, moved-far, moved-near, moved_other, moved-total, near_within, rise_some}
 use Rattle.geometry.specs.Places.{weights_total}
 use Rattle.geometry.specs.SelectLaws.{farthest_lowestℕ, farthest_mostℕ, ltb_strict, nearest_leastℕ, nearest_lowestℕ, nearest_weighted}
 use Rattle.drawing.specs.Demand.{run-total}

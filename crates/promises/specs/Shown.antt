@@ -11,7 +11,7 @@ use Rattle.std.specs.Prelude.{◌*◌, ◌-◌, ◌<◌, ◌≤◌, ℕ, ◌≡�
 use Rattle.std.specs.Float.Ieee.Exact.{HasValue}
 use Rattle.std.proofs.Common.{arith}
 use Rattle.limits.specs.Limits.{total}
-use Rattle.geometry.specs.Demand.{holds_every_row}
+use Rattle.geometry.proofs.Demand.{holds_every_row}
 use Rattle.geometry.specs.Figures.{scaled_centre, scaled_squared_radius}
 use Rattle.geometry.specs.Places.{centre_of}
 use Rattle.geometry.specs.Table.{coordinate}
@@ -22,7 +22,8 @@ use Rattle.chart.specs.Fraction.{negative, positive_zero}
 use Rattle.chart.specs.Mark.{channel_centre, chart_mark, mark_number, mark_point, mark_radius}
 use Rattle.chart.specs.MarkLaws.{chart_shows}
 use Rattle.chart.specs.Projection.{projected_squared_distance}
-use Rattle.chart.specs.ProjectionLaws.{OnDisc, same_channel_outside, ten_apart, ten_apart_ball, tight_projected, within_disc}
+use Rattle.chart.specs.ProjectionLaws.{OnDisc, same_channel_outside, ten_apart, ten_apart_ball}
+use Rattle.chart.proofs.DiscLaws.{within_disc, tight_projected}
 use Rattle.chart.specs.Root.{ceiling_root}
 use Rattle.chart.specs.declared.Mark.TheVariants.{Disc, Dot}
 use Rattle.panel_steps.specs.Panel.{nearest_step, panel_shown}

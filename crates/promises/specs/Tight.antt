@@ -13,7 +13,7 @@
 use Rattle.std.specs.Prelude.{◌*◌, ◌+◌, ◌-◌, ◌<◌, ◌≤◌, ℕ, ◌≡◌, Bool, true, List, ◌*ℤ◌, ◌-ℤ◌, pos, ℤ}
 use Rattle.integers.specs.Sum.{sumℕ}
 use Rattle.refusal.specs.declared.Outcome.TheVariants.{Accepted}
-use Rattle.geometry.specs.Demand.{floor_below_ball, holds_every_row, reaches_some_row, rival, settled_gap}
+use Rattle.geometry.proofs.Demand.{floor_below_ball, holds_every_row, reaches_some_row, rival, settled_gap}
 use Rattle.geometry.specs.Figures.{largest, largest_squared_distance, scaled_centre, scaled_lower_bound, scaled_squared_distance, scaled_squared_radius, squared_distance, squared_length}
 use Rattle.geometry.specs.Move.{settled}
 use Rattle.geometry.specs.Places.{centre_of}

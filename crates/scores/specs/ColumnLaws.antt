@@ -11,7 +11,7 @@
 use Rattle.std.specs.Prelude.{ℕ, ◌+◌, ◌-◌, ◌*◌, ◌%◌, ◌≤◌, ◌<◌, ◌≡◌, ◌⊎◌, cond, List, ℤ, length, get_or, set}
 use Rattle.std.proofs.Common.{zero-le, sym, ◌∙◌, ap, subst, inl, inr, ⊎_elim, arith, eq-eqb, ne_eqb, length-set, get_or-set_same, get_or-set_other}
 use Rattle.std.proofs.Math.Decide.{dec_lt, ℕ_discrete}
-use Rattle.geometry.specs.ScoreLaws.{separation-within}
+use Rattle.geometry.proofs.ScoreLaws.{separation-within}
 use Rattle.limits.specs.Limits.{row_limit}
 use Rattle.lists.specs.Placed.{Placed}
 use Rattle.scores.specs.Clauses.{score_of, column_of, column_limit, slot_beside, Elsewhere, ColumnFilled, IsColumn, Columns, Shiftable, Raised, Carriable, Carried}

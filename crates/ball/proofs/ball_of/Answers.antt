@@ -8,7 +8,7 @@ use Rattle.geometry.specs.Figures.{scaled_lower_bound}
 use Rattle.geometry.specs.Move.{scaled_squared_distance_of, is_settled, settled, weight_of}
 use Rattle.geometry.specs.Table.{coordinate}
 use Rattle.geometry.specs.Clauses.{Table, IsCentre}
-use Rattle.geometry.specs.MoveLaws.{radius_far}
+use Rattle.geometry.proofs.MoveLaws.{radius_far}
 use Rattle.moves.specs.Clauses.{Paired}
 use Rattle.moves.specs.declared.Pair.{Pair}
 use Rattle.ball.specs.declared.Ball.{Ball}

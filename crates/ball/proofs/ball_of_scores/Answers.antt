@@ -13,8 +13,8 @@ use Rattle.geometry.specs.Scores.{weighted_squared_distance}
 use Rattle.geometry.specs.Table.{coordinate}
 use Rattle.geometry.specs.Clauses.{Table, WeightsOf, IsCentre}
 use Rattle.geometry.specs.Places.{weights_total}
-use Rattle.geometry.specs.MoveLaws.{far_within}
-use Rattle.geometry.specs.ScoreLaws.{score_distance, score_radius, score_within}
+use Rattle.geometry.proofs.MoveLaws.{far_within}
+use Rattle.geometry.proofs.ScoreLaws.{score_distance, score_radius, score_within}
 use Rattle.limits.specs.Limits.{total, difference_limit}
 use Rattle.moves.specs.Clauses.{Paired}
 use Rattle.moves.specs.declared.Pair.{Pair}

@@ -8,7 +8,7 @@ use native.Mathlib.Omega.{arith}
 use lib.Dec.{lit<}
 use lib.IntN.{ℤ}
 use Rattle.geometry.specs.Figures.{squared_length, scaled_centre, weighted_squared_length, scaled_lower_bound}
-use Rattle.geometry.specs.FigureLaws.{squared_length_cong, centre_within, centre_length_most}
+use Rattle.geometry.proofs.FigureLaws.{squared_length_cong, centre_within, centre_length_most}
 use Rattle.geometry.specs.Move.{weight_of}
 use Rattle.geometry.specs.Table.{coordinate}
 use Rattle.limits.specs.Limits.{total}

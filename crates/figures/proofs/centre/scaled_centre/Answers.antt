@@ -2,7 +2,7 @@ use mathlib.Core.Path.{◌≡◌, refl, ap, ◌∙◌}
 use native.Mathlib.Omega.{arith}
 use mir.Syntax.{w64}
 use Rattle.geometry.specs.Figures.{scaled_centre}
-use Rattle.geometry.specs.FigureLaws.{centre_at_most}
+use Rattle.geometry.proofs.FigureLaws.{centre_at_most}
 use Rattle.geometry.specs.Move.{weight_of}
 use Rattle.geometry.specs.Table.{coordinate}
 use Rattle.geometry.specs.Places.{tabulate, centre_list}

@@ -16,7 +16,8 @@ use Rattle.geometry.specs.Table.{coordinate}
 use Rattle.limits.specs.Limits.{total, distance_limit}
 use Rattle.geometry.specs.Places.{centre_list, centre_of}
 use Rattle.geometry.specs.Clauses.{CentreWithin, Table, WeightsOf}
-use Rattle.geometry.specs.FigureLaws.{centre_within, distance_centre_list, distance-within}
+use Rattle.geometry.proofs.FigureLaws.{centre_within, distance_centre_list}
+use Rattle.geometry.proofs.LimitLaws.{distance-within}
 use Rattle.geometry.specs.TableLaws.{table-row, weights-within}
 use Rattle.scores.specs.Clauses.{ScoresWithin, score_of}
 use Rattle.moves.specs.Clauses.{FoundRow}

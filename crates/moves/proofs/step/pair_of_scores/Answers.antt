@@ -6,7 +6,7 @@ use native.Mathlib.Nat.{le_refl}
 use lib.Dec.{lit<}
 use Rattle.geometry.specs.Move.{weight_of}
 use Rattle.geometry.specs.Places.{weights_total}
-use Rattle.geometry.specs.ScoreLaws.{score_far, score_near, score_difference}
+use Rattle.geometry.proofs.ScoreLaws.{score_far, score_near, score_difference}
 use Rattle.geometry.specs.Table.{coordinate}
 use Rattle.geometry.specs.TableLaws.{table-row}
 use Rattle.limits.specs.Limits.{total}

@@ -44,7 +44,8 @@ use Rattle.geometry.specs.Places.{weights_total}
 use Rattle.geometry.specs.Table.{coordinate}
 use Rattle.geometry.specs.Clauses.{Table, WeightsOf}
 use Rattle.geometry.specs.TableLaws.{weights-within}
-use Rattle.geometry.specs.FigureLaws.{length_ℤ, squared_length_cong, centre_at_most, distance-within, lower_bound_ℤ}
+use Rattle.geometry.proofs.FigureLaws.{length_ℤ, squared_length_cong, centre_at_most, lower_bound_ℤ}
+use Rattle.geometry.proofs.LimitLaws.{distance-within}
 use Rattle.geometry.specs.SelectLaws.{farthest-within, nearest-within, largest-farthest, farthest_mostℕ, nearest_weighted, ltb_strict}
 
 -- ---- inner products

@@ -5,13 +5,13 @@
 --     distance_cong                                  only the first n coordinates of X and of the row count in s
 --     distance_centre_list                            s by the list of X
 --     centre_most_lem, centre_at_most, centre_within     X is within its limit
---     distance_most, distance-within                 s is within its limit
+--     distance_most                                  s is within its limit, for any bound on the coordinates
 --     moment                                         D Σ w |q a - Y|² ≡ q² L + |q X - D Y|²
 --     lower_bound_ℤ                                  L in ℤ: nothing is cut off
 --     centre_length_most                             what is subtracted in L is at most what it is subtracted from
 --     mean_distance                                  Σ w s ≡ D L
 use Rattle.std.specs.Prelude.{ℕ, ◌+◌, ◌*◌, ◌≤◌, ◌<◌, ◌≡◌, List, ℤ, nat_abs, ◌*ℤ◌}
-use Rattle.std.proofs.Common.{zero-le, ◌∙◌, arith, mul-le-mul, mul-le-mul_left, mul-le-mul_right, mul_comm}
+use Rattle.std.proofs.Common.{zero-le, ◌∙◌, arith, mul-le-mul, mul-le-mul_left, mul_comm}
 use Rattle.std.proofs.Math.Path.{refl, sym, ap, ap₂}
 use Rattle.std.proofs.Math.Nat.{mul_assoc, eq_of_mul-eq-mul_left}
 use Rattle.std.proofs.Math.IntN.{pos, neg_ℤ, ◌+ℤ◌, ◌-ℤ◌, +ℤ_idr, *ℤ-zero}
@@ -24,7 +24,7 @@ use Rattle.integers.specs.Absolute.{abs_mul, abs_sub, abs_sum, square_pos, squar
 use Rattle.geometry.specs.Figures.{squared_length, scaled_centre, scaled_squared_distance, weighted_squared_length, scaled_lower_bound}
 use Rattle.geometry.specs.Move.{weight_of}
 use Rattle.geometry.specs.Table.{coordinate}
-use Rattle.limits.specs.Limits.{channel_limit, total, coordinate_limit, centre_limit, distance_limit}
+use Rattle.limits.specs.Limits.{channel_limit, total, coordinate_limit, centre_limit}
 use Rattle.geometry.specs.Places.{centre_list, centre_of, weights_total}
 use Rattle.geometry.specs.Clauses.{CentreWithin, Table, WeightsWithin}
 use Rattle.geometry.specs.PlacesLaws.{length_centre_list, centre_list_at, centre_list_most}
@@ -74,12 +74,6 @@ unfolding scaled_squared_distance
 distance_most D B n C X p most hp hX =
     squared_length_bound n (2 * (C * B)) (λ k. pos D *ℤ p k -ℤ X k)
     (λ k l. omega (arith, abs_sub (pos D *ℤ p k) (X k), abs_mul (pos D) (p k), mul-le-mul most (hp k l), mul_comm B C, hX k l))
-
-pub distance-within : (D B n : ℕ) (X p : ℕ → ℤ) → D ≤ B → n ≤ channel_limit → ((k : ℕ) → k < n → nat_abs (p k) ≤ coordinate_limit)
-    → ((k : ℕ) → k < n → nat_abs (X k) ≤ centre_limit B) → scaled_squared_distance D n X p ≤ distance_limit B
-distance-within D B n X p most channels hp hX =
-    let side = 2 * centre_limit B in
-    omega (arith, distance_most D B n coordinate_limit X p most hp hX, mul-le-mul_right (side * side) channels)
 
 module _ {rows : List ℤ} {m n : ℕ} {ws : List ℕ} (t : Table rows m n) where
   -- X of weights of a sum of at most B

@@ -14,9 +14,9 @@ use Rattle.integers.specs.Sum.{sumℕ}
 use Rattle.integers.specs.SumLaws.{sumℕ_mono, sumℕ_mul_right}
 use Rattle.geometry.specs.Figures.{squared_length, squared_distance, scaled_centre, scaled_squared_distance, scaled_squared_radius, scaled_lower_bound, largest, largest_squared_distance}
 use Rattle.geometry.specs.Move.{scaled_squared_distance_of, far_row, near_row, difference, separation, settled}
-use Rattle.geometry.specs.FigureLaws.{moment, mean_distance, centre_most_lem, distance_most}
+use Rattle.geometry.proofs.FigureLaws.{moment, mean_distance, centre_most_lem, distance_most}
 use Rattle.geometry.specs.SelectLaws.{largest_most, largest_below, largest_reached, nearest_leastℕ}
-use Rattle.geometry.specs.MoveLaws.{difference_exact, far_within, near_within, radius_far}
+use Rattle.geometry.proofs.MoveLaws.{difference_exact, far_within, near_within, radius_far}
 
 -- P is at least the squared length of (q times row - Y) for every row
 pub record Rival (m n : ℕ) (a : ℕ → ℕ → ℤ) (Y : ℕ → ℤ) (q P : ℕ) : Type 0 where

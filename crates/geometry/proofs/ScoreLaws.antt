@@ -33,9 +33,9 @@ use Rattle.geometry.specs.Table.{coordinate}
 use Rattle.geometry.specs.Places.{weights_total}
 use Rattle.geometry.specs.Clauses.{Table, WeightsOf}
 use Rattle.limits.specs.Limits.{coordinate_limit, separation_limit, difference_limit}
-use Rattle.geometry.specs.FigureLaws.{squared_length_bound, moment}
+use Rattle.geometry.proofs.FigureLaws.{squared_length_bound, moment}
 use Rattle.geometry.specs.SelectLaws.{farthest_agree, nearest_agree}
-use Rattle.geometry.specs.MoveLaws.{radius_far, move_weight_sum}
+use Rattle.geometry.proofs.MoveLaws.{radius_far, move_weight_sum}
 
 -- ---- the square of a difference, taken either way
 

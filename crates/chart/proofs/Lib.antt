@@ -1,0 +1,2 @@
+-- What is proved of the points on a chart.
+pub mod DiscLaws
