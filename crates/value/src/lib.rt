@@ -1,6 +1,8 @@
 // A value field under a range, read: the one place where a written value meets its range, and where one below detection, `<` and a
 // number, becomes the number that it reads as. The number is read by one call and held against its range by another: together they are
 // too long for the compiler to put them into the loops over the fields.
+#![tactic(auto)]
+
 ghost use Rattle.std.specs.Prelude.{◌≤◌, ◌≡◌, pos, nat_abs, length};
 ghost use Rattle.integers.specs.Reading.{Bounded};
 ghost use Rattle.limits.specs.Limits.{coordinate_limit};

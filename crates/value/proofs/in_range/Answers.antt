@@ -11,8 +11,7 @@ use Rattle.integers.specs.Order.{lt_z_true, lt_z_false, le_le_z, lt_le_z}
 use Rattle.integers.specs.Reading.{back}
 use Rattle.channel.specs.declared.Range.{Range}
 use Rattle.value.specs.Value.{in_range}
-use Rattle.value.proofs.in_range.Statement.{statement}
-use Rattle.value.proofs.in_range.Tie as tie
+use Rattle.value.proofs.in_range.Goals as goal
 
 module _ (range : Range) (z : ℤ) (fits : SFits w32 z) (low_fits : SFits w32 range.low) (high_fits : SFits w32 range.high) where
   low_test : (b : Bool) → lt_z (back w32 z) (back w32 range.low) ≡ b → lt_z z range.low ≡ b
@@ -26,16 +25,8 @@ module _ (range : Range) (z : ℤ) (fits : SFits w32 z) (low_fits : SFits w32 ra
       ap₂ le_z (to_z-of_z fits) (to_z-of_z high_fits)
       ∙ sym (ap (λ b. b && le_z z range.high) (le_le_z range.low z (lt_z_false z range.low (low_test false t))))
 
-returns : tie.Need-returns
-returns c =
-    let start = c.before.before.before in
-    below-low start.args.range start.args.whole start.ranges.whole (search rules) (search rules) c.if1.true
+pub returns-then-whole-range : goal.returns-then-whole-range
+returns-then-whole-range c = below-low c.args.range c.args.whole c.ranges.whole (search rules) (search rules) c.if-whole-range.true
 
-returns-2 : tie.Need-returns-2
-returns-2 c =
-    let at-else1 = c.before.before in
-    let start = at-else1.before.before.before in
-    from_low start.args.range start.args.whole start.ranges.whole (search rules) (search rules) at-else1.if1.false
-
-pub in-range-spec : {M : Type 1} → statement M
-in-range-spec = tie.close (tie.spec returns returns-2)
+pub returns : goal.returns
+returns c = from_low c.args.range c.args.whole c.ranges.whole (search rules) (search rules) c.if-whole-range.false
