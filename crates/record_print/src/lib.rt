@@ -1,3 +1,4 @@
+#![tactic(auto)]
 // The text of a record (document 01, "Texts"), printed line by line into a lent slice that has room for the longest. The words and
 // letters are those that the reader compares with.
 ghost use Rattle.std.specs.Prelude.{[], ◌∷◌, ◌++◌, ℕ, ◌+◌, ◌*◌, ◌^◌, ◌≤◌, ◌<◌, pos, nat_abs, length, get_or, take};

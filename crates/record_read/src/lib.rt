@@ -1,3 +1,4 @@
+#![tactic(auto)]
 // Records read (document 01, "Texts"): a record is read against the rows and tags that it is said to be drawn from.
 ghost use Rattle.std.specs.Prelude.{◌≡◌};
 ghost use Rattle.refusal.specs.Outcome.{refused_at};

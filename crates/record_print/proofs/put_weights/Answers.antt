@@ -1,0 +1,18 @@
+use Prim.Native.Nat.{◌-◌}
+use native.Mathlib.Omega.{arith}
+use Rattle.record_print.proofs.PrintSteps.{weight_below, weights_none, weights_zero, weights-more, weights_done}
+use Rattle.record_print.proofs.put_weights.Goals as goal
+
+pub loop-i-init : goal.loop-i-init
+loop-i-init c = weights_none _ _ _
+
+pub loop-i-preserved-then-weight-ne0 : goal.loop-i-preserved-then-weight-ne0
+loop-i-preserved-then-weight-ne0 c =
+    let small = c.type_inv.weights c.loop-i.i in
+    weights-more c.loop-i.invariant (omega arith) c.if-weight-ne0.true (weight_below _ _ (omega arith) (omega arith)) c.put_weight-from.ensures
+
+pub loop-i-preserved : goal.loop-i-preserved
+loop-i-preserved c = weights_zero c.loop-i.invariant (omega arith) c.if-weight-ne0.false
+
+pub returns : goal.returns
+returns c = weights_done c.loop-i.invariant (omega arith)

@@ -1,0 +1,60 @@
+-- The tests are those of the definition: n and the tags, then the signs of M and L, then the agreement of the figures with the rows.
+-- Any of them that fails answers 12.
+use mathlib.Core.Path.{◌≡◌, sym, ◌∙◌}
+use borrow.Author.Rules.{rules}
+use mir.Syntax.{w64}
+use mir.Val.{SFits}
+use Rattle.limits.specs.Limits.{total, row_limit}
+use Rattle.record_read.proofs.ReadSteps.{codes_differ, radius_below, floor_below, Signs, disagreeing, agreeing}
+use Rattle.record_read.proofs.agreed.Goals as goal
+
+pub returns-then-not-same_codes : goal.returns-then-not-same_codes
+returns-then-not-same_codes c =
+    let args = c.args in
+    c.not_read.ensures
+    ∙ codes_differ total row_limit args.rows.now args.m args.codes.now args.stated
+    (sym c.same_codes.ensures ∙ c.if-not-same_codes.true)
+
+pub returns-then-stated-lt0 : goal.returns-then-stated-lt0
+returns-then-stated-lt0 c =
+    let args = c.args in
+    let radius_fits : SFits w64 args.stated.scaled_squared_radius = search rules in
+    c.not_read-then-stated-lt0.ensures
+    ∙ radius_below total row_limit args.rows.now args.m args.codes.now args.stated radius_fits c.if-stated-lt0.true
+
+pub returns-then-stated-lt0-2 : goal.returns-then-stated-lt0-2
+returns-then-stated-lt0-2 c =
+    let args = c.args in
+    let floor_fits : SFits w64 args.stated.scaled_lower_bound = search rules in
+    c.not_read-then-stated-lt0-2.ensures
+    ∙ floor_below total row_limit args.rows.now args.m args.codes.now args.stated floor_fits c.if-stated-lt0-2.true
+
+pub returns-then-not-agrees : goal.returns-then-not-agrees
+returns-then-not-agrees c =
+    let args = c.args in
+    let signs : Signs args.stated =
+        record {
+          radius_fits = search rules;
+          floor_fits = search rules;
+          radius_not = c.if-stated-lt0.false;
+          floor_not = c.if-stated-lt0-2.false;
+        } in
+    c.not_read-then-not-agrees.ensures
+    ∙ disagreeing total row_limit args.rows.now args.m args.codes.now args.stated signs
+    args.n c.requires.count (sym c.same_codes.ensures ∙ c.if-not-same_codes.false)
+    c.filled_ball-ball.ensures (sym c.agrees.ensures ∙ c.if-not-agrees.true)
+
+pub returns : goal.returns
+returns c =
+    let args = c.args in
+    let signs : Signs args.stated =
+        record {
+          radius_fits = search rules;
+          floor_fits = search rules;
+          radius_not = c.if-stated-lt0.false;
+          floor_not = c.if-stated-lt0-2.false;
+        } in
+    agreeing total row_limit args.rows.now args.m args.codes.now args.stated signs
+    args.n c.requires.count (sym c.same_codes.ensures ∙ c.if-not-same_codes.false)
+    c.filled_ball-ball.ensures c.filled_figures-figures.ensures c.filled_envelope.ensures
+    (sym c.agrees.ensures ∙ c.if-not-agrees.false)
