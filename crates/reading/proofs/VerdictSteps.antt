@@ -18,7 +18,7 @@ use Rattle.refusal.specs.Number.{line_form, value_range, tag_differs}
 use Rattle.geometry.specs.Table.{coordinate}
 use Rattle.limits.specs.Limits.{channel_limit}
 use Rattle.geometry.specs.Figures.{scaled_squared_distance}
-use Rattle.geometry.specs.FigureLaws.{distance_cong}
+use Rattle.geometry.proofs.FigureLaws.{distance_cong}
 use Rattle.geometry.specs.Clauses.{RowAt}
 use Rattle.text.specs.Parts.{line_end, text_within, free, cut}
 use Rattle.channel.specs.Channel.{Types}

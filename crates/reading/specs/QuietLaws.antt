@@ -8,7 +8,7 @@ use Rattle.std.proofs.Common.{◌∙◌, le_trans, le_of_eq, arith}
 use Rattle.integers.specs.Tests.{clash}
 use Rattle.refusal.specs.Number.{outside_limits}
 use Rattle.refusal.specs.declared.Outcome.TheVariants.{Accepted}
-use Rattle.geometry.specs.FigureLaws.{distance_cong}
+use Rattle.geometry.proofs.FigureLaws.{distance_cong}
 use Rattle.geometry.specs.Table.{coordinate}
 use Rattle.limits.specs.Limits.{budget_limit}
 use Rattle.drawing.specs.Draw.{drawing}
