@@ -1,5 +1,7 @@
 // Whether an envelope agrees with the rows that it is said to be drawn from (document 01, "Texts"): its figures are those that the
 // check gives of its weights. Reading a record and writing one ask the same.
+#![tactic(auto)]
+
 ghost use Rattle.std.specs.Prelude.{◌≡◌, true, ◌≤◌, length, drop};
 ghost use Rattle.integers.specs.Tests.{same_integer};
 ghost use Rattle.geometry.specs.Table.{rows_within};

@@ -1,5 +1,7 @@
 // The verdict on a reading against the figures of an envelope (document 01, "Texts"): Quiet when s of the reading, taken as a row,
 // is at most M, else Alarm with s - M. Whoever made the figures and the text, the tags are matched before a value's range counts.
+#![tactic(auto)]
+
 ghost use Rattle.std.specs.Prelude.{◌≤◌, ◌≡◌, true, [], ◌∷◌, ◌++◌, length};
 ghost use Rattle.limits.specs.Limits.{total, channel_limit};
 ghost use Rattle.channel.specs.Channel.{channel_types};

@@ -45,7 +45,7 @@ scaled_squared_distance-distance-requires c =
     let limits = known-within total channel_types figures c.requires.0 in
     let count = length-take-le figures.n figures.codes (known_coded total channel_types figures c.requires.0).typed in
     let point =
-        point-read (rw c.in-Within.is at c.read_line-read.ensures) house_sound figures.n count (omega (arith, limits.channels, c.requires.1.1)) limits.channels in
+    point-read (rw c.in-Within.is at c.read_line-read.ensures) house_sound figures.n count (omega (arith, limits.channels, c.requires.1.1)) limits.channels in
     (point.row, within_centre limits)
 
 pub returns-in-Malformed : goal.returns-in-Malformed
@@ -72,7 +72,7 @@ returns-in-Within c =
     let limits = known-within total channel_types figures c.requires.0 in
     let count = length-take-le figures.n figures.codes (known_coded total channel_types figures c.requires.0).typed in
     let point =
-        point-read (rw c.in-Within.is at c.read_line-read.ensures) house_sound figures.n count (omega (arith, limits.channels, c.requires.1.1)) limits.channels in
+    point-read (rw c.in-Within.is at c.read_line-read.ensures) house_sound figures.n count (omega (arith, limits.channels, c.requires.1.1)) limits.channels in
     distance_sound c.read_line-read.ensures.same_length
     (decided (lent_figures c.args.scalars c.args.codes.now c.args.scaled_centre.now) c.requires.0 c.requires.1.0 c.read_line-read.ensures Within c.in-Within.is ∙ ap content_of point.is)
     (ap Is (c.scaled_squared_distance-distance.ensures.is ∙ point.distance total (centre_of figures.ball.scaled_centre)))
