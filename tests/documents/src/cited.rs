@@ -110,18 +110,20 @@ pub fn items(text: &str) -> BTreeSet<Vec<String>> {
         .collect()
 }
 
-/// The files of definitions that a file of definitions imports, as crate and name. What the prover declares of types and of contracts
-/// is no file.
+/// The files of definitions and of laws that a file of definitions imports, as crate and name. What the prover makes of types, of
+/// contracts and of functions is no file: the last are in lower case.
 pub fn imports(source: &str) -> BTreeSet<(String, String)> {
     let lines = source
         .lines()
         .filter_map(|line| line.strip_prefix("use Rattle."));
     lines
         .filter_map(|line| {
-            let (from, rest) = line.split_once(".specs.")?;
+            let (from, rest) = line
+                .split_once(".specs.")
+                .or_else(|| line.split_once(".proofs."))?;
             let file = rest.split(['.', ' ']).next()?;
-            let made = ["declared", "contracts"].contains(&file);
-            (!made).then(|| (from.to_string(), file.to_string()))
+            let written = file.starts_with(|c: char| c.is_ascii_uppercase());
+            written.then(|| (from.to_string(), file.to_string()))
         })
         .collect()
 }

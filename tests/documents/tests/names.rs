@@ -141,8 +141,13 @@ fn steps(document: &str) -> Vec<Step> {
     .collect()
 }
 
+/// A file stands in `proofs` where what it rests on is a definition that an edit changes.
 fn definitions((owner, file): &(String, String)) -> String {
-    text(&format!("crates/{owner}/specs/{file}.antt"))
+    let part = |part| format!("crates/{owner}/{part}/{file}.antt");
+    match root().join(part("specs")).exists() {
+        true => text(&part("specs")),
+        false => text(&part("proofs")),
+    }
 }
 
 #[test]
