@@ -1,5 +1,7 @@
 // A measured reading: the verdict as `reading` gives it, with s beside it and the values as they read in a lent slice. One walk over the
 // line gives all three; the values go to an array first, since a refused reading leaves the slice as it was.
+#![tactic(auto)]
+
 ghost use Rattle.std.specs.Prelude.{◌≡◌, length};
 ghost use Rattle.limits.specs.Limits.{total};
 ghost use Rattle.lent.specs.Filled.{filled};
