@@ -8,7 +8,7 @@
 --     draw_judged                   and judge the verdicts on readings of 1 to 65,536 bytes, against the drawn envelope
 --     rows_quiet                    which are lines `QUIET` alone, where the readings are rows of the text, in any order and number
 --     row_quiet                     and one such line, where they are one row
-use Rattle.std.specs.Prelude.{ℕ, ◌+◌, ◌≤◌, ◌<◌, ◌≡◌, true, ◌&&◌, ℤ, length, take}
+use Rattle.std.specs.Prelude.{ℕ, ◌≤◌, ◌<◌, ◌≡◌, true, ◌&&◌, ℤ, length, take}
 use Rattle.std.proofs.Math.Path.{refl, ap}
 use Rattle.std.proofs.Common.{sym, ap₂, ◌∙◌, arith, le-leb}
 use mathlib.Core.List.{List, [], ◌∷◌, ◌++◌, flat_map, append_assoc, append-nil}

@@ -1,1 +1,3 @@
+#![tactic(auto)]
+
 // Proof-only: what holds of the programs, each by itself and together.
