@@ -4,7 +4,7 @@ use Rattle.std.specs.Prelude.{ℕ, ◌*◌, ◌+◌, ◌-◌, ◌≤◌, ◌<◌
 use Rattle.geometry.specs.Figures.{squared_length, scaled_squared_distance, largest_squared_distance}
 use Rattle.limits.specs.Limits.{centre_limit, distance_limit}
 use Rattle.geometry.specs.Places.{centre_of}
-use Rattle.geometry.proofs.Demand.{Rival}
+use Rattle.geometry.specs.Rival.{Rival}
 use Rattle.ball.specs.declared.Ball.{Ball}
 
 -- X, M, L and Settled are b's fields; a i k is row i's coordinate in channel k

@@ -1,5 +1,4 @@
 -- Demand 3 of document 01, over any rows, any weights of sum D above 0 and m rows above 0, apart from how the weights came about.
---     Rival m n a Y q P       the ball round Y/q of squared radius P/q² holds every row
 --     rival                   3.1: D² P is at least q² L + |q X - D Y|² for every rival
 --     holds_every_row         3.2: s of every row is at most M
 --     reaches_some_row        3.2: s of some row equals M
@@ -13,15 +12,11 @@ use Rattle.std.proofs.Math.Nat.{le_trans, mul-le-mul_left, le_of_mul-le-mul_left
 use Rattle.integers.specs.Sum.{sumℕ}
 use Rattle.integers.specs.SumLaws.{sumℕ_mono, sumℕ_mul_right}
 use Rattle.geometry.specs.Figures.{squared_length, squared_distance, scaled_centre, scaled_squared_distance, scaled_squared_radius, scaled_lower_bound, largest, largest_squared_distance}
+use Rattle.geometry.specs.Rival.{Rival}
 use Rattle.geometry.specs.Move.{scaled_squared_distance_of, far_row, near_row, difference, separation, settled}
 use Rattle.geometry.proofs.FigureLaws.{moment, mean_distance, centre_most_lem, distance_most}
 use Rattle.geometry.specs.SelectLaws.{largest_most, largest_below, largest_reached, nearest_leastℕ}
 use Rattle.geometry.proofs.MoveLaws.{difference_exact, far_within, near_within, radius_far}
-
--- P is at least the squared length of (q times row - Y) for every row
-pub record Rival (m n : ℕ) (a : ℕ → ℕ → ℤ) (Y : ℕ → ℤ) (q P : ℕ) : Type 0 where
-  pub some : 0 < q
-  pub holds : (i : ℕ) → i < m → squared_length n (λ k. pos q *ℤ a i k -ℤ Y k) ≤ P
 
 -- a weighted sum of numbers of at most B, and of at least B where there is weight
 weighted_most : (m D B : ℕ) (w f : ℕ → ℕ) → sumℕ m w ≡ D → ((i : ℕ) → i < m → f i ≤ B) → sumℕ m (λ i. w i * f i) ≤ D * B

@@ -10,3 +10,4 @@ pub mod Clauses
 pub mod PlacesLaws
 pub mod TableLaws
 pub mod SelectLaws
+pub mod Rival

@@ -20,9 +20,10 @@ use Rattle.reading.specs.Verdict.{judged, refused_verdict}
 use Rattle.reading.specs.declared.Verdict.{Verdict}
 use Rattle.reading.specs.declared.Verdict.TheVariants.{Refused}
 use Rattle.alert.specs.Alert.{Finding, History, Setting, ◌then◌, alarm, counted, ends_in, passed, quiet, raised, stands, start}
-use Rattle.alert.proofs.AlertLaws.{ends_one, found_all, raised_passed}
+use Rattle.alert.specs.AlertLaws.{ends_one, found_all, raised_passed}
 use Rattle.alert.specs.Clauses.{Positive, Stepped, Tallied, run_of}
-use Rattle.alert.proofs.StepLaws.{ends_run, passed_most, stands_alarm, stands_quiet, tallied_alarm, tallied_quiet}
+use Rattle.alert.specs.StepLaws.{ends_run, passed_most, stands_alarm, stands_quiet}
+use Rattle.alert.proofs.TallyLaws.{tallied_alarm, tallied_quiet}
 use Rattle.alert_settings.specs.Settings.{settings_of}
 use Rattle.alert_settings.specs.SettingsLaws.{settings_count}
 use Rattle.alert_trial.specs.Clauses.{trial_text}
