@@ -1,3 +1,4 @@
+#![tactic(auto)]
 // Reference texts written (document 02, job 1): the text of a table, its types and the labels of its rows, with plain values. Labels
 // are lent as their bytes, one label after another, and the index at which each ends. The text is printed row by row into places of
 // its own, so that a refused call changes nothing that is lent.
