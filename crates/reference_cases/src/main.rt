@@ -1,6 +1,8 @@
 // Runs stored reference texts, which another implementation of document 01 wrote with the answers that are owed.
 // tests/outside/src/stored_texts.rs has the form of the input and of the output. The trial figures without a star come first:
 // TOC 2000 is read, 2001 gives 4, the 256th row is read.
+#![tactic(auto)]
+
 ghost use Rattle.std.specs.Prelude.{◌+◌, ◌≤◌, ◌<◌, length};
 
 use case_io::{byte_at, least, print_number, raised, read_full, two_bytes};
