@@ -1,5 +1,7 @@
 // `alerts REFERENCE RECORD SETTINGS < READINGS`: reads a reference text, a record and a settings text from files and readings from standard
 // input, and writes to standard output the trial of the settings on the readings, or the refusal of a text.
+#![tactic(auto)]
+
 use program_alerts::OUTPUT_MOST;
 use program_io::arguments::arguments;
 use program_io::streams::{TEXT_READ, read_file, read_standard_input, write_output};

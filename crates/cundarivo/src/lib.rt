@@ -1,5 +1,7 @@
 // The calls for C and Rust, on numbers, lent slices and small structs of numbers: each is the call of its area. `cundarivo_c` exports each by
 // its name.
+#![tactic(auto)]
+
 pub mod alert_trial_text;
 pub mod chart_numbers;
 pub mod programs;

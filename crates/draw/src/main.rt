@@ -1,5 +1,7 @@
 // `draw < REFERENCE`: reads a reference text from standard input, and writes to standard output the record of the drawing of its rows,
 // or the refusal.
+#![tactic(auto)]
+
 use program_draw::OUTPUT_MOST;
 use program_io::arguments::arguments;
 use program_io::streams::{TEXT_READ, read_standard_input, write_output};

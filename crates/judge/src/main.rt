@@ -1,5 +1,7 @@
 // `judge REFERENCE RECORD < READINGS`: reads a reference text and a record from files and readings from standard input, and writes to
 // standard output the verdict on each reading, or the refusal of a text.
+#![tactic(auto)]
+
 use program_io::arguments::arguments;
 use program_io::streams::{TEXT_READ, read_file, read_standard_input, write_output};
 use program_judge::OUTPUT_MOST;

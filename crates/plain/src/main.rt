@@ -1,5 +1,7 @@
 // `plain < REFERENCE`: reads a reference text from standard input, and writes to standard output the text of its table, its types and its
 // labels, each value plain, or the refusal.
+#![tactic(auto)]
+
 use program_io::arguments::arguments;
 use program_io::streams::{TEXT_READ, read_standard_input, write_output};
 use program_plain::OUTPUT_MOST;

@@ -1,5 +1,7 @@
 // `verify REFERENCE < RECORD`: reads a reference text from a file and a record from standard input, and writes to standard output `OK` where
 // the record agrees with the rows and tags, else the refusal.
+#![tactic(auto)]
+
 use program_io::arguments::arguments;
 use program_io::streams::{TEXT_READ, read_file, read_standard_input, write_output};
 use program_verify::OUTPUT_MOST;
