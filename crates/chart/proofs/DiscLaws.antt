@@ -30,4 +30,3 @@ within_disc D n X M p ball =
 pub tight_projected : (D m n : ℕ) (a : ℕ → ℕ → ℤ) (b : Ball) → Tight D m n a b → (i : ℕ) → i < m → Projected D n b (a i)
 tight_projected D m n a b tight i l =
     within_disc D n (centre_of b.scaled_centre) b.scaled_squared_radius (a i) (tight.every_row i l)
-

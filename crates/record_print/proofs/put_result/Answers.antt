@@ -26,10 +26,10 @@ put_bytes-next-requires c =
     let below = result_below args.scaled_squared_radius args.scaled_lower_bound args.moves (omega arith) (omega arith) (omega arith) in
     let end = (numbers_put args.scaled_squared_radius args.scaled_lower_bound args.moves below c.put_numbers-end.ensures).0 in
     let letter : c.if-settled.letter ≡ letter_of args.settled =
-        elim c.if-settled.branch [
-          then-settled w ↦ w.letter-is ∙ sym (ap letter_of w.if-settled.true)
-          | else-settled w ↦ w.letter-is ∙ sym (ap letter_of w.if-settled.false)
-        ] in
+    elim c.if-settled.branch [
+      | then-settled w ↦ w.letter-is ∙ sym (ap letter_of w.if-settled.true)
+      | else-settled w ↦ w.letter-is ∙ sym (ap letter_of w.if-settled.false)
+    ] in
     omega (arith, ap length letter ∙ letter_length args.settled, length-set c.put_numbers-end.new.out c.put_numbers-end.result comma)
 
 pub bounds-out-next : goal.bounds-out-next
@@ -37,10 +37,10 @@ bounds-out-next c =
     let args = c.args in
     let below = result_below args.scaled_squared_radius args.scaled_lower_bound args.moves (omega arith) (omega arith) (omega arith) in
     let letter : c.if-settled.letter ≡ letter_of args.settled =
-        elim c.if-settled.branch [
-          then-settled w ↦ w.letter-is ∙ sym (ap letter_of w.if-settled.true)
-          | else-settled w ↦ w.letter-is ∙ sym (ap letter_of w.if-settled.false)
-        ] in
+    elim c.if-settled.branch [
+      | then-settled w ↦ w.letter-is ∙ sym (ap letter_of w.if-settled.true)
+      | else-settled w ↦ w.letter-is ∙ sym (ap letter_of w.if-settled.false)
+    ] in
     (result_put args.scaled_squared_radius args.scaled_lower_bound args.moves below args.settled _ letter (omega arith) c.put_numbers-end.ensures c.put_bytes-next.ensures).within
 
 pub returns : goal.returns
@@ -48,8 +48,8 @@ returns c =
     let args = c.args in
     let below = result_below args.scaled_squared_radius args.scaled_lower_bound args.moves (omega arith) (omega arith) (omega arith) in
     let letter : c.if-settled.letter ≡ letter_of args.settled =
-        elim c.if-settled.branch [
-          then-settled w ↦ w.letter-is ∙ sym (ap letter_of w.if-settled.true)
-          | else-settled w ↦ w.letter-is ∙ sym (ap letter_of w.if-settled.false)
-        ] in
+    elim c.if-settled.branch [
+      | then-settled w ↦ w.letter-is ∙ sym (ap letter_of w.if-settled.true)
+      | else-settled w ↦ w.letter-is ∙ sym (ap letter_of w.if-settled.false)
+    ] in
     (result_put args.scaled_squared_radius args.scaled_lower_bound args.moves below args.settled _ letter (omega arith) c.put_numbers-end.ensures c.put_bytes-next.ensures).ended

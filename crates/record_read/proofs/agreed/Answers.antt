@@ -33,12 +33,12 @@ pub returns-then-not-agrees : goal.returns-then-not-agrees
 returns-then-not-agrees c =
     let args = c.args in
     let signs : Signs args.stated =
-        record {
-          radius_fits = search rules;
-          floor_fits = search rules;
-          radius_not = c.if-stated-lt0.false;
-          floor_not = c.if-stated-lt0-2.false;
-        } in
+    record {
+      radius_fits = search rules;
+      floor_fits = search rules;
+      radius_not = c.if-stated-lt0.false;
+      floor_not = c.if-stated-lt0-2.false;
+    } in
     c.not_read-then-not-agrees.ensures
     ∙ disagreeing total row_limit args.rows.now args.m args.codes.now args.stated signs
     args.n c.requires.count (sym c.same_codes.ensures ∙ c.if-not-same_codes.false)
@@ -48,12 +48,12 @@ pub returns : goal.returns
 returns c =
     let args = c.args in
     let signs : Signs args.stated =
-        record {
-          radius_fits = search rules;
-          floor_fits = search rules;
-          radius_not = c.if-stated-lt0.false;
-          floor_not = c.if-stated-lt0-2.false;
-        } in
+    record {
+      radius_fits = search rules;
+      floor_fits = search rules;
+      radius_not = c.if-stated-lt0.false;
+      floor_not = c.if-stated-lt0-2.false;
+    } in
     agreeing total row_limit args.rows.now args.m args.codes.now args.stated signs
     args.n c.requires.count (sym c.same_codes.ensures ∙ c.if-not-same_codes.false)
     c.filled_ball-ball.ensures c.filled_figures-figures.ensures c.filled_envelope.ensures

@@ -37,7 +37,7 @@ pub agreed-requires : goal.agreed-requires
 agreed-requires c =
     let args = c.args in
     let given =
-        given-within row_limit channel_types args.rows.now args.m args.n args.codes.now (sym c.given_within-given.ensures ∙ c.if-not-given.false) in
+    given-within row_limit channel_types args.rows.now args.m args.n args.codes.now (sym c.given_within-given.ensures ∙ c.if-not-given.false) in
     record {
       within = given.0;
       count = length-take-le args.n args.codes.now given.1;
