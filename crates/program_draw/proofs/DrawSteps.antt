@@ -27,7 +27,7 @@ use Rattle.envelope.specs.declared.Envelope.{Envelope}
 use Rattle.record_print.specs.Printed.{record_text}
 use Rattle.record_write.specs.Clauses.{record_written}
 use Rattle.lent.specs.Clauses.{written}
-use Rattle.record.specs.HouseLaws.{house_drawn_most, house_drawn_written}
+use Rattle.record.proofs.RoomLaws.{house_drawn_most, house_drawn_written}
 use Rattle.lent.specs.declared.TextWritten.{TextWritten}
 use Rattle.program_lines.proofs.LineSteps.{filled_put}
 use Rattle.program_draw.specs.Output.{draw_budget, draw_output}

@@ -12,7 +12,8 @@ use Rattle.program_panel.specs.Output.{panel_output}
 use Rattle.program_plain.specs.Output.{plain_output}
 use Rattle.program_judge.specs.Output.{judge_output}
 use Rattle.program_alerts.specs.Output.{alerts_output}
-use Rattle.program_laws.specs.LongLaws.{alerts_long, bytes_read, draw_long, judge_long, panel_long, plain_long, verify_long}
+use Rattle.program_laws.specs.LongTexts.{bytes_read}
+use Rattle.program_laws.proofs.LongLaws.{alerts_long, draw_long, judge_long, panel_long, plain_long, verify_long}
 use Rattle.text.specs.Ascii.{ascii, byte}
 use Rattle.file_name.specs.Name.{escaped, escaped_byte, escaped_name, escaped_start}
 use Rattle.message.specs.Message.{excess_message, file_message, missing_message, named_argument, stream_message}

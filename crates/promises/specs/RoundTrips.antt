@@ -35,9 +35,11 @@ use Rattle.record_read.specs.Clauses.{record_read}
 use Rattle.record_read.specs.ReadLaws.{accepted-read, accepting}
 use Rattle.record_read.specs.declared.EnvelopeRead.{EnvelopeRead}
 use Rattle.record_write.specs.Clauses.{record_written}
-use Rattle.record_write.specs.WriteLaws.{writing-written, written-writing}
+use Rattle.record_write.specs.WriteLaws.{writing-written}
+use Rattle.record_write.proofs.AnswerLaws.{written-writing}
 use Rattle.record.specs.DrawnLaws.{checked-writing, drawn_written}
-use Rattle.record.specs.HouseLaws.{Arrays, house_drawn_read, house_drawn_written, house_enough, house_most, house_refused, house_unread, house_written_read}
+use Rattle.record.specs.HouseLaws.{Arrays, house_drawn_read, house_most, house_refused, house_unread, house_written_read}
+use Rattle.record.proofs.RoomLaws.{house_drawn_written, house_enough}
 use Rattle.record.specs.TripLaws.{accepted_bytes, accepted-cleared, cleared-text, written-cleared}
 use Rattle.program_lines.specs.Lines.{print_accepted, print_verdict, print_verdicts}
 use Rattle.program_draw.specs.Output.{draw_budget, draw_output}

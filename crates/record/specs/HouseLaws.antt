@@ -3,16 +3,14 @@
 --     house_room                     a record is within record_room
 --     house_text                     so that it has at most 65,536 bytes, and 1 never meets one of ours
 --     house_most                     a record that is written has at most record_most bytes
---     house_enough                   so that 13 never answers a buffer of so many places
 --     house_written_read             2.11: a written record, read against the same rows and codes, gives its own envelope, cleared
---     house_drawn_most               the record of a drawn envelope has at most record_most bytes
---     house_drawn_written            and is written to every buffer of record_most row_limit places, 3,252
---     house_drawn_read               and, read against the same rows and codes, gives that envelope
+--     own, own-writing               the envelope of a drawing of n channels of these codes, and that it is written
+--     house_drawn_read               its record, read against the same rows and codes, gives that envelope
 --     house_unread, house_refused    writing refuses with 12 exactly the envelopes whose record reading turns back
 use Rattle.std.specs.Prelude.{ℕ, ◌^◌, ◌≤◌, min, ◌≡◌, true, List, ℤ, length}
 use native.Mathlib.Omega.{arith}
 use Rattle.lists.specs.Padded.{padded}
-use Rattle.refusal.specs.Number.{disagreement, buffer_short}
+use Rattle.refusal.specs.Number.{disagreement}
 use Rattle.refusal.specs.Outcome.{refused, number_of}
 use Rattle.refusal.specs.declared.Outcome.TheVariants.{Accepted}
 use Rattle.geometry.specs.Table.{rows_within}
@@ -34,11 +32,11 @@ use Rattle.record_print.specs.Clauses.{record_room}
 use Rattle.record_print.specs.PrintedLaws.{heading_short, centre_short, result_short, lines_short, record_length, record_room_lem}
 use Rattle.record_read.specs.Clauses.{record_read}
 use Rattle.record_write.specs.Clauses.{record_written}
-use Rattle.lent.specs.Clauses.{not_written, written}
+use Rattle.lent.specs.Clauses.{not_written}
 use Rattle.record_read.specs.declared.EnvelopeRead.{EnvelopeRead}
-use Rattle.lent.specs.declared.TextWritten.{TextWritten}
 use Rattle.record_read.specs.ReadLaws.{accepting}
-use Rattle.record_write.specs.WriteLaws.{within_printing, Writing, each_written, written-writing, writing-written}
+use Rattle.record_write.specs.WriteLaws.{within_printing, Writing}
+use Rattle.record_write.proofs.AnswerLaws.{written-writing}
 use Rattle.record.specs.TripLaws.{Holds, written_envelope, disagreement_unread, unread_disagreement}
 use Rattle.record.specs.DrawnLaws.{drawn-writing, drawn_read}
 
@@ -89,12 +87,6 @@ module _ (rows : List ℤ) (m : ℕ) (e : Envelope) where
             (λ i h. omega (arith, agreed_weight total row_limit rows m f.n ball e.weights agreed i)) agreed.rest,
       )
 
-  pub house_enough : (places : ℕ) → record_most (min m row_limit) ≤ places
-      → number_of (record_written total row_limit channel_types rows m e places).outcome ≡ buffer_short → ⊥
-  house_enough places room =
-      each_written total row_limit channel_types rows m e places (λ (a : TextWritten). number_of a.outcome ≡ buffer_short → ⊥)
-      (λ h. omega arith) (λ f r a h. omega arith) (λ w l h. omega (arith, house_most w)) (λ w l h. omega arith)
-
 -- ---- a record that is read back
 
 module _ (rows : List ℤ) (m : ℕ) (e : Envelope) (arrays : Arrays e) (places : ℕ) where
@@ -122,10 +114,10 @@ module _ (rows : List ℤ) (m : ℕ) (e : Envelope) (arrays : Arrays e) (places 
 -- a drawing of n channels of these codes
 module _ (rows : List ℤ) (m n : ℕ) (codes : List ℕ) (coded : length codes ≡ n) (codes_known_lem : codes_known channel_types codes ≡ true) (budget : ℕ)
     (accepted : (drawing total row_limit rows m n budget).outcome ≡ Accepted) where
-  abbrev own : Envelope
+  abbrev pub own : Envelope
   own = drawn_envelope n (padded channel_limit codes) (drawing total row_limit rows m n budget)
 
-  own-writing : Writing total row_limit channel_types rows m own
+  pub own-writing : Writing total row_limit channel_types rows m own
   own-writing = drawn-writing total row_limit channel_types (omega arith) rows m n codes coded codes_known_lem budget accepted
 
   own_arrays : Arrays own
@@ -136,13 +128,6 @@ module _ (rows : List ℤ) (m n : ℕ) (codes : List ℕ) (coded : length codes 
         rows = drawing-length total row_limit rows m n budget;
         fitting = λ i h. omega (arith, agreed_weight total row_limit rows m n r.ball r.weights agreed i);
       }
-
-  pub house_drawn_most : length (record_text channel_types own) ≤ record_most (min m row_limit)
-  house_drawn_most = house_most rows m own own-writing
-
-  pub house_drawn_written : (places : ℕ) → record_most row_limit ≤ places
-      → record_written total row_limit channel_types rows m own places ≡ written (length (record_text channel_types own))
-  house_drawn_written places room = writing-written total row_limit channel_types rows m own places own-writing (omega (arith, house_drawn_most))
 
   pub house_drawn_read : record_read total row_limit channel_types rows m n (padded channel_limit codes) (record_text channel_types own) ≡ accepting own
   house_drawn_read =

@@ -57,7 +57,8 @@ use Rattle.lent.specs.Clauses.{not_written, written}
 use Rattle.record_read.specs.declared.EnvelopeRead.{EnvelopeRead}
 use Rattle.record_read.specs.ReadLaws.{Accepting, accepting, accepted-read, read-accepted}
 use Rattle.typed_rows.specs.GivenLaws.{given-within}
-use Rattle.record_write.specs.WriteLaws.{Writing, writing-written, writing-refused, refused-writing}
+use Rattle.record_write.specs.WriteLaws.{Writing, writing-written, refused-writing}
+use Rattle.record_write.proofs.AnswerLaws.{writing-refused}
 
 -- ---- the ball that a record states
 

@@ -1,2 +1,3 @@
--- What the proof of writing uses.
+-- What the proof of writing uses, and what its answers say.
 pub mod WriteSteps
+pub mod AnswerLaws

@@ -6,16 +6,14 @@
 --     writing_agreed                     past 8 and 12, the record's text is written as any text is
 --     short_writing                      13
 --     each_written                       what holds of each answer holds of the call
---     written-writing, writing-written   an envelope is written exactly then, to a buffer that holds its text
---     writing-refused                    12 is met only where limits are kept and agreement is not
+--     writing-written                    such an envelope is written, to a buffer that holds its text
 use Rattle.std.specs.Prelude.{ℕ, ◌≤◌, ◌<◌, ◌≡◌, true, false, ◌&&◌, List, leb, ℤ}
-use Rattle.std.proofs.Common.{◌∙◌, ap, arith, leb-true, leb-false}
+use Rattle.std.proofs.Common.{◌∙◌, arith, leb-true, leb-false}
 use Rattle.std.proofs.Math.ListN.{length}
-use Rattle.integers.specs.Tests.{both, nonzero}
+use Rattle.integers.specs.Tests.{both}
 use Rattle.refusal.specs.Number.{outside_limits, disagreement, buffer_short}
-use Rattle.refusal.specs.Outcome.{refused, number_of}
+use Rattle.refusal.specs.Outcome.{refused}
 use Rattle.refusal.specs.OutcomeLaws.{each_answer}
-use Rattle.refusal.specs.declared.Outcome.TheVariants.{Accepted}
 use Rattle.geometry.specs.Table.{rows_within}
 use Rattle.limits.specs.Limits.{total, row_limit}
 use Rattle.channel.specs.Channel.{Types}
@@ -98,18 +96,3 @@ module _ (D limit : ℕ) (types : Types) (rows : List ℤ) (m : ℕ) (e : Envelo
           each_answer P (agrees D limit rows m e.figures.n e.figures.ball e.weights) (disagreed f r) (λ a.
           let w : Writing D limit types rows m e = record { figures_kept_lem = f; rows_kept = r; agreeing = a } in
           each_answer P (leb long places) (λ h. short w (leb-false long places h)) (λ h. whole w (leb-true long places h))))
-
-    pub written-writing : (record_written D limit types rows m e places).outcome ≡ Accepted → Writing D limit types rows m e
-    written-writing h =
-        each_written (λ (a : TextWritten). number_of a.outcome ≡ 0 → Writing D limit types rows m e)
-        nonzero (λ f r a. nonzero) (λ w l. nonzero) (λ w l k. w) (ap number_of h)
-
-    pub writing-refused : number_of (record_written D limit types rows m e places).outcome ≡ disagreement
-        → (figures_known D types e.figures ≡ true) × (rows_within limit rows m e.figures.n ≡ true)
-        × (agrees D limit rows m e.figures.n e.figures.ball e.weights ≡ false)
-    writing-refused =
-        each_written
-        (λ (a : TextWritten). number_of a.outcome ≡ disagreement
-        → (figures_known D types e.figures ≡ true) × (rows_within limit rows m e.figures.n ≡ true)
-        × (agrees D limit rows m e.figures.n e.figures.ball e.weights ≡ false))
-        (λ h. absurd (omega arith)) (λ f r a h. (f, r, a)) (λ w l h. absurd (omega arith)) (λ w l h. absurd (omega arith))

@@ -1,14 +1,12 @@
 -- What follows 65,537 bytes of a text changes no program's output, for any total D, row limit and table of types: a text above the limit on
 -- texts is refused, whatever it is.
---     read_limit                   the most bytes that a program reads of a text, one more than a text may have
---     bytes_read text              what it reads of a text
 --     within-read                 what refuses a text above the limit gives the same for the bytes read
 --     content-read                a reference text
 --     against-read                a reference text and a record
 --     settings_read               a settings text, which is not longer than the limit on texts where it is accepted
 --     trial-read                  readings on which settings are tried
 --     draw_long, verify_long, panel_long, judge_long, alerts_long, plain_long     the programs
-use Rattle.std.specs.Prelude.{ℕ, ◌+◌, ◌<◌, ◌≡◌, Bool, ℤ, length, take}
+use Rattle.std.specs.Prelude.{ℕ, ◌<◌, ◌≡◌, Bool, ℤ, length, take}
 use Rattle.std.proofs.Math.Path.{refl, sym, ap}
 use Rattle.std.proofs.Common.{◌∙◌, arith, take_all}
 use Rattle.std.proofs.Math.Bool.{true, false}
@@ -47,12 +45,7 @@ use Rattle.program_verify.specs.Output.{verify_output}
 use Rattle.program_alerts.specs.Output.{trial_output, settings_output, alerts_output}
 use Rattle.program_plain.specs.Output.{plain_output}
 use Rattle.program_plain.specs.OutputLaws.{plain_faulty}
-
-abbrev pub read_limit : ℕ
-read_limit = text_limit + 1
-
-unfoldable pub bytes_read : List ℕ → List ℕ
-bytes_read text = take read_limit text
+use Rattle.program_laws.specs.LongTexts.{read_limit, bytes_read}
 
 -- ---- a text
 

@@ -1,0 +1,2 @@
+-- What follows enough bytes of a text changes no output.
+pub mod LongLaws

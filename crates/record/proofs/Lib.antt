@@ -1,0 +1,2 @@
+-- What follows from the most bytes of a record.
+pub mod RoomLaws
