@@ -11,7 +11,7 @@ use Rattle.text.specs.Parts.{line_end, text_within}
 use Rattle.text.specs.PartsLaws.{text-within}
 use Rattle.channel.specs.Channel.{channel_types}
 use Rattle.ball.specs.Ball.{filled_ball}
-use Rattle.envelope.specs.Figures.{figures_of}
+use Rattle.envelope.specs.Figures.{figures_known, figures_of}
 use Rattle.reading.specs.ContentLaws.{faulty_figures, faulty_length, faulty_form}
 use Rattle.reading.specs.Clauses.{DistanceRead, distance_faulty}
 use Rattle.reading.proofs.VerdictSteps.{line_last, line_none}
@@ -25,14 +25,14 @@ pub returns-then-not-known : goal.returns-then-not-known
 returns-then-not-known c =
     distance_faulty refl
     (faulty_figures total channel_types _ c.args.text.now (sym c.figures_known_lent-known.ensures ∙ c.if-not-known.true))
-    c.refused.ensures
+    (cc)
 
 pub returns-then-not-within : goal.returns-then-not-within
 returns-then-not-within c =
-    distance_faulty refl
-    (faulty_length total channel_types _ c.args.text.now (sym c.figures_known_lent-known.ensures ∙ c.if-not-known.false)
-    (sym c.text_within-within.ensures ∙ c.if-not-within.true))
-    c.refused-then-not-within.ensures
+    let a = c.args in
+    let f = figures_of a.n a.codes.now (filled_ball a.scaled_centre.now a.scaled_squared_radius a.scaled_lower_bound a.settled) a.moves in
+    let known : figures_known total channel_types f ≡ true = cc in
+    distance_faulty refl (faulty_length total channel_types f a.text.now known (sym c.text_within-within.ensures ∙ c.if-not-within.true)) (cc)
 
 pub returns-then-text-end-ne-LINE_END : goal.returns-then-text-end-ne-LINE_END
 returns-then-text-end-ne-LINE_END c =
@@ -46,11 +46,11 @@ returns-then-text-end-ne-LINE_END c =
 pub distance_of_line-requires : goal.distance_of_line-requires
 distance_of_line-requires c =
     let within = sym c.text_within-within.ensures ∙ c.if-not-within.false in
-    (sym c.figures_known_lent-known.ensures ∙ c.if-not-known.false, (ap text_within (whole c.args.text.now within c.if-text-end-ne-LINE_END.false) ∙ within, c.requires))
+    (sym c.figures_known_lent-known.ensures ∙ c.if-not-known.false, (ap text_within (whole c.args.text.now within (omega arith)) ∙ within, c.requires))
 
 pub returns : goal.returns
 returns c =
     let a = c.args in
     let f = figures_of a.n a.codes.now (filled_ball a.scaled_centre.now a.scaled_squared_radius a.scaled_lower_bound a.settled) a.moves in
     subst (λ text. DistanceRead total channel_types f text a.places.now c.distance_of_line.new.places c.distance_of_line.result)
-    (whole a.text.now (sym c.text_within-within.ensures ∙ c.if-not-within.false) c.if-text-end-ne-LINE_END.false) c.distance_of_line.ensures
+    (whole a.text.now (sym c.text_within-within.ensures ∙ c.if-not-within.false) (omega arith)) c.distance_of_line.ensures

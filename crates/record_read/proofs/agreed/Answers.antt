@@ -1,6 +1,6 @@
 -- The tests are those of the definition: n and the tags, then the signs of M and L, then the agreement of the figures with the rows.
 -- Any of them that fails answers 12.
-use mathlib.Core.Path.{◌≡◌, sym, ◌∙◌}
+use mathlib.Core.Path.{sym, ◌∙◌}
 use borrow.Author.Rules.{rules}
 use mir.Syntax.{w64}
 use mir.Val.{SFits}

@@ -1,15 +1,11 @@
 -- Each line is passed by what its reader answers, so that the text is known from the line after it on; each return is the first line
 -- that is at fault, or what is read from the lines after the `C` line on.
-use Prim.Native.Nat.{ℕ, ◌+◌}
 use mathlib.Core.Path.{sym, ap, ◌∙◌}
-use mathlib.Core.List.{List}
-use lib.ListN.{take}
-use lib.Seq.{length-take-le}
 use Rattle.channel.specs.Channel.{channel_types}
-use Rattle.heading.proofs.Headed.{Headed, codes_in, headed, not_headed}
+use Rattle.heading.proofs.Headed.{headed, not_headed}
 use Rattle.record_lines.specs.Lines.{record_word}
 use Rattle.record_form.specs.Clauses.{stated_form}
-use Rattle.record_form.proofs.FormSteps.{AtCentre, at-heading, line-unended, line_read_lem, heading_read_lem, past_heading_lem, found, not_found, form-stated}
+use Rattle.record_form.proofs.FormSteps.{at-heading, line-unended, line_read_lem, heading_read_lem, past_heading_lem, found, not_found, form-stated}
 use Rattle.record_form.proofs.form.read_form.Goals as goal
 
 pub returns-then-heading_end-text : goal.returns-then-heading_end-text

@@ -1,4 +1,3 @@
-use Prim.Native.Nat.{◌-◌}
 use native.Mathlib.Omega.{arith}
 use Rattle.record_form.proofs.WalkSteps.{weights-missing, weights_done, weights-unended, weights_other, weights_next}
 use Rattle.record_form.proofs.form.read_weights.Goals as goal
@@ -31,4 +30,4 @@ pub returns-then-last-eq0 : goal.returns-then-last-eq0
 returns-then-last-eq0 c = weights-missing c.loop-from.invariant c.loop-from-test.false c.if-last-eq0.true
 
 pub returns : goal.returns
-returns c = weights_done c.loop-from.invariant c.loop-from-test.false c.if-last-eq0.false
+returns c = weights_done c.loop-from.invariant c.loop-from-test.false (λ e. omega arith)
