@@ -1,7 +1,7 @@
 -- A disc holds the projection of each row that its ball holds, for any total D above 0.
 --     within_disc              a point of the ball is on the disc
 --     tight_projected          it holds of every row where demand 3 holds, so of every accepted drawing, check and record
-use Rattle.std.specs.Prelude.{ℕ, ◌-◌, ◌*◌, ◌≤◌, ◌<◌, ◌≢◌, List, [], ◌∷◌, ℤ, pos, nat_abs, ◌-ℤ◌, ◌*ℤ◌}
+use Rattle.std.specs.Prelude.{ℕ, ◌-◌, ◌*◌, ◌≤◌, ◌<◌, ℤ, pos, ◌-ℤ◌, ◌*ℤ◌}
 use Rattle.std.proofs.Common.{arith, le_trans}
 use Rattle.integers.specs.Sum.{sumℕ, square}
 use Rattle.integers.specs.SumLaws.{sumℕ_term, sumℕ_two}

@@ -4,21 +4,17 @@
 --     ten_apart, ten_apart_ball   the rows 0 and 10 of one channel, and their ball
 --     same_channel_outside     on a chart of one channel against itself a row may lie outside
 use Rattle.std.specs.Prelude.{ℕ, ◌-◌, ◌*◌, ◌≤◌, ◌<◌, ◌≢◌, List, [], ◌∷◌, ℤ, pos, nat_abs, ◌-ℤ◌, ◌*ℤ◌}
-use Rattle.std.proofs.Common.{arith, le_trans, lit<}
+use Rattle.std.proofs.Common.{lit<}
 use Rattle.std.specs.Float.Ieee.{size}
 use Rattle.integers.specs.Sum.{sumℤ, sumℕ, square}
-use Rattle.integers.specs.SumLaws.{sumℕ_term, sumℕ_two}
-use Rattle.integers.specs.Absolute.{square_inv}
 use Rattle.geometry.specs.Figures.{squared_length, scaled_centre, scaled_squared_distance, largest, scaled_squared_radius}
 use Rattle.geometry.specs.Table.{coordinate, places_within, rows_within}
 use Rattle.limits.specs.Limits.{total, row_limit}
 use Rattle.geometry.specs.Places.{tabulate, centre_list, centre_of, weights_total}
 use Rattle.ball.specs.Ball.{ball_of}
 use Rattle.checking.specs.Check.{checking}
-use Rattle.ball.specs.Clauses.{Tight}
 use Rattle.ball.specs.declared.Ball.{Ball}
 use Rattle.chart.specs.Root.{root_below, ceiling_root}
-use Rattle.chart.specs.RootLaws.{root_reaches}
 use Rattle.chart.specs.Projection.{projected_squared_distance}
 
 -- the root is the radius, in units of 1/D
