@@ -1,11 +1,10 @@
 // An open file or stream read into a lent slice.
 ghost use Rattle.std.specs.Prelude.{◌≡◌, ◌+◌, ◌^◌, ◌<◌, false, pos, ◌<ℤ◌, nat_abs, length, IsSome};
-ghost use Rattle.std.specs.Io.{ReadsAtMost};
 ghost use Rattle.program_io.specs.Reading.{text_read, not_read, after_read};
 ghost use Rattle.program_io.specs.Clauses.{Moved, Read};
 
 use std::io;
-use std::io::{Error, ErrorKind};
+use std::io::Error;
 
 // Whether all that there is was read, up to the places of the slice, and how many bytes that are: none where a read failed.
 #[derive(Drop)]
@@ -48,25 +47,12 @@ fn after_read(got: isize, at: usize) -> AfterRead
     AfterRead::More(at + got as usize)
 }
 
-// Reads once, again where a signal interrupts it.
-fn read_again<D: io::Read>(descriptor: &mut D, text: &mut [u8]) -> io::Result<usize>
-    ensures { ReadsAtMost result text.new }
-{
-    for _ in 0..u64::MAX {
-        match descriptor.read(text) {
-            Err(error) if error.kind() == ErrorKind::Interrupted => {}
-            answer => return answer,
-        }
-    }
-    Err(Error::from(ErrorKind::Interrupted))
-}
-
 // Reads once, and answers how many bytes, or -1 where that fails, for the reason that is kept.
 fn read_once<D: io::Read>(descriptor: &mut D, text: &mut [u8], failure: &mut Option<Error>) -> isize
     ensures moved { Moved (length text.new) result }
     ensures reason { result <ℤ pos 0 → IsSome failure.new }
 {
-    match read_again(descriptor, text) {
+    match descriptor.read(text) {
         Ok(count) => count as isize,
         Err(error) => {
             *failure = Some(error);
