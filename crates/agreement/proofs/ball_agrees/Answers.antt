@@ -2,12 +2,7 @@
 -- past the others the ending does.
 use mathlib.Core.Path.{◌≡◌, refl, sym, ◌∙◌}
 use mathlib.Core.Bool.{Bool, true, false, beq}
-use native.Mathlib.Omega.{arith}
-use lib.ListN.{length}
 use Rattle.integers.specs.Tests.{clash, same_flag}
-use Rattle.limits.specs.Limits.{channel_limit}
-use Rattle.ball.specs.declared.Ball.{Ball}
-use Rattle.checking.specs.declared.Checked.{Checked}
 use Rattle.agreement.specs.AgreementLaws.{same_places_at, same_places_by, ball_refused, ball_ending}
 use Rattle.agreement.proofs.ball_agrees.Goals as goal
 

@@ -1,14 +1,8 @@
 use borrow.Author.Rules.{rules}
-use Prim.Native.Nat.{◌-◌}
-use mathlib.Core.Path.{◌≡◌, sym, ap, ap₂, ◌∙◌}
-use mathlib.Core.Bool.{Bool, not, true, false}
+use mathlib.Core.Path.{◌≡◌, sym, ap, ◌∙◌}
 use native.Mathlib.Omega.{arith}
-use lib.IntN.{ℤ}
-use mir.Syntax.{w64}
-use mir.Val.{SFits}
 use mir.Facts.{to_z-of_z}
-use Rattle.integers.specs.Reading.{back}
-use Rattle.integers.specs.Tests.{clash, refuted, same_integer, integer_eq, integer_refl}
+use Rattle.integers.specs.Tests.{clash, refuted, same_integer, integer_refl}
 use Rattle.geometry.specs.Places.{centre_of}
 use Rattle.agreement.specs.AgreementLaws.{same_places_at, same_places_by}
 use Rattle.agreement.proofs.same_places.Goals as goal

@@ -1,5 +1,5 @@
 -- Each line is printed where the one before it ended, and its most bytes leave room for the next. The four parts in order are the record.
-use Prim.Native.Nat.{ℕ, ◌≤◌, ◌<◌}
+use Prim.Native.Nat.{◌≤◌, ◌<◌}
 use mathlib.Core.Path.{◌∙◌}
 use native.Mathlib.Omega.{arith}
 use Rattle.channel.specs.Channel.{channel_types}

@@ -1,15 +1,12 @@
 -- M, L and moves are printed as the numbers that they are, within the room of three numbers, which leaves room for the comma, the letter and
 -- byte 10. The letter is that of the ending in both branches.
 use mathlib.Core.Path.{◌≡◌, sym, ap, ◌∙◌}
-use mathlib.Core.List.{List, [], ◌∷◌}
-use Prim.Native.Nat.{ℕ, ◌^◌}
 use native.Mathlib.Omega.{arith}
 use lib.ListN.{length, length-set}
 use Rattle.text.specs.Parts.{comma}
-use Rattle.printing.specs.UnsignedLaws.{Below}
 use Rattle.record_lines.specs.Lines.{letter_of}
 use Rattle.record_print.specs.PrintedLaws.{letter_length, result_below}
-use Rattle.record_print.proofs.PrintSteps.{Line, numbers_put, result_put}
+use Rattle.record_print.proofs.PrintSteps.{numbers_put, result_put}
 use Rattle.record_print.proofs.put_result.Goals as goal
 use Rattle.record_print.proofs.put_result.Goals.{then-settled, else-settled}
 

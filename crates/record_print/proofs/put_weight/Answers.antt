@@ -1,7 +1,5 @@
 -- A line of a word and numbers: row and weight are printed as the numbers that they are.
-use mathlib.Core.List.{[], ◌∷◌}
 use native.Mathlib.Omega.{arith}
-use Rattle.printing.specs.UnsignedLaws.{held_below}
 use Rattle.record_print.proofs.PrintSteps.{weight_below, weight_put}
 use Rattle.record_print.proofs.put_weight.Goals as goal
 

@@ -1,4 +1,3 @@
-use Prim.Native.Nat.{◌-◌}
 use native.Mathlib.Omega.{arith}
 use Rattle.record_print.proofs.PrintSteps.{weight_below, weights_none, weights_zero, weights-more, weights_done}
 use Rattle.record_print.proofs.put_weights.Goals as goal
