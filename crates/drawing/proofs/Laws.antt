@@ -16,7 +16,6 @@ use native.Mathlib.Omega.{arith}
 use lib.Dec.{ltb, lit<}
 use lib.IntN.{ℤ}
 use lib.ListN.{length, replicate, length-replicate, get_or-replicate}
-use Rattle.refusal.specs.declared.Outcome.TheVariants.{Accepted}
 use Rattle.geometry.specs.Move.{is_settled, difference, separation, capped_step, transfer, settled, move_weight, moved, weight_of}
 use Rattle.geometry.specs.Scores.{weighted_squared_distance}
 use Rattle.geometry.specs.Table.{coordinate}
@@ -36,6 +35,7 @@ use Rattle.drawing.specs.Draw.{start, run_from, drawn}
 use Rattle.drawing.specs.Clauses.{Ran}
 use Rattle.drawing.specs.RunLaws.{Running, running-start, running_turn, running_stopped, running_spent}
 use Rattle.drawing.specs.DrawLaws.{goes_on, stops, start-length, start-total, start_first, start-rest}
+use Rattle.refusal.specs.Outcome.{Accepted}
 
 -- D is at most what the machine's numbers hold the figures of
 pub record SoFar (D : ℕ) (rows : List ℤ) (m n budget : ℕ) (weights scores : List ℕ) (pair : Pair) (moves : ℕ) : Type 0 where

@@ -11,8 +11,6 @@ use native.Mathlib.Omega.{arith}
 use lib.IntN.{ℤ, pos, nat_abs}
 use lib.ListN.{length, get_or, set, take, length-set}
 use lib.Seq.{length-take-le}
-use Rattle.refusal.specs.declared.Outcome.{Outcome}
-use Rattle.refusal.specs.declared.Outcome.TheVariants.{Accepted}
 use Rattle.limits.specs.Limits.{total, row_limit, channel_limit, tag_limit, distance_digits}
 use Rattle.text.specs.Parts.{comma, line_end}
 use Rattle.number.specs.Number.{print}
@@ -25,16 +23,16 @@ use Rattle.channel.specs.ContractLaws.{house_short, type_short}
 use Rattle.envelope.specs.Figures.{figures_known}
 use Rattle.envelope.specs.FigureLaws.{known-within, known_coded}
 use Rattle.envelope.specs.declared.Figures.{Figures}
-use Rattle.record_read.specs.declared.EnvelopeRead.{EnvelopeRead}
-use Rattle.panel_steps.specs.Panel.{panel_shown}
+use Rattle.panel_steps.specs.Panel.{panel_shown, PanelShown}
 use Rattle.panel_steps.specs.OwnLaws.{figures_shown}
-use Rattle.panel_steps.specs.declared.PanelShown.{PanelShown}
 use Rattle.program_lines.specs.Lines.{print_steps}
 use Rattle.program_panel.specs.Output.{shown_output}
 use Rattle.program_record.specs.Against.{unless_refused, record_against}
 use Rattle.program_panel.specs.Clauses.{step_room}
 use Rattle.program_panel.specs.OutputLaws.{steps_none, steps_more, steps_first}
 use Rattle.program_record.specs.AgainstLaws.{against-within}
+use Rattle.refusal.specs.Outcome.{Outcome, Accepted}
+use Rattle.record_read.specs.Clauses.{EnvelopeRead}
 
 -- where the tag ends: a comma, a number and byte 10 have room after it
 pub tag_end : (code : ℕ) {out out' : List ℕ} {at end : ℕ} → at + step_room ≤ length out → Put (tag_of channel_types code) out at out' end

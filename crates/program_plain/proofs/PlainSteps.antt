@@ -11,9 +11,8 @@ use lib.ListN.{length, get_or, take, take-append-drop}
 use Rattle.refusal.specs.Outcome.{number_of}
 use Rattle.limits.specs.Limits.{row_limit, place_limit}
 use Rattle.lent.specs.Filled.{filled}
-use Rattle.lent.specs.Clauses.{written}
+use Rattle.lent.specs.Clauses.{written, TextWritten}
 use Rattle.lent.specs.ContractLaws.{text_fits}
-use Rattle.lent.specs.declared.TextWritten.{TextWritten}
 use Rattle.printing.specs.Clauses.{Put}
 use Rattle.printing.specs.ContractLaws.{put_as}
 use Rattle.channel.specs.Channel.{channel_types}
@@ -21,10 +20,9 @@ use Rattle.channel.specs.ChannelLaws.{house_sound}
 use Rattle.channel.specs.ContractLaws.{house_short}
 use Rattle.reference_rows.specs.ReferenceText.{ReferenceText, row_count, labels_of}
 use Rattle.reference_rows.specs.Rows.{Content, sound, row_start}
-use Rattle.reference.specs.Clauses.{Parsed}
+use Rattle.reference.specs.Clauses.{Parsed, ReferenceOutcome}
 use Rattle.reference.specs.Printing.{print_text, Within}
 use Rattle.reference.specs.PrintedLaws.{text_most}
-use Rattle.reference.specs.declared.read.Reference.{Reference}
 use Rattle.reference.proofs.ReadSteps.{parsed_within, read_whole_lem, read-filled}
 use Rattle.reference_write.specs.Labels.{labels_joined, ends_from}
 use Rattle.reference_write.specs.Writing.{Lent, lent_text}
@@ -39,7 +37,7 @@ use Rattle.program_plain.specs.ContractLaws.{labels-start, labels-found}
 
 -- ---- the text as it is read
 
-module _ {text : List ℕ} {table : List ℤ} {starts : List ℕ} {r : Reference} (p : Parsed row_limit channel_types text table starts r) where
+module _ {text : List ℕ} {table : List ℤ} {starts : List ℕ} {r : ReferenceOutcome} (p : Parsed row_limit channel_types text table starts r) where
   own-filled : table ≡ filled 0 (r.m * r.n) table table
   unfolding filled
   own-filled = sym (take-append-drop (r.m * r.n) table)
@@ -57,10 +55,10 @@ lent_same : {rows rows' : List ℤ} {m m' n n' : ℕ} {codes codes' labels label
     (record { rows = rows'; m = m'; n = n'; codes = codes'; labels = labels'; ends = ends' })
 lent_same rows m n codes labels ends = cc
 
-module _ {text : List ℕ} {table : List ℤ} {starts : List ℕ} {r : Reference} (p : Parsed row_limit channel_types text table starts r)
+module _ {text : List ℕ} {table : List ℤ} {starts : List ℕ} {r : ReferenceOutcome} (p : Parsed row_limit channel_types text table starts r)
     (read : RowsRead text r table) where
   rows_are : r.m ≡ row_count read.found
-  rows_are = ap (λ (x : Reference). x.m) read.answer
+  rows_are = ap (λ (x : ReferenceOutcome). x.m) read.answer
 
   lines_are : (k : ℕ) → k < row_count read.found → get_or starts k 0 ≡ row_start read.found text k
   lines_are = p.lines read.found read.is
@@ -86,7 +84,7 @@ module _ {text : List ℕ} {table : List ℤ} {starts : List ℕ} {r : Reference
 
     handed_is : handed ≡ lent_of read.found
     handed_is =
-        lent_same read.first rows_are (ap (λ (x : Reference). x.n) read.answer) read.typed
+        lent_same read.first rows_are (ap (λ (x : ReferenceOutcome). x.n) read.answer) read.typed
         (g.all_bytes ∙ ap labels_joined parsed_labels) (g.all_ends ∙ ap (ends_from 0) parsed_labels)
 
     module _ (plain : ReferenceText) (text_is : lent_text row_limit channel_types (lent_of read.found) ≡ sound plain)

@@ -39,9 +39,8 @@ use Rattle.record_form.specs.Record.{Record, Form, faulty, sound, form}
 use Rattle.record_form.specs.RecordLaws.{form_printed, form_faults}
 use Rattle.record_form.specs.Clauses.{stated_form}
 use Rattle.record_form.specs.declared.form.Stated.{Stated}
-use Rattle.record_read.specs.declared.EnvelopeRead.{EnvelopeRead}
 use Rattle.ball.specs.Ball.{filled_ball}
-use Rattle.record_read.specs.Clauses.{not_read, stated_ball, ball_answer, stated_answer, record_read}
+use Rattle.record_read.specs.Clauses.{not_read, stated_ball, ball_answer, stated_answer, record_read, EnvelopeRead}
 use Rattle.typed_rows.specs.Given.{given_within}
 use Rattle.record_read.specs.ReadLaws.{accepting, read_faulty, read_sound}
 use Rattle.record_read.specs.HeldLaws.{Holding, held-answer}

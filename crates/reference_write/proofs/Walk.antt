@@ -22,8 +22,7 @@ use Rattle.integers.specs.SumLaws.{last_or_below}
 use Rattle.refusal.specs.Outcome.{refused_at}
 use Rattle.limits.specs.Limits.{row_limit}
 use Rattle.geometry.specs.Table.{coordinate}
-use Rattle.lent.specs.Clauses.{not_written, written}
-use Rattle.lent.specs.declared.TextWritten.{TextWritten}
+use Rattle.lent.specs.Clauses.{not_written, written, TextWritten}
 use Rattle.text.specs.Parts.{line_end}
 use Rattle.text.specs.Lines.{print_lines}
 use Rattle.text.specs.LinesLaws.{printed-more}

@@ -9,14 +9,11 @@ use mathlib.Core.List.{List, []}
 use lib.ListN.{length, take}
 use Rattle.integers.specs.Tests.{impossible}
 use Rattle.refusal.specs.Number.{outside_limits}
-use Rattle.refusal.specs.Outcome.{refused, number_of}
-use Rattle.refusal.specs.declared.Refusal.{Refusal}
-use Rattle.refusal.specs.declared.Outcome.TheVariants.{Accepted, Refused}
+use Rattle.refusal.specs.Outcome.{refused, number_of, RefusalNumbers, Accepted, Refused}
 use Rattle.limits.specs.Limits.{row_limit}
 use Rattle.lent.specs.Filled.{filled}
-use Rattle.lent.specs.Clauses.{not_written, text_written}
+use Rattle.lent.specs.Clauses.{not_written, text_written, TextWritten}
 use Rattle.lent.specs.ContractLaws.{buffer_left}
-use Rattle.lent.specs.declared.TextWritten.{TextWritten}
 use Rattle.channel.specs.Channel.{channel_types}
 use Rattle.reference_rows.specs.Rows.{Content, faulty, sound}
 use Rattle.reference_write.specs.Writing.{Lent, lent_within, lent_text}
@@ -46,7 +43,7 @@ module _ (lent : Lent) (buffer : List ℕ) where
   nothing (suc number) = refl
 
   module _ {out : List ℕ} {p : TextWritten} (put : TextPut content out p) where
-    pub refused-written : {refusal : Refusal} → p.outcome ≡ Refused refusal → Written lent buffer p buffer
+    pub refused-written : {refusal : RefusalNumbers} → p.outcome ≡ Refused refusal → Written lent buffer p buffer
     unfolding reference_written
     refused-written {refusal} told = go content refl put.is
       where

@@ -13,13 +13,13 @@ use mathlib.Core.Bool.{true}
 use mathlib.Core.List.{List}
 use lib.IntN.{ℤ}
 use lib.ListN.{length}
-use Rattle.refusal.specs.declared.Outcome.TheVariants.{Accepted}
 use Rattle.geometry.specs.Move.{weight_of}
 use Rattle.geometry.specs.Table.{coordinate, rows_within}
 use Rattle.ball.specs.declared.Ball.{Ball}
 use Rattle.ball.specs.Ball.{ball_of}
 use Rattle.geometry.specs.Places.{weights_total}
 use Rattle.checking.proofs.check_weights.Goals as goal
+use Rattle.refusal.specs.Outcome.{Accepted}
 
 -- the answer, put together
 weighed : (limit : ℕ) (rows : List ℤ) (m n : ℕ) {D : ℕ} {ws : List ℕ} {b : Ball} → rows_within limit rows m n ≡ true

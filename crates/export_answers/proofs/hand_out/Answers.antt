@@ -8,9 +8,7 @@ use borrow.Author.Tests.{leb-true}
 use native.Mathlib.Omega.{arith}
 use lib.Dec.{leb}
 use lib.ListN.{length}
-use Rattle.refusal.specs.Outcome.{number_of}
-use Rattle.refusal.specs.declared.Outcome.{Outcome}
-use Rattle.refusal.specs.declared.Outcome.TheVariants.{Accepted}
+use Rattle.refusal.specs.Outcome.{number_of, Outcome, Accepted}
 use Rattle.limits.specs.Limits.{channel_limit}
 use Rattle.integers.specs.Tests.{both}
 use Rattle.export_answers.specs.Clauses.{envelope_in_numbers}

@@ -11,12 +11,10 @@ use lib.ListN.{length}
 use lib.IntN.{ℤ}
 use Rattle.lent.specs.Clauses.{with_room}
 use Rattle.lent.specs.Filled.{filled}
-use Rattle.refusal.specs.Outcome.{number_of}
-use Rattle.refusal.specs.declared.Outcome.{Outcome}
+use Rattle.refusal.specs.Outcome.{number_of, Outcome}
 use Rattle.limits.specs.Limits.{total, row_limit, channel_limit}
-use Rattle.checking.specs.Check.{checking}
+use Rattle.checking.specs.Check.{checking, Checked}
 use Rattle.checking.specs.Demand.{checking_zero, checking-accepted}
-use Rattle.checking.specs.declared.Checked.{Checked}
 use Rattle.export_ball.specs.Clauses.{check_in_numbers, check_answer}
 use Rattle.export_ball.specs.declared.CheckAnswer.{CheckAnswer}
 use Rattle.export_answers.specs.ContractLaws.{accepted_places}

@@ -12,17 +12,15 @@ use lib.ListN.{length}
 use Rattle.lent.specs.Clauses.{with_room}
 use Rattle.export_figures.specs.declared.FiguresGiven.{FiguresGiven}
 use Rattle.lent.specs.Filled.{filled}
-use Rattle.refusal.specs.Outcome.{number_of, line_of}
-use Rattle.refusal.specs.declared.Outcome.{Outcome}
-use Rattle.refusal.specs.declared.Outcome.TheVariants.{Accepted}
+use Rattle.refusal.specs.Outcome.{number_of, line_of, Outcome, Accepted}
 use Rattle.limits.specs.Limits.{total, channel_limit}
 use Rattle.channel.specs.Channel.{channel_types}
-use Rattle.panel_steps.specs.declared.PanelShown.{PanelShown}
 use Rattle.export_chart.specs.Clauses.{panel_given, panel_answer}
 use Rattle.export_chart.specs.declared.PanelAnswer.{PanelAnswer}
 use Rattle.lent.specs.ContractLaws.{room_accepted, unwritten, rewritten}
 use Rattle.export_chart.proofs.PanelLaws.{panel_accepted}
 use Rattle.export_chart.proofs.panel.Goals as goal
+use Rattle.panel_steps.specs.Panel.{PanelShown}
 
 answered : (figures : FiguresGiven) (codes : List ℕ) (centre : List ℤ) (places : ℕ) {shown : PanelShown} {outcome : Outcome} {number line : ℕ}
     → shown ≡ panel_given total channel_types figures codes centre → outcome ≡ with_room (leb figures.n places) shown.outcome

@@ -7,10 +7,10 @@ use Rattle.limits.specs.Limits.{total, row_limit}
 use Rattle.channel.specs.Channel.{channel_types}
 use Rattle.record_read.specs.ReadLaws.{accepted-read, read_zero}
 use Rattle.typed_rows.specs.GivenLaws.{given-within}
-use Rattle.record_read.specs.declared.EnvelopeRead.{EnvelopeRead}
 use Rattle.export_record.specs.Clauses.{read_answer}
 use Rattle.export_answers.specs.ContractLaws.{accepted_places}
 use Rattle.export_record.proofs.read.Goals as goal
+use Rattle.record_read.specs.Clauses.{EnvelopeRead}
 
 pub hand_out-requires : goal.hand_out-requires
 hand_out-requires c =

@@ -10,25 +10,24 @@ use lib.ListN.{length}
 use Rattle.limits.specs.Limits.{row_limit, place_limit}
 use Rattle.channel.specs.Channel.{channel_types}
 use Rattle.reference.specs.Reference.{content}
-use Rattle.reference.specs.Clauses.{answer_of, reference_read}
-use Rattle.reference.specs.declared.read.Reference.{Reference}
+use Rattle.reference.specs.Clauses.{answer_of, reference_read, ReferenceOutcome}
 use Rattle.reference.specs.ContractLaws.{answer_places, answer-rows, answer_channels, answer_values, read_room}
 use Rattle.export_reference.proofs.ReadLaws.{short_table, short_codes, answered, table_filled, codes-filled, unwritten}
 use Rattle.export_reference.proofs.read.Goals as goal
 
 -- a text that is read into a table with room for every text has the defined answer, with 7 apart
-read_is : (text : List ℕ) {r : Reference} → r ≡ reference_read row_limit channel_types text place_limit
+read_is : (text : List ℕ) {r : ReferenceOutcome} → r ≡ reference_read row_limit channel_types text place_limit
     → r ≡ answer_of (content row_limit channel_types text)
 read_is text is = is ∙ read_room row_limit channel_types text place_limit (omega arith)
 
-places : (text : List ℕ) (r : Reference) → r ≡ answer_of (content row_limit channel_types text) → r.m * r.n ≤ place_limit
+places : (text : List ℕ) (r : ReferenceOutcome) → r ≡ answer_of (content row_limit channel_types text) → r.m * r.n ≤ place_limit
 places text r is =
-    subst (λ (r : Reference). r.m * r.n ≤ place_limit) (sym is)
+    subst (λ (r : ReferenceOutcome). r.m * r.n ≤ place_limit) (sym is)
     (mul-le-mul (answer-rows row_limit channel_types text) (answer_channels row_limit channel_types text))
 
-channels : (text : List ℕ) (r : Reference) → r ≡ answer_of (content row_limit channel_types text) → r.n ≤ length r.codes
+channels : (text : List ℕ) (r : ReferenceOutcome) → r ≡ answer_of (content row_limit channel_types text) → r.n ≤ length r.codes
 channels text r is =
-    subst (λ (r : Reference). r.n ≤ length r.codes) (sym is)
+    subst (λ (r : ReferenceOutcome). r.n ≤ length r.codes) (sym is)
     (omega (arith, answer_channels row_limit channel_types text, answer_places (content row_limit channel_types text)))
 
 pub overflow_mul-places : goal.overflow_mul-places
@@ -82,7 +81,7 @@ returns c =
       answer = answered args.text.now r is (length args.table.now) (length args.codes.now) h k _ _ c.number_of.ensures c.line_of.ensures;
       table_filled = c.fill_table.ensures
           ∙ table_filled args.text.now r is (length args.table.now) (length args.codes.now) h k _ _ c.number_of.ensures c.line_of.ensures
-          _ _ args.table.now (answer_values row_limit channel_types args.text.now ∙ ap (λ (a : Reference). a.m * a.n) (sym is))
+          _ _ args.table.now (answer_values row_limit channel_types args.text.now ∙ ap (λ (a : ReferenceOutcome). a.m * a.n) (sym is))
           c.read-reference.ensures.table_filled;
       codes_filled = c.fill_codes.ensures
           ∙ codes-filled args.text.now r is (length args.table.now) (length args.codes.now) h k _ _ c.number_of.ensures c.line_of.ensures

@@ -13,14 +13,12 @@ use Rattle.envelope.specs.Clauses.{lent_figures}
 use Rattle.envelope.specs.declared.Figures.{Figures}
 use Rattle.reading.specs.Content.{reading_content, sound, distance_of}
 use Rattle.reading.specs.ContentLaws.{faulty_number}
-use Rattle.reading.specs.Clauses.{distance_as, distance_is, distance-refused}
-use Rattle.reading.specs.declared.Distance.{Distance}
-use Rattle.reading.specs.declared.Distance.TheVariants.{Is}
+use Rattle.reading.specs.Clauses.{distance_as, distance_is, distance-refused, Distance, Is}
 use Rattle.reading.specs.Verdict.{verdict_number}
 use Rattle.reading.specs.VerdictLaws.{accepted_number}
-use Rattle.measured_reading.specs.declared.Measured.{Measured}
 use Rattle.measured_reading.proofs.MeasureSteps.{few_places, answered_short, answered, answered_refused, values_filled}
 use Rattle.measured_reading.proofs.measure_lent.Goals as goal
+use Rattle.measured_reading.specs.Measured.{MeasuredOutcome}
 
 -- the reading that the text is, and its s
 reading : (f : Figures) (text : List ℕ) {r : Distance} {s : ℕ} → r ≡ distance_as total f (reading_content total channel_types f text) → r ≡ Is s
@@ -36,7 +34,7 @@ returns-then-values-n c =
     let is = reading f text c.distance_of_text-read.ensures.is c.in-Is.is in
     record {
       answer = answer ∙ sym (answered_short total channel_types f text (length lent) is.1 (omega arith));
-      values_filled = unwritten (ap (λ (r : Measured). verdict_number r.verdict) answer) c.args.scalars.n _ lent (λ h. omega arith);
+      values_filled = unwritten (ap (λ (r : MeasuredOutcome). verdict_number r.verdict) answer) c.args.scalars.n _ lent (λ h. omega arith);
     }
 
 pub fill_table-requires : goal.fill_table-requires
@@ -72,6 +70,6 @@ returns-in-Refused c =
     record {
       answer = answer ∙ sym (answered_refused total channel_types f text (length lent) is);
       values_filled =
-          unwritten (ap (λ (r : Measured). verdict_number r.verdict) answer) c.args.scalars.n _ lent
+          unwritten (ap (λ (r : MeasuredOutcome). verdict_number r.verdict) answer) c.args.scalars.n _ lent
           (faulty_number total channel_types f text is);
     }

@@ -1,12 +1,12 @@
 -- `panel_steps::panel_lent` meets its contract: the test is the definition's own, and past it X has n places within their limit.
 use mathlib.Core.Path.{sym, ap, ◌∙◌}
-use Rattle.refusal.specs.declared.Outcome.TheVariants.{Accepted}
 use Rattle.limits.specs.Limits.{total}
 use Rattle.channel.specs.Channel.{channel_types}
 use Rattle.envelope.specs.Clauses.{lent_figures}
 use Rattle.envelope.specs.FigureLaws.{known-within, within_centre}
 use Rattle.panel_steps.specs.PanelLaws.{panel_refuses, panel_shows}
 use Rattle.panel_steps.proofs.panel_lent.Goals as goal
+use Rattle.refusal.specs.Outcome.{Accepted}
 
 pub returns-then-not-figures_known_lent : goal.returns-then-not-figures_known_lent
 returns-then-not-figures_known_lent c =

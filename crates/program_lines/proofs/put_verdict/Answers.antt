@@ -7,15 +7,13 @@ use lib.IntN.{pos}
 use Rattle.integers.specs.Absolute.{fits64}
 use Rattle.printing.specs.ContractLaws.{put_as}
 use Rattle.printing.specs.UnsignedLaws.{held_below}
-use Rattle.reading.specs.Verdict.{verdict_excess}
-use Rattle.reading.specs.declared.Verdict.{Verdict}
-use Rattle.reading.specs.declared.Verdict.TheVariants.{Alarm}
+use Rattle.reading.specs.Verdict.{verdict_excess, VerdictOutcome, Alarm}
 use Rattle.program_lines.specs.Lines.{print_verdict}
 use Rattle.program_lines.proofs.LineSteps.{one_below, alarm_put}
 use Rattle.program_lines.proofs.put_verdict.Goals as goal
 
 -- the excess of an Alarm
-small : (verdict : Verdict) (excess : ℕ) → verdict ≡ Alarm excess → verdict_excess verdict < 2 ^ 63 → excess < 2 ^ 63
+small : (verdict : VerdictOutcome) (excess : ℕ) → verdict ≡ Alarm excess → verdict_excess verdict < 2 ^ 63 → excess < 2 ^ 63
 small verdict excess is h = omega (arith, ap verdict_excess is)
 
 pub overflow_cast-excess : goal.overflow_cast-excess

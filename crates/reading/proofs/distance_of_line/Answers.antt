@@ -21,8 +21,7 @@ use Rattle.reading_line.specs.Clauses.{line_alone, LineRead}
 use Rattle.reading_line.specs.declared.Line.{Line}
 use Rattle.reading_line.specs.declared.Line.TheVariants.{Malformed, TagDiffers, OutOfRange, Within}
 use Rattle.reading.specs.Content.{reading_content}
-use Rattle.reading.specs.Clauses.{distance_faulty, distance_sound}
-use Rattle.reading.specs.declared.Distance.TheVariants.{Is}
+use Rattle.reading.specs.Clauses.{distance_faulty, distance_sound, Is}
 use Rattle.reading.proofs.VerdictSteps.{line_content, content_of, content-line, point-read}
 use Rattle.reading.proofs.distance_of_line.Goals as goal
 

@@ -5,7 +5,6 @@ use mathlib.Core.List.{List, map}
 use lib.Dec.{leb}
 use native.Mathlib.Omega.{arith}
 use lib.ListN.{length, get_or, take, drop}
-use Rattle.refusal.specs.declared.Outcome.{Outcome}
 use Rattle.limits.specs.Limits.{row_limit}
 use Rattle.channel.specs.Channel.{channel_types}
 use Rattle.label.specs.RowLabel.{row_label_key, key_used}
@@ -16,6 +15,7 @@ use Rattle.reference_write.specs.Clauses.{fault_by}
 use Rattle.reference_write.specs.LendingLaws.{lending}
 use Rattle.reference_write.proofs.Walk.{heading-within, walk_start, walk_label, walk_places, Turn, turn_room, walk_stops, walk_next, walk_done}
 use Rattle.reference_write.proofs.put_text.Goals as goal
+use Rattle.refusal.specs.Outcome.{Outcome}
 
 -- what a turn learns, from what it calls
 turn_of : (lent : Lent) {keys : List ℕ} {from place i key fault : ℕ} {within repeated : Bool} → i < lent.m

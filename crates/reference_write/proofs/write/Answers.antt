@@ -7,7 +7,6 @@ use mathlib.Core.List.{List}
 use lib.Dec.{eqb}
 use lib.ListN.{length}
 use Rattle.limits.specs.Limits.{row_limit}
-use Rattle.lent.specs.declared.TextWritten.{TextWritten}
 use Rattle.channel.specs.Channel.{channel_types}
 use Rattle.reference_write.specs.Labels.{ends_reach}
 use Rattle.reference_write.specs.Writing.{Lent, lent_table, lent_within, lent_text}
@@ -15,6 +14,7 @@ use Rattle.reference_write.specs.Clauses.{TextPut}
 use Rattle.reference_write.specs.FaultLaws.{lent_within_lem}
 use Rattle.reference_write.proofs.WriteSteps.{outside_written, refused-written, handed-written}
 use Rattle.reference_write.proofs.write.Goals as goal
+use Rattle.lent.specs.Clauses.{TextWritten}
 
 -- the text as it is printed, there being as many ends as rows
 printed : (l : Lent) {out : List ℕ} {r : TextWritten} → lent_within row_limit channel_types l ≡ true
