@@ -27,10 +27,8 @@ fn squared_length(rows: &[i32], n: usize, row: usize) -> u64
 {
     let base = row * n;
     let mut sum: u64 = 0;
-    let mut k = 0;
-    while k < n {
+    for k in 0..n {
         sum += square_of(rows[base + k]);
-        k += 1;
     }
     sum
 }
@@ -49,10 +47,8 @@ fn squared_length_of_centre(scaled_centre: &[i64; CHANNELS], n: usize) -> u64
     ensures { Bounded (channel_limit * centre_limit total * centre_limit total) result (squared_length n (centre_of scaled_centre.now)) }
 {
     let mut sum: u64 = 0;
-    let mut k = 0;
-    while k < n {
+    for k in 0..n {
         sum += square_of_centre(scaled_centre[k]);
-        k += 1;
     }
     sum
 }
@@ -63,10 +59,8 @@ fn weighted_squared_length(rows: &[i32], m: usize, n: usize, weights: &[u32]) ->
     ensures { Bounded (length_limit * total) result (weighted_squared_length m n (coordinate rows.now n) (weight_of weights.now)) }
 {
     let mut sum: u64 = 0;
-    let mut i = 0;
-    while i < m {
+    for i in 0..m {
         sum += (weights[i] as u64) * squared_length(rows, n, i);
-        i += 1;
     }
     sum
 }

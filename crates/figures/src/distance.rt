@@ -26,12 +26,9 @@ pub fn scaled_squared_distance(rows: &[i32], n: usize, row: usize, scaled_centre
     ensures { Bounded (distance_limit total) result (scaled_squared_distance total n (centre_of scaled_centre.now) (coordinate rows.now n row)) }
 {
     let base = row * n;
-    let count = channels(n);
     let mut sum: u64 = 0;
-    let mut k = 0;
-    while k < count {
+    for k in 0..channels(n) {
         sum += scaled_square(rows[base + k], scaled_centre[k]);
-        k += 1;
     }
     sum
 }
@@ -52,12 +49,9 @@ pub fn squared_distance(rows: &[i32], n: usize, i: usize, j: usize) -> u64
 {
     let base = i * n;
     let other = j * n;
-    let count = channels(n);
     let mut sum: u64 = 0;
-    let mut k = 0;
-    while k < count {
+    for k in 0..channels(n) {
         sum += square_of_difference(rows[base + k], rows[other + k]);
-        k += 1;
     }
     sum
 }
