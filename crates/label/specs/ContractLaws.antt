@@ -4,10 +4,13 @@
 --     label-start, label_next         before the first byte, and past one more
 --     label_ends                      the field ends past these bytes: key is its number
 --     label_long, label-stop          it does not, for bytes that are too many, or by a byte that is no label's: it is no label
+--     label_ended                     what is answered for it
 --     field_label, field_no_label     it is a label where its number is not 0, and only there
 --     label-comma, label_whole        a field with a comma in it is no label; one without is its first field
-use Rattle.std.specs.Prelude.{ℕ, ◌+◌, ◌*◌, ◌^◌, ◌≤◌, ◌<◌, ◌≡◌, refl, Bool, true, false, List, leb, length, get_or, take, drop}
-use Rattle.std.proofs.Common.{zero-le, sym, ap, ◌∙◌, arith, le-leb, leb-false, length-take-le, get_or-take}
+use Rattle.std.specs.Prelude.{ℕ, ◌+◌, ◌*◌, ◌^◌, ◌≤◌, ◌<◌, ◌≡◌, refl, Bool, true, false, cond, List, eqb, leb, length, get_or, take, drop}
+use Rattle.std.specs.Prelude.{Option as Answer, None}
+use Rattle.std.proofs.Common.{zero-le, sym, ap, ◌∙◌, arith, eqb-true, le-leb, leb-false, length-take-le, get_or-take}
+use borrow.Author.Tests.{eqb-false}
 use Rattle.std.proofs.lemmas.Bool.{lt-leb}
 use Rattle.std.proofs.Math.Seq.{take-length}
 use Rattle.text.specs.Parts.{comma, part_end}
@@ -18,7 +21,8 @@ use Rattle.limits.specs.Limits.{label_limit}
 use Rattle.label.specs.Label.{is_label}
 use Rattle.label.specs.Key.{key_base, label_digit, key_from, label_key}
 use Rattle.label.specs.LabelLaws.{digit_most, key_long, key_short, key_none, key_stop, key_further, key_done, digit_below, key_label, label-free}
-use Rattle.label.specs.Clauses.{FirstFieldRead}
+use Rattle.number.specs.Clauses.{above_zero}
+use Rattle.label.specs.Clauses.{FirstFieldRead, label_found}
 
 abbrev pub first_field : List ℕ → List ℕ
 first_field line = take (part_end comma line 0) line
@@ -74,6 +78,19 @@ module _ (line : List ℕ) (i key : ℕ) (s : Labelling line i key) where
         let within : i < part_end comma line 0 = omega (arith, first.is, p.low) in
         of_field (sym (key_none (first_field line)
         (s.is ∙ key_stop (first_field line) i key d (omega (arith, field_length)) (digit_here d h e within) none)))
+
+    -- what is answered for it
+    pub label_ended : (r : Answer ℕ) → i ≤ label_limit → ((f ≡ i → ⊥) → FirstFieldRead label_key line 0 f)
+        → r ≡ cond (eqb f i) (above_zero key) None → FirstFieldRead label_found line r f
+    label_ended r short other is = go (eqb f i) refl
+      where
+        go : (t : Bool) → eqb f i ≡ t → FirstFieldRead label_found line r f
+        go true e =
+            let read = label_ends (eqb-true f i e) short in
+            record { part = read.part; is = is ∙ ap (λ t. cond t (above_zero key) None) e ∙ ap above_zero read.is }
+        go false e =
+            let read = other (eqb-false f i e) in
+            record { part = read.part; is = is ∙ ap (λ t. cond t (above_zero key) None) e ∙ ap above_zero read.is }
 
 -- ---- whether it is one
 

@@ -4,6 +4,7 @@
 --     grown n b           n with one more digit, the byte b
 --     magnitude_read o     what the code answers for a number without a sign
 --     plain_read o         what the code answers for a plain number
+--     above_zero n         the number, 0 standing for none
 --     unsigned_field l     what it answers for the field l as a number without a sign
 --     plain_field l        what it answers for the field l as a plain number
 --     count_read most o    what it answers for a plain number from 1 to the most
@@ -39,6 +40,10 @@ abbrev pub plain_read : Option ℤ → Answer Number
 plain_read none = None
 plain_read (some (pos n)) = Some (number_of false (saturated n))
 plain_read (some (negsuc k)) = Some (number_of true (saturated (suc k)))
+
+abbrev pub above_zero : ℕ → Answer ℕ
+above_zero zero = None
+above_zero (suc k) = Some (suc k)
 
 abbrev pub unsigned_field : List ℕ → Answer ℕ
 unsigned_field l = magnitude_read (magnitude_of l)

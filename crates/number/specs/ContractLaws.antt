@@ -1,5 +1,6 @@
 -- Laws of the number that the code keeps.
 --     saturated_small                            a number below 10^19 is kept as it is
+--     above_zero_some                            a number that is not 0 stands for itself
 --     saturated-grown                            one digit more, after what is kept or after the number itself
 --     digits_saturated                           what the digits make after a number depends on what is kept of it
 --     digits_end, digits_more                    the digits from an index on: none, and one more
@@ -24,7 +25,7 @@ use Rattle.text.specs.PartsLaws.{part_at, free-end}
 use Rattle.text.specs.FieldsLaws.{field_length, field_first, leading_on, leading_done, leading_end, leading_whole, leading_stopped}
 use Rattle.number.specs.Number.{hyphen, digit_zero, is_digit, digits_from, magnitude_of, negated, plain}
 use Rattle.number.specs.NumberLaws.{digit_step, digit_none, magnitude_empty, magnitude_zero, magnitude_one, magnitude_first, plain-signed, plain_unsigned, print-plain, print-free}
-use Rattle.number.specs.Clauses.{magnitude_limit, saturated, grown, magnitude_read, plain_read, unsigned_field, plain_field, with_sign, number_of, LeadingDigits}
+use Rattle.number.specs.Clauses.{magnitude_limit, saturated, grown, magnitude_read, plain_read, above_zero, unsigned_field, plain_field, with_sign, number_of, LeadingDigits}
 use Rattle.number.specs.declared.Number.{Number}
 
 pub saturated_small : (n : ℕ) → n < magnitude_limit → saturated n ≡ n
@@ -32,6 +33,10 @@ saturated_small n h = omega arith
 
 pub saturated-grown : (n d : ℕ) → saturated (saturated n * 10 + d) ≡ saturated (n * 10 + d)
 saturated-grown n d = omega arith
+
+pub above_zero_some : (n : ℕ) → (n ≡ 0 → ⊥) → above_zero n ≡ Some n
+above_zero_some zero h = absurd (h refl)
+above_zero_some (suc k) h = refl
 
 -- ---- digits
 
