@@ -13,11 +13,9 @@ fn main(rt: HostRuntime) {
         return;
     }
     let mut reference = [0u8; TEXT_READ];
-    let reference_read = read_standard_input(&rt, &NAME, &mut reference);
-    if !reference_read.whole {
+    let Some(reference_length) = read_standard_input(&rt, &NAME, &mut reference) else {
         return;
-    }
-    let reference_length = reference_read.length;
+    };
     let mut output = [0u8; OUTPUT_MOST];
     let answer = program_draw::draw(&reference[..reference_length], &mut output);
     let length = answer.length;
