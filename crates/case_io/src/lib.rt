@@ -2,9 +2,10 @@
 // past the input reads as 0.
 #![tactic(auto)]
 
-ghost use Rattle.std.specs.Prelude.{◌≡◌, ◌<◌, nat_abs};
+ghost use Rattle.std.specs.Prelude.{◌≡◌, ◌<◌, ◌≤◌, ℕ, nat_abs, length, map};
 ghost use Rattle.case_io.specs.Numbers.{byte_at, four_bytes};
-ghost use Rattle.case_io.specs.Clauses.{TwoBytes, Least, Raised};
+ghost use Rattle.case_io.specs.Clauses.{TwoBytes, Least, Number, Raised};
+ghost use Rattle.case_io.specs.Digest.{digest_of};
 ghost use Rattle.io.specs.Counts.{IsPrefixLen};
 
 use std::io::{Print, Read, Stdout};
@@ -31,6 +32,21 @@ pub fn four_bytes(text: &[u8], at: usize) -> u32
     two_bytes(text, at) + 65536 * two_bytes(text, at + 2)
 }
 
+// The sum of place times what `number` tells of the value there, the first place being 1.
+pub fn digest<T: Copy, F: Fn(T) -> u64>(values: &[T], number: F) -> u64
+    ghost worth: { T → ℕ }
+    requires few { length values.now ≤ 2048 }
+    requires callable { F.IsAlwaysCallable number }
+    requires numbers { (x : T) (r : ℕ) → F.post number x r → Number (worth x) r }
+    ensures { result ≡ digest_of (map worth values.now) }
+{
+    let mut sum: u64 = 0;
+    for (k, value) in values.iter().enumerate() {
+        sum += (k as u64 + 1) * number(*value);
+    }
+    sum
+}
+
 pub fn least(a: usize, b: usize) -> usize
     ensures { Least a b result }
 {
@@ -42,13 +58,11 @@ pub fn raised(x: i64, most: i64) -> u64
     requires { nat_abs most < 2147483648 }
     ensures { Raised most x result }
 {
-    if x < -most {
-        return 0;
+    if -most <= x && x <= most {
+        (x + most) as u64
+    } else {
+        0
     }
-    if most < x {
-        return 0;
-    }
-    (x + most) as u64
 }
 
 // Reads until the slice is full, the input ends or a read fails, and answers how many bytes.
