@@ -50,7 +50,7 @@ pub fn digest<T: Copy, F: Fn(T) -> u64>(values: &[T], number: F) -> u64
 pub fn least(a: usize, b: usize) -> usize
     ensures { Least a b result }
 {
-    if a < b { a } else { b }
+    a.min(b)
 }
 
 // A number within `most` of 0 with `most` added; 0 for any other, which no call hands out.
