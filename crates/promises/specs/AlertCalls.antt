@@ -96,22 +96,20 @@ module _ {M : Type 1} {𝓤 : Ura M} (𝓛 : Logic 𝓤) (𝓜 : Model 𝓤 𝓛
         cundarivo_program_alerts = exported-program-proof.met 𝓤 𝓛 𝓜 𝓡;
       }
 
-  -- place j of ks and cs is setting j; at exit `standing`, `raised` and `passed` are what the definitions give of its k and c (`Tallied`),
+  -- place j of ks and cs is setting j; at exit `tally` is what the definitions give of its k and c (`Tallied`),
   -- and the result counts the verdicts of each kind
   pub record AlertWalk : Type 1 where
-    -- walk(scalars, codes, scaled_centre, readings, ks, cs, standing, raised, passed)
+    -- walk(scalars, codes, scaled_centre, readings, ks, cs, tally)
     pub walks : AnswersWhere 𝓛 𝓜 𝓡 walk.ended walk-code.code walk-code.name
         (λ κs a.
         let readings = a.1.1.1.0.now in let ks = a.1.1.1.1.0.now in let cs = a.1.1.1.1.1.0.now in
-        let standing = a.1.1.1.1.1.1.0.now in let raised = a.1.1.1.1.1.1.1.0.now in
-        let passed = a.1.1.1.1.1.1.1.1.0.now in
-        ⌜ WalkAsked readings ks cs standing raised passed ⌝)
+        let tally = a.1.1.1.1.1.1.0.now in
+        ⌜ WalkAsked readings ks cs tally.standing tally.raised tally.passed ⌝)
         (λ κs a r e.
         let figures = lent_figures a.0 a.1.0.now a.1.1.0.now in let readings = a.1.1.1.0.now in
         let ks = a.1.1.1.1.0.now in let cs = a.1.1.1.1.1.0.now in
-        let standing-after = e.1.1.1.1.1.1.0.now in let raised_after = e.1.1.1.1.1.1.1.0.now in
-        let passed_after = e.1.1.1.1.1.1.1.1.0.now in
-        ⌜ Walked (verdicts_on total channel_types figures readings) ks cs standing-after raised_after passed_after r ⌝)
+        let after = e.1.1.1.1.1.1.0.now in
+        ⌜ Walked (verdicts_on total channel_types figures readings) ks cs after.standing after.raised after.passed r ⌝)
 
   pub alert_walk : AlertWalk
   alert_walk = record { walks = walk-proof.met 𝓤 𝓛 𝓜 𝓡 }

@@ -16,7 +16,7 @@ use Rattle.program_panel.specs.Clauses.{panel_room}
 use Rattle.program_panel.specs.Output.{panel_output}
 use Rattle.program_verdicts.specs.Clauses.{readings_room, verdicts_room}
 use Rattle.program_judge.specs.Output.{judge_output}
-use Rattle.program_io.specs.Clauses.{Read}
+use Rattle.program_io.specs.Clauses.{Read, text_of_option}
 use Rattle.promises.specs.Answering.{Answers, AnswersWhere}
 use seplogic.Ra.Ura.{Ura}
 use contract.Notation
@@ -99,12 +99,12 @@ module _ {M : Type 1} {𝓤 : Ura M} (𝓛 : Logic 𝓤) (𝓜 : Model 𝓤 𝓛
     pub reads_file : AnswersWhere 𝓛 𝓜 𝓡 read-file.ended read-file-code.code read-file-code.name (λ κs a. ⌜ text_limit < length a.1.1.1.0.now ⌝)
         (λ κs a r e.
         let text-after = e.1.1.1.0.now in
-        ⌜ Read r text-after ⌝)
+        ⌜ Read (text_of_option r) text-after ⌝)
     -- read_standard_input(rt, program, text)
     pub reads_standard_input : AnswersWhere 𝓛 𝓜 𝓡 read-input.ended read-input-code.code read-input-code.name (λ κs a. ⌜ text_limit < length a.1.1.0.now ⌝)
         (λ κs a r e.
         let text-after = e.1.1.0.now in
-        ⌜ Read r text-after ⌝)
+        ⌜ Read (text_of_option r) text-after ⌝)
 
   pub program_readers : ProgramReaders
   program_readers = record { reads_file = read-file-proof.met 𝓤 𝓛 𝓜 𝓡; reads_standard_input = read-input-proof.met 𝓤 𝓛 𝓜 𝓡 }
