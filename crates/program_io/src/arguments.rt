@@ -2,7 +2,8 @@
 ghost use Rattle.std.specs.Prelude.{◌≡◌, ◌^◌, ◌<◌};
 ghost use Rattle.program_io.specs.Arguments.{arguments_given, given_of};
 
-use report::{tell_excess, tell_missing};
+use message::Message;
+use report::tell;
 use std::cmp::Ordering;
 use std::env::FillError;
 use std::rt::Env;
@@ -44,11 +45,13 @@ fn tell_argument_excess(rt: &HostRuntime, program: &[u8], index: usize)
     requires { index < 2 ^ 63 }
 {
     let mut name = [0u8; NAME_READ];
-    match rt.arg(index, &mut name) {
-        Ok(length) => tell_excess(&rt.stderr(), program, index, &name[..length]),
-        Err(FillError::TooLong) => tell_excess(&rt.stderr(), program, index, &name),
-        Err(FillError::NotPresent) => tell_excess(&rt.stderr(), program, index, &[]),
-    }
+    let told = match rt.arg(index, &mut name) {
+        Ok(length) => &name[..length],
+        Err(FillError::TooLong) => &name[..],
+        Err(FillError::NotPresent) => &[],
+    };
+    let message = Message::ExcessArgument(index, told);
+    tell(&rt.stderr(), program, message);
 }
 
 // Whether the program was started with exactly so many arguments; else tells the first that is missing or one too many.
@@ -56,7 +59,7 @@ pub fn arguments(rt: &HostRuntime, program: &[u8], count: u32) -> bool {
     match compared(argument_count(rt), count) {
         Ok(()) => true,
         Err(Mismatch::Missing(index)) => {
-            tell_missing(&rt.stderr(), program, index);
+            tell(&rt.stderr(), program, Message::MissingArgument(index));
             false
         }
         Err(Mismatch::Excess(index)) => {

@@ -6,7 +6,8 @@ ghost use Rattle.program_io.specs.Clauses.{text_of_option, text_of_result, Read}
 use crate::arguments::NAME_READ;
 use crate::descriptor::read_descriptor;
 use limits::TEXT_MOST;
-use report::{fail_argument, fail_file, fail_input, fail_output, tell_missing};
+use message::Message;
+use report::{fail, tell};
 use std::env::FillError;
 use std::fs::File;
 use std::io;
@@ -62,9 +63,9 @@ fn tell_argument_unread(
     match error {
         FillError::TooLong => {
             let error = Error::from_raw_os_error(ENAMETOOLONG);
-            fail_argument(&rt.stderr(), program, index, name, error)
+            fail(&rt.stderr(), program, Message::Argument(index, name), error)
         }
-        FillError::NotPresent => tell_missing(&rt.stderr(), program, index),
+        FillError::NotPresent => tell(&rt.stderr(), program, Message::MissingArgument(index)),
     }
 }
 
@@ -81,7 +82,7 @@ pub fn read_file(rt: &HostRuntime, program: &[u8], index: u32, text: &mut [u8]) 
         tell_argument_unread(rt, program, place, &name, error)
     })?;
     read_or_told(read_named(rt, &name[..length], text), |error| {
-        fail_file(&rt.stderr(), program, &name[..length], error)
+        fail(&rt.stderr(), program, Message::File(&name[..length]), error)
     })
 }
 
@@ -91,13 +92,13 @@ pub fn read_standard_input(rt: &HostRuntime, program: &[u8], text: &mut [u8]) ->
     ensures { Read (text_of_option result) text.new }
 {
     read_or_told(read_descriptor(&mut rt.stdin(), text), |error| {
-        fail_input(&rt.stderr(), program, error)
+        fail(&rt.stderr(), program, Message::StandardInput, error)
     })
 }
 
 // Writes to standard output. A write that fails is told.
 pub fn write_output(rt: &HostRuntime, program: &[u8], output: &[u8]) {
     if let Err(error) = rt.write_all(output) {
-        fail_output(&rt.stderr(), program, error);
+        fail(&rt.stderr(), program, Message::StandardOutput, error);
     }
 }
