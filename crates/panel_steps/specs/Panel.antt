@@ -5,7 +5,7 @@
 --     refused_panel number       the refusal with this number, no line at fault; every place is 0
 --     panel_of D f               the panel: the nearest step of each of the n channels, places past n 0
 --     panel_shown D types f      what the panel shows
-use Rattle.std.specs.Prelude.{ℕ, suc, ◌+◌, ◌*◌, ◌/◌, ℤ, pos, negsuc, neg_ℤ, replicate, Result, Ok, Err}
+use Rattle.std.specs.Prelude.{ℕ, suc, ◌+◌, ◌*◌, ◌/◌, List, ℤ, pos, negsuc, neg_ℤ, replicate, Result, Ok, Err}
 use Rattle.refusal.specs.Number.{outside_limits}
 use Rattle.refusal.specs.Outcome.{refused, require, Accepted, refusal_outcome, Outcome}
 use Rattle.limits.specs.Limits.{channel_limit}
