@@ -48,9 +48,7 @@ fn put_magnitude(out: &mut [u8], at: usize, magnitude: u64) -> usize
 {
     let end = at + width(magnitude);
     let mut rest = magnitude;
-    let mut place = end;
-    while at < place {
-        place -= 1;
+    for place in (at..end).rev() {
         out[place] = ZERO + (rest % 10) as u8;
         rest /= 10;
     }

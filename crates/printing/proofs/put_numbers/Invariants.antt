@@ -1,5 +1,5 @@
--- `printing::put_numbers` meets its contract. The loop's invariant: the word and the first i numbers are printed, each number in
--- its room. The measure is how many numbers are left.
+-- `printing::put_numbers` meets its contract. The loop's invariant: the word and the numbers so far are printed, each number in
+-- its room.
 use Prim.Native.Nat.{◌+◌, ◌*◌, ◌≤◌}
 use mathlib.Core.List.{[]}
 use lib.ListN.{take}
