@@ -49,11 +49,8 @@ pub fn read_heading(line: &[u8], word: &[u8]) -> Option<Heading>
     ensures { result ≡ heading_read (heading_of word.now channel_limit channel_types line.now) }
 {
     let word_end = field_end(line, 0);
-    if !same_bytes(&line[..word_end], word) {
-        return None;
-    }
     let at = word_end + 1;
-    if line.len() < at {
+    if !same_bytes(&line[..word_end], word) || line.len() < at {
         return None;
     }
     let count_end = field_end(line, at);

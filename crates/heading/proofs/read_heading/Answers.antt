@@ -13,6 +13,7 @@ use Rattle.channel.specs.Channel.{channel_types}
 use Rattle.heading.specs.Clauses.{heading_read, tags_read}
 use Rattle.heading.proofs.HeadingSteps.{no_count, some_count, count_most, heading_other_word, heading_short, heading_no_count, heading_tags}
 use Rattle.heading.proofs.read_heading.Goals as goal
+use Rattle.heading.proofs.read_heading.Goals.{then-not-same_bytes-via-then-not-same_bytes, then-not-same_bytes-via-else-not-same_bytes+then-line-at}
 
 first : {line : List ℕ} {end : ℕ} → PartEnd comma line 0 end → cut comma line ≡ take end line ∷ parts_from comma line (end + 1)
 first = first_part_from comma _ _
@@ -27,15 +28,16 @@ slice_bounds-same_bytes-end c = sym (length-take-le _ _ c.field_end-word_end.ens
 
 pub returns-then-not-same_bytes : goal.returns-then-not-same_bytes
 returns-then-not-same_bytes c =
-    sym (ap heading_read (heading_other_word c.args.word.now channel_limit channel_types _ (first c.field_end-word_end.ensures)
-    (sym c.same_bytes.ensures ∙ c.if-not-same_bytes.true)))
-
-pub returns-then-line-at : goal.returns-then-line-at
-returns-then-line-at c =
     let line = c.args.line.now in
     let end = c.field_end-word_end.result in
-    sym (ap heading_read (heading_short c.args.word.now channel_limit channel_types _
-    (first c.field_end-word_end.ensures ∙ ap (λ l. take end line ∷ l) (parts_none comma line (end + 1) c.if-line-at.true))))
+    elim c.then-not-same_bytes.branch [
+      | then-not-same_bytes-via-then-not-same_bytes w ↦
+          sym (ap heading_read (heading_other_word c.args.word.now channel_limit channel_types _ (first c.field_end-word_end.ensures)
+          (sym c.same_bytes.ensures ∙ w.if-not-same_bytes.true)))
+      | then-not-same_bytes-via-else-not-same_bytes+then-line-at w ↦
+          sym (ap heading_read (heading_short c.args.word.now channel_limit channel_types _
+          (first c.field_end-word_end.ensures ∙ ap (λ l. take end line ∷ l) (parts_none comma line (end + 1) w.if-line-at.true))))
+    ]
 
 pub returns-in_err-n : goal.returns-in_err-n
 returns-in_err-n c =
