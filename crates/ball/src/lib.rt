@@ -24,16 +24,24 @@ pub struct Ball {
     pub settled: bool,
 }
 
-// Every figure 0, beside a refusal.
+// Every figure 0, as beside a refusal. It is not derived, since edits that must be refused change its figures.
+impl Default for Ball {
+    ghost is_default = { λ b. b ≡ empty_ball };
+
+    fn default() -> Ball {
+        Ball {
+            scaled_centre: [0i64; CHANNELS],
+            scaled_squared_radius: 0,
+            scaled_lower_bound: 0,
+            settled: false,
+        }
+    }
+}
+
 pub fn empty_ball() -> Ball
     ensures { result ≡ empty_ball }
 {
-    Ball {
-        scaled_centre: [0i64; CHANNELS],
-        scaled_squared_radius: 0,
-        scaled_lower_bound: 0,
-        settled: false,
-    }
+    Ball::default()
 }
 
 // Whether the weights that have this pair of rows are Settled.

@@ -4,7 +4,7 @@
 
 ghost use Rattle.std.specs.Prelude.{◌+◌, ◌≤◌, ◌<◌, ◌≡◌, length, take};
 
-use ball::{Ball, empty_ball};
+use ball::Ball;
 use case_io::{byte_at, digest, four_bytes, least, print_number, raised, read_full, two_bytes};
 use drawing::Drawing;
 use limits::{CENTRE_MOST, CHANNELS, PLACES, ROWS};
@@ -86,7 +86,7 @@ fn print_line(
 
 // The line of a case that is refused: every figure is 0.
 fn print_refusal(stdout: &Stdout, refusal: Refusal) {
-    print_line(stdout, refusal.number(), refusal.line, empty_ball(), 0, 0);
+    print_line(stdout, refusal.number(), refusal.line, Ball::default(), 0, 0);
 }
 
 fn print_drawing(stdout: &Stdout, answer: Result<Drawing, Refusal>) {
