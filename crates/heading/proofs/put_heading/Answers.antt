@@ -59,7 +59,7 @@ pub loop-code-preserved : goal.loop-code-preserved
 loop-code-preserved c =
     let all = length-take-le c.args.n c.args.codes.now (omega arith) in
     let i = c.loop-code.code-index in
-    let printed = rw (get_or-take c.args.n c.args.codes.now i 0 (omega arith)) at c.put_tag-from.ensures in
+    let printed = put_as c.put_tag-from.ensures (ap (tag_of channel_types) (get_or-take c.args.n c.args.codes.now i 0 (omega arith))) refl in
     let more = tag-more c.args.codes.now i (omega arith) (omega arith) c.loop-code.invariant.1 printed in
     (omega arith, more.1)
 
