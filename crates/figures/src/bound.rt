@@ -1,24 +1,15 @@
 // L of a set of weights.
-ghost use Rattle.std.specs.Prelude.{◌≡◌, ◌*◌, ◌≤◌, nat_abs};
-ghost use Rattle.integers.specs.Sum.{square};
+ghost use Rattle.std.specs.Prelude.{◌≡◌, ◌*◌, ◌≤◌};
 ghost use Rattle.geometry.specs.Figures.{squared_length, weighted_squared_length, scaled_lower_bound};
 ghost use Rattle.geometry.specs.Move.{weight_of};
 ghost use Rattle.geometry.specs.Table.{coordinate};
-ghost use Rattle.limits.specs.Limits.{total, channel_limit, coordinate_limit, centre_limit, length_limit};
+ghost use Rattle.limits.specs.Limits.{total, channel_limit, centre_limit, length_limit};
 ghost use Rattle.geometry.specs.Places.{centre_of};
 ghost use Rattle.integers.specs.Reading.{Bounded};
 ghost use Rattle.geometry.specs.Clauses.{CentreWithin, RowAt, Table, WeightsWithin, WeightsOf, IsCentre};
 
+use crate::distance::square;
 use limits::{CHANNELS, TOTAL};
-
-// The square of a coordinate.
-fn square_of(a: i32) -> u64
-    requires { nat_abs a ≤ coordinate_limit }
-    ensures { Bounded (coordinate_limit * coordinate_limit) result (square a) }
-{
-    let d = a as i64;
-    (d * d) as u64
-}
 
 // The squared length of a row.
 fn squared_length(rows: &[i32], n: usize, row: usize) -> u64
@@ -28,17 +19,9 @@ fn squared_length(rows: &[i32], n: usize, row: usize) -> u64
     let base = row * n;
     let mut sum: u64 = 0;
     for k in 0..n {
-        sum += square_of(rows[base + k]);
+        sum += square(rows[base + k] as i64);
     }
     sum
-}
-
-// The square of one coordinate of X.
-fn square_of_centre(scaled_centre: i64) -> u64
-    requires { nat_abs scaled_centre ≤ centre_limit total }
-    ensures { Bounded (centre_limit total * centre_limit total) result (square scaled_centre) }
-{
-    (scaled_centre * scaled_centre) as u64
 }
 
 // The squared length of X.
@@ -48,7 +31,7 @@ fn squared_length_of_centre(scaled_centre: &[i64; CHANNELS], n: usize) -> u64
 {
     let mut sum: u64 = 0;
     for k in 0..n {
-        sum += square_of_centre(scaled_centre[k]);
+        sum += square(scaled_centre[k]);
     }
     sum
 }

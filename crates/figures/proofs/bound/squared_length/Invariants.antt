@@ -7,5 +7,9 @@ use Rattle.limits.specs.Limits.{coordinate_limit}
 use Rattle.integers.specs.Partial.{Partial}
 use Rattle.figures.proofs.bound.squared_length.Given as goal
 
+-- the bound of a coordinate
+abbrev pub ghost-square : goal.ghost-square
+ghost-square a = coordinate_limit
+
 abbrev pub invariant-loop-k : goal.invariant-loop-k
 invariant-loop-k l = Partial (coordinate_limit * coordinate_limit) l.k (λ j. square (coordinate l.rows l.n l.row j)) l.n l.k l.sum
