@@ -14,7 +14,7 @@ use std::io::{Print, Read, Stdout};
 pub fn byte_at(text: &[u8], at: usize) -> u8
     ensures { result ≡ byte_at text.now at }
 {
-    if at < text.len() { text[at] } else { 0 }
+    text.get(at).copied().unwrap_or(0)
 }
 
 // A number of two bytes, the lowest first.
