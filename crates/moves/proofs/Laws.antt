@@ -58,9 +58,9 @@ module _ {D : ℕ} (most : D ≤ total) {rows : List ℤ} {m n : ℕ} {ws scores
         near_is = found-near;
         score_is = far_score;
         difference_is = differs;
-        separation_is = b.separation.is ∙ ap₂ (λ i j. squared_distance n (coordinate rows n i) (coordinate rows n j)) found-far found-near;
+        separation_is = b.separation_is ∙ ap₂ (λ i j. squared_distance n (coordinate rows n i) (coordinate rows n j)) found-far found-near;
         far_within = f.within;
         near_within = k.within;
         difference_most = omega (arith, differs, difference-within t g, most);
-        separation_most = b.separation.most;
+        separation_most = b.separation_most;
       }

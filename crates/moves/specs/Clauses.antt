@@ -12,7 +12,6 @@
 -- The equations take the total D; the bounds are those of the largest, `total`, which the machine's numbers hold.
 use Rattle.std.specs.Prelude.{ℕ, zero, suc, ◌+◌, ◌^◌, ◌≤◌, ◌<◌, ◌≡◌, Bool, true, ◌&&◌, List, ltb, ℤ, length}
 use Rattle.geometry.specs.Move.{far_row, near_row, difference, separation, weight_of}
-use Rattle.integers.specs.Reading.{Bounded}
 use Rattle.geometry.specs.Figures.{squared_distance}
 use Rattle.geometry.specs.Scores.{weighted_squared_distance}
 use Rattle.geometry.specs.SelectLaws.{FarSoFar, NearSoFar}
@@ -51,7 +50,8 @@ pub record FoundRow (scores : List ℕ) (m row : ℕ) (r : Selected) : Type 0 wh
 -- two rows that were found, with the score of the first, a difference and d²
 pub record PairWith (rows : List ℤ) (n : ℕ) (far near : Selected) (gap : ℕ) (r : Pair) : Type 0 where
   pub is : r ≡ record { far = far.row; near = near.row; score = far.score; difference = gap; separation = r.separation }
-  pub separation : Bounded separation_limit r.separation (squared_distance n (coordinate rows n far.row) (coordinate rows n near.row))
+  pub separation_is : r.separation ≡ squared_distance n (coordinate rows n far.row) (coordinate rows n near.row)
+  pub separation_most : r.separation ≤ separation_limit
 
 -- the far and the near row with the far row's score, g and d²
 pub record Paired (D : ℕ) (rows : List ℤ) (m n : ℕ) (ws : List ℕ) (score : ℕ → ℕ) (r : Pair) : Type 0 where
