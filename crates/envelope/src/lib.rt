@@ -10,7 +10,7 @@ ghost use Rattle.channel.specs.Channel.{channel_types};
 ghost use Rattle.envelope.specs.Figures.{figures_within, figures_known, figures_of, empty_figures, empty_envelope};
 ghost use Rattle.envelope.specs.Clauses.{places_lent, scalars_of, lent_figures};
 
-use ball::{Ball, empty_ball};
+use ball::Ball;
 use channel::Code;
 use limits::{BUDGET_MOST, CENTRE_MOST, CHANNELS, DISTANCE_MOST, ROWS};
 
@@ -74,7 +74,7 @@ impl Default for Figures {
     ghost is_default = { λ f. f ≡ empty_figures };
 
     fn default() -> Figures {
-        Figures::new(0, [0; CHANNELS], empty_ball(), 0)
+        Figures::new(0, [0; CHANNELS], Ball::default(), 0)
     }
 }
 
@@ -137,8 +137,9 @@ pub fn figures_known_lent(scalars: Scalars, codes: &[Code], scaled_centre: &[i64
 pub fn figures_known(figures: Figures) -> bool
     ensures { result ≡ figures_known total channel_types figures }
 {
-    let codes = figures.codes;
-    let ball = figures.ball;
-    let scaled_centre = ball.scaled_centre;
-    figures_known_lent(figures.scalars(), &codes, &scaled_centre)
+    figures_known_lent(
+        figures.scalars(),
+        &figures.codes,
+        &figures.ball.scaled_centre,
+    )
 }
