@@ -16,6 +16,10 @@ error_nonzero : {A : Type 0} (r : Result A Refusal) → IsErr r → number_of (o
 error_nonzero (Err refusal) h z = kind_nonzero refusal.kind z
 error_nonzero (Ok x) h z = cc
 
+-- it stands first, so that an answer that is not the defined one is refused by it
+pub returns-clause-answer : goal.returns-clause-answer
+returns-clause-answer c = search rules
+
 pub returns-in_err-ball-clause-centre_filled : goal.returns-in_err-ball-clause-centre_filled
 returns-in_err-ball-clause-centre_filled c =
     let args = c.args in
