@@ -81,15 +81,18 @@ pub fn farthest_row(scores: &[u64], m: usize) -> Selected
     farther(scores, at, m, held)
 }
 
-// The near row of the rows before `end`, if one of them has weight, where that of the rows before `from` is held.
+// The near row of the rows before `end`, if one of them has weight, where that of the rows before `from` is held. A score is
+// read past the test of the row's weight, since a compiler that may read it before takes both for every row.
 fn nearer(scores: &[u64], weights: &[u32], from: usize, end: usize, mut held: Selected) -> Selected
     requires { NearHeld scores.now weights.now end from held × (ScoresWithin end scores.now × (end ≤ length weights.now)) }
     ensures { NearHeld scores.now weights.now end end result }
 {
     for row in from..end {
-        let score = scores[row];
-        if 0 < weights[row] && score < held.score {
-            held = Selected { row, score };
+        if 0 < weights[row] {
+            let score = scores[row];
+            if score < held.score {
+                held = Selected { row, score };
+            }
         }
     }
     held

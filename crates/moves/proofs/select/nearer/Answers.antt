@@ -4,7 +4,7 @@ use Rattle.geometry.specs.SelectLaws.{near_light, near_replaced, near_kept, near
 use Rattle.scores.specs.Clauses.{score_of}
 use Rattle.moves.specs.Clauses.{no_score, NearHeld}
 use Rattle.moves.proofs.select.nearer.Goals as goal
-use Rattle.moves.proofs.select.nearer.Goals.{then-weights-row-gt0+then-score-held, else-weights-row-gt0, else-weights-row-gt0-via-then-weights-row-gt0+else-score-held, else-weights-row-gt0-via-else-weights-row-gt0}
+use Rattle.moves.proofs.select.nearer.Goals.{then-weights-row-gt0+then-score-held, then-weights-row-gt0+else-score-held, else-weights-row-gt0}
 
 pub loop-row-preserved : goal.loop-row-preserved
 loop-row-preserved c =
@@ -15,14 +15,11 @@ loop-row-preserved c =
     elim c.if-weights-row-gt0.branch [
       | then-weights-row-gt0+then-score-held w ↦
           subst Held (sym w.held-is) (near_replaced f l refl w.if-weights-row-gt0.true (lt-ltb _ _ w.if-score-held.true) refl refl)
-      | else-weights-row-gt0 w ↦
+      | then-weights-row-gt0+else-score-held w ↦
           subst Held (sym w.held-is)
-          (elim w.else-weights-row-gt0.branch [
-            | else-weights-row-gt0-via-then-weights-row-gt0+else-score-held v ↦
-                near_kept f l refl v.if-weights-row-gt0.true (lt-ltb (score_of c.args.scores.now row) no_score (omega (arith, c.requires.1.0.most row l)))
-                (le-ltb _ _ v.if-score-held.false) refl refl
-            | else-weights-row-gt0-via-else-weights-row-gt0 v ↦ near_light f l v.if-weights-row-gt0.false refl refl
-          ])
+          (near_kept f l refl w.if-weights-row-gt0.true (lt-ltb (score_of c.args.scores.now row) no_score (omega (arith, c.requires.1.0.most row l)))
+          (le-ltb _ _ w.if-score-held.false) refl refl)
+      | else-weights-row-gt0 w ↦ subst Held (sym w.held-is) (near_light f l w.if-weights-row-gt0.false refl refl)
     ]
 
 pub returns : goal.returns
