@@ -1,10 +1,9 @@
 // Document 01, "Channel types": constant tables of code, low and high, and the tags. A type is found by its tag, compared as bytes; its
-// range and its tag are found by its code. Code 0 stands for no type. Whoever keeps, compares or copies codes does it by `Code` and the
+// range and its tag are found by its code. Code 0 stands for no type. Whoever keeps or compares codes does it by `Code` and the
 // functions here. A place of a table is named in each arm of a match: of a table with a computed index all places are written to the stack.
 #![tactic(auto)]
 
 ghost use Rattle.std.specs.Prelude.{◌≡◌, ◌≤◌, ◌<◌, length, get_or, take};
-ghost use Rattle.lent.specs.Filled.{filled};
 ghost use Rattle.text.specs.Parts.{same};
 ghost use Rattle.text.specs.Clauses.{FieldRead};
 ghost use Rattle.channel.specs.Channel.{channel_types, code_of, tag_of, known, codes_known, house_types, house_count, no_type};
@@ -158,12 +157,4 @@ pub fn same_codes(a: &[Code], b: &[Code]) -> bool
     ensures { result ≡ same a.now b.now }
 {
     text::parts::same_bytes(a, b)
-}
-
-// Copies the first `count` codes of the source to those of the lent slice.
-pub fn fill_codes(lent: &mut [Code], source: &[Code], count: usize)
-    requires { (count ≤ length lent.old) × (count ≤ length source.now) }
-    ensures { lent.new ≡ filled 0 count source.now lent.old }
-{
-    lent[..count].copy_from_slice(&source[..count]);
 }
