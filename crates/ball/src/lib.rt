@@ -38,12 +38,6 @@ impl Default for Ball {
     }
 }
 
-pub fn empty_ball() -> Ball
-    ensures { result ≡ empty_ball }
-{
-    Ball::default()
-}
-
 // Whether the weights that have this pair of rows are Settled.
 fn is_settled(pair: Pair) -> bool
     ensures { result ≡ is_settled pair.difference pair.separation }
