@@ -2,16 +2,20 @@
 --     parsed_table     what is read of the text
 --     parsed_start     the labels of an accepted text stand where its rows start
 --     plain_put        where its labels are gathered, and what it lends is written, that is what plain prints
+--     plain_written    so it is always written
+--     printed_over     what is printed over a slice as it was
 use Prim.Native.Nat.{ℕ, ◌*◌, ◌≤◌, ◌<◌}
-use mathlib.Core.Path.{◌≡◌, sym, ap, ap₂, ◌∙◌}
+use mathlib.Core.Path.{◌≡◌, refl, sym, ap, ap₂, subst, ◌∙◌}
 use mathlib.Core.List.{List}
 use native.Mathlib.Omega.{arith}
 use lib.IntN.{ℤ}
 use lib.ListN.{length, get_or, take, take-append-drop}
-use Rattle.refusal.specs.Outcome.{number_of}
+use Rattle.refusal.specs.Outcome.{number_of, outcome_of, refusal_outcome, Accepted}
+use Rattle.refusal.specs.declared.Refusal.{Refusal}
+use Rattle.std.specs.Prelude.{Result, Ok, Err}
 use Rattle.limits.specs.Limits.{row_limit, place_limit}
 use Rattle.lent.specs.Filled.{filled}
-use Rattle.lent.specs.Clauses.{written, TextWritten}
+use Rattle.lent.specs.Clauses.{written, text_outcome, TextWritten}
 use Rattle.lent.specs.ContractLaws.{text_fits}
 use Rattle.printing.specs.Clauses.{Put}
 use Rattle.printing.specs.ContractLaws.{put_as}
@@ -32,7 +36,7 @@ use Rattle.program_lines.proofs.LineSteps.{filled_put}
 use Rattle.program_record.proofs.ReadSteps.{TableRead, RowsRead, table-read}
 use Rattle.program_plain.specs.Output.{plain_output}
 use Rattle.program_plain.specs.OutputLaws.{plain_sound}
-use Rattle.program_plain.specs.Clauses.{plain_room, labels_at, LabelsStart, Gathered}
+use Rattle.program_plain.specs.Clauses.{plain_room, labels_at, LabelsStart, Gathered, PlainWritten}
 use Rattle.program_plain.specs.ContractLaws.{labels-start, labels-found}
 
 -- ---- the text as it is read
@@ -112,3 +116,19 @@ module _ {text : List ℕ} {table : List ℤ} {starts : List ℕ} {r : Reference
             let put : Put printed out 0 out' (length printed) = rw after (filled_put printed out plain_room_lem) in
             put_as put (sym (plain_sound row_limit channel_types text read.found read.is plain text_is))
             (ap (λ (x : TextWritten). x.length) (sym plain-written))
+
+        -- what is lent is always written
+        pub plain_written : (a : Result ℕ Refusal) {out' : List ℕ} → text_outcome a ≡ w
+            → out' ≡ filled (number_of (outcome_of a)) (text_outcome a).length (written_text channel_types (lent_text row_limit channel_types handed)) out
+            → PlainWritten text out out' a
+        plain_written (Ok bytes) {out'} is f =
+            let put = plain_put {out' = out'} (f ∙ ap (λ (x : TextWritten). filled (number_of x.outcome) x.length (written_text channel_types (lent_text row_limit channel_types handed)) out) is) in
+            rw (sym is) at put
+        plain_written (Err r) is f =
+            let accepted : refusal_outcome r ≡ Accepted = ap (λ (x : TextWritten). x.outcome) (is ∙ plain-written) in
+            let z : ◌≡◌ {A = ℕ} 0 1 = cc in
+            absurd (omega arith)
+
+-- what is printed over a slice as it was
+pub printed_over : {printed output out₀ out out' : List ℕ} {r : ℕ} → Put printed out 0 out' r → out ≡ out₀ → output ≡ printed → Put output out₀ 0 out' r
+printed_over {printed} {output} {out₀} {out} {out'} {r} f same is = put_as (subst (λ (o : List ℕ). Put printed o 0 out' r) same f) (sym is) refl
