@@ -70,6 +70,7 @@ pub fn read_full<R: Read>(input: &mut R, text: &mut [u8]) -> usize
     ensures { IsPrefixLen result text.new }
 {
     let mut at = 0;
+    // The step is what a read gave.
     while at < text.len() {
         match input.read(&mut text[at..]) {
             Ok(0) | Err(_) => return at,

@@ -37,7 +37,7 @@ pub fn is_known(code: Code) -> bool
     1 <= code && code <= TYPES as Code
 }
 
-// The range of a type, 0 to 0 for a code of no type.
+// The range of a type, 0 to 0 for a code of no type, as the definition `range_of` has it.
 #[tactic(auto, using(crate::proofs::Laws::type_past), unfolding(crate::specs::Channel::type_of, crate::specs::Channel::type_in, crate::specs::Channel::house_types))]
 pub fn range_of(code: Code) -> Range
     ensures { result ≡ range_of channel_types code }
@@ -97,7 +97,7 @@ fn tag_at(at: usize) -> &'static [u8]
     }
 }
 
-// The tag of a type, empty for a code of no type.
+// The tag of a type, empty for a code of no type, as the definition `tag_of` has it.
 pub fn tag_of(code: Code) -> &'static [u8]
     ensures { result.now ≡ tag_of channel_types code }
 {

@@ -108,7 +108,7 @@ pub fn chart_lent(
     Ok(mark_of(point, scalars.scaled_squared_radius))
 }
 
-// The same of figures as one value.
+// The same of figures as one value; C's calls lend codes and X.
 pub fn chart(figures: Figures, horizontal: usize, vertical: usize) -> Result<Mark, Refusal>
     ensures { mark_outcome result ≡ chart_mark total channel_types figures horizontal vertical }
 {

@@ -60,6 +60,7 @@ fn run(rows: &[i32], m: usize, n: usize, budget: u32) -> Ended
     columns.first_scores(rows, m, n, &mut scores);
     let mut pair = pair_of_scores(rows, m, n, &weights, &scores);
     let mut moves: u32 = 0;
+    // Only the weights tell how often it turns.
     while goes_on(pair.difference, pair.separation, moves, budget) {
         let from = pair.near;
         let to = pair.far;

@@ -86,7 +86,14 @@ fn print_line(
 
 // The line of a case that is refused: every figure is 0.
 fn print_refusal(stdout: &Stdout, refusal: Refusal) {
-    print_line(stdout, refusal.number(), refusal.line, Ball::default(), 0, 0);
+    print_line(
+        stdout,
+        refusal.number(),
+        refusal.line,
+        Ball::default(),
+        0,
+        0,
+    );
 }
 
 fn print_drawing(stdout: &Stdout, answer: Result<Drawing, Refusal>) {
@@ -140,6 +147,7 @@ fn run_all(stdout: &Stdout, text: &[u8])
     requires { length text.now ≤ 65536 }
 {
     let mut at = 0;
+    // The step is a case, as long as it says.
     while at < text.len() && text[at] != END {
         at = run_case(stdout, text, at);
     }

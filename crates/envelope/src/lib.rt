@@ -133,7 +133,7 @@ pub fn figures_known_lent(scalars: Scalars, codes: &[Code], scaled_centre: &[i64
         && figures_within(scalars, scaled_centre)
 }
 
-// The same of figures as one value.
+// The same of figures as one value; C's calls lend codes and X.
 pub fn figures_known(figures: Figures) -> bool
     ensures { result ≡ figures_known total channel_types figures }
 {

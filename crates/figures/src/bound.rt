@@ -24,7 +24,7 @@ fn squared_length(rows: &[i32], n: usize, row: usize) -> u64
     sum
 }
 
-// The squared length of X.
+// The squared length of X. One function over both types of places would need a ghost value of each place.
 fn squared_length_of_centre(scaled_centre: &[i64; CHANNELS], n: usize) -> u64
     requires { CentreWithin n scaled_centre.now × (n ≤ channel_limit) }
     ensures { Bounded (channel_limit * centre_limit total * centre_limit total) result (squared_length n (centre_of scaled_centre.now)) }

@@ -62,7 +62,7 @@ pub fn measure_lent(
     })
 }
 
-// The same against figures as one value.
+// The same against figures as one value; C's calls lend codes and X.
 pub fn measure(figures: Figures, text: &[u8], values: &mut [i32]) -> Result<Measured, Refusal>
     ensures answer { measured_outcome result ≡ measure_answer (measured total channel_types figures text.now) (length values.old) }
     ensures values_filled { values.new ≡ filled (verdict_number (measured_outcome result).verdict) figures.n (measured total channel_types figures text.now).values

@@ -72,6 +72,7 @@ pub fn farthest_row(scores: &[u64], m: usize) -> Selected
         score: scores[0],
     };
     let mut at = 0;
+    // The step is a block.
     while BLOCK <= m - at {
         if !block_at_most(scores, at, held.score) {
             held = farther(scores, at, at + BLOCK, held);
@@ -105,6 +106,7 @@ pub fn nearest_row(scores: &[u64], weights: &[u32], m: usize) -> Selected
 {
     let mut held = Selected { row: 0, score: TOP };
     let mut at = 0;
+    // The step is a block.
     while BLOCK <= m - at {
         if !block_without_weight(weights, at) {
             held = nearer(scores, weights, at, at + BLOCK, held);

@@ -61,7 +61,7 @@ pub fn panel_lent(
     Ok(steps_of(scaled_centre, scalars.n))
 }
 
-// The same of figures as one value.
+// The same of figures as one value; C's calls lend codes and X.
 pub fn panel(figures: Figures) -> Result<[i32; CHANNELS], Refusal>
     ensures { panel_outcome result ≡ panel_shown total channel_types figures }
 {

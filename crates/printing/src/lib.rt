@@ -34,6 +34,7 @@ fn width(magnitude: u64) -> usize
 {
     let mut digits = 1;
     let mut rest = magnitude / 10;
+    // The step is a division.
     while 0 < rest {
         rest /= 10;
         digits += 1;

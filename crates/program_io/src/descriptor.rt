@@ -23,6 +23,7 @@ pub fn read_descriptor<D: io::Read>(descriptor: &mut D, text: &mut [u8]) -> io::
     ensures { Read (text_of_result result) text.new }
 {
     let mut at = 0;
+    // The step is what a read gave.
     while at < text.len() {
         match after_read(descriptor.read(&mut text[at..]), at)? {
             Some(next) => at = next,

@@ -130,7 +130,7 @@ pub fn judge_lent(
     Ok(verdict_of(distance, scaled_squared_radius))
 }
 
-// The same against figures as one value.
+// The same against figures as one value; C's calls lend codes and X.
 pub fn judge(figures: Figures, text: &[u8]) -> Result<Verdict, Refusal>
     ensures { verdict_outcome result ≡ judged total channel_types figures text.now }
 {

@@ -33,6 +33,7 @@ fn read_weights(text: &[u8], at: usize, weights: &mut [u32]) -> Result<(), u32>
     let mut from = at;
     let mut last = 0;
     let mut line = 4;
+    // The step is a line.
     while from < text.len() {
         let end = line_end(text, from);
         if end == text.len() {

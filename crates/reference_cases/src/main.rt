@@ -91,6 +91,7 @@ fn run_all(stdout: &Stdout, input: &[u8])
     requires { length input.now ≤ 200000 }
 {
     let mut at = 0;
+    // The step is a case, as long as it says.
     while at < input.len() {
         at = run_case(stdout, input, at);
     }

@@ -44,6 +44,7 @@ pub fn read_settings(text: &[u8], settings: &mut [u32]) -> Option<usize>
     }
     let mut lines = 0;
     let mut at = 0;
+    // The step is a line.
     while at < text.len() {
         if SETTINGS <= lines {
             return None;

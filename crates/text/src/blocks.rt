@@ -24,6 +24,7 @@ pub fn part_end(text: &[u8], at: usize, byte: u8) -> usize
     ensures { PartEnd byte text.now at result }
 {
     let mut from = at;
+    // The step is a block.
     while BLOCK <= text.len() - from && block_free(text, from, byte) {
         from += BLOCK;
     }
