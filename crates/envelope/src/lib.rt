@@ -105,6 +105,7 @@ fn centre_within(scaled_centre: &[i64], n: usize) -> bool
 }
 
 // Whether n, X, M, L and the moves are within their limits. The codes are not looked at.
+#[tactic(auto, using(std::proofs::lemmas::Bool::Decides::nat_tests), unfolding(crate::specs::Figures::figures_within))]
 fn figures_within(scalars: Scalars, scaled_centre: &[i64]) -> bool
     requires { scalars.n ≤ length scaled_centre.now }
     ensures { (codes : List ℕ) → result ≡ figures_within total (lent_figures scalars codes scaled_centre.now) }

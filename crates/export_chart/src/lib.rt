@@ -144,7 +144,8 @@ fn panel_filled(
         (panel_given total channel_types figures codes.now scaled_centre.now).steps steps.old }
 {
     let shown = panel_given(figures, codes, scaled_centre)?;
-    if steps.len() < figures.n {
+    let room = figures.n <= steps.len();
+    if !room {
         return Err(Kind::BufferShort.into());
     }
     fill(steps, &shown, figures.n);

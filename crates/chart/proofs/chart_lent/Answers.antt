@@ -1,7 +1,7 @@
 -- `chart::chart_lent` meets its contract. The test is the definition's own; past it the places of X that the channels name are there and
 -- within their limit, and the mark is that of the point and M.
 use Rattle.std.specs.Prelude.{ℕ, ◌≡◌, true, ◌&&◌, Err}
-use Rattle.std.proofs.Common.{sym, ap, ap₂, ◌∙◌}
+use Rattle.std.proofs.Common.{sym, ap, ap₂, ◌∙◌, arith}
 use Rattle.integers.specs.Tests.{both}
 use Rattle.limits.specs.Limits.{total}
 use Rattle.refusal.specs.declared.Refusal.{Refusal}
@@ -44,7 +44,8 @@ centre_fraction-requires-2 c =
 pub mark_of-requires : goal.mark_of-requires
 mark_of-requires c =
     let f = lent_figures c.args.scalars c.args.codes.now c.args.scaled_centre.now in
-    (limits f c.args.horizontal c.args.vertical (sym c.chart_known.ensures ∙ c.if-not-chart_known.false)).radius_limit
+    let within = limits f c.args.horizontal c.args.vertical (sym c.chart_known.ensures ∙ c.if-not-chart_known.false) in
+    omega (arith, within.radius_limit, within.floor_limit)
 
 pub returns : goal.returns
 returns c =

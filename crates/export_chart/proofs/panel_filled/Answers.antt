@@ -16,8 +16,8 @@ returns-in_err-shown-clause-steps_filled c =
     let p = err_from_is_err_and c.from_residual.result c.from_residual.ensures.1 in
     filled-refused _ c.args.figures.n _ c.args.steps.now (rw p.1 (kind_nonzero _))
 
-pub returns-then-steps-figures-clause-steps_filled : goal.returns-then-steps-figures-clause-steps_filled
-returns-then-steps-figures-clause-steps_filled c = filled-refused _ c.args.figures.n _ c.args.steps.now (kind_nonzero c.into.result.kind)
+pub returns-then-not-room-clause-steps_filled : goal.returns-then-not-room-clause-steps_filled
+returns-then-not-room-clause-steps_filled c = filled-refused _ c.args.figures.n _ c.args.steps.now (kind_nonzero c.into.result.kind)
 
 pub fill-requires : goal.fill-requires
 fill-requires c =

@@ -14,6 +14,7 @@ use Rattle.ball.specs.Ball.{filled_ball}
 use Rattle.envelope.specs.Figures.{figures_known, figures_of}
 use Rattle.reading.specs.ContentLaws.{faulty_figures, faulty_length, faulty_form}
 use Rattle.std.specs.Prelude.{Err}
+use Rattle.std.proofs.Common.{rules}
 use Rattle.refusal.specs.declared.Refusal.{Refusal}
 use Rattle.reading.specs.Clauses.{DistanceRead, distance_faulty, distance_outcome}
 use Rattle.reading.proofs.VerdictSteps.{line_last, line_none}
@@ -27,14 +28,14 @@ pub returns-then-not-known : goal.returns-then-not-known
 returns-then-not-known c =
     distance_faulty refl
     (faulty_figures total channel_types _ c.args.text.now (sym c.figures_known_lent-known.ensures ∙ c.if-not-known.true))
-    (ap (λ (r : Refusal). distance_outcome (Err r)) c.into.ensures)
+    (search rules)
 
 pub returns-then-not-within : goal.returns-then-not-within
 returns-then-not-within c =
     let a = c.args in
     let f = figures_of a.n a.codes.now (filled_ball a.scaled_centre.now a.scaled_squared_radius a.scaled_lower_bound a.settled) a.moves in
     let known : figures_known total channel_types f ≡ true = cc in
-    distance_faulty refl (faulty_length total channel_types f a.text.now known (sym c.text_within-within.ensures ∙ c.if-not-within.true)) (ap (λ (r : Refusal). distance_outcome (Err r)) c.into-then-not-within.ensures)
+    distance_faulty refl (faulty_length total channel_types f a.text.now known (sym c.text_within-within.ensures ∙ c.if-not-within.true)) (search rules)
 
 pub returns-then-text-end-ne-LINE_END : goal.returns-then-text-end-ne-LINE_END
 returns-then-text-end-ne-LINE_END c =
