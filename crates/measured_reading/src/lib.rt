@@ -41,7 +41,7 @@ pub fn measure_lent(
 {
     let n = scalars.n;
     let mut places = [0i32; CHANNELS];
-    let distance = distance_of_text(
+    let read = distance_of_text(
         n,
         scalars.scaled_squared_radius,
         scalars.scaled_lower_bound,
@@ -51,15 +51,21 @@ pub fn measure_lent(
         scaled_centre,
         text,
         &mut places,
-    )?;
-    if values.len() < n {
-        return Err(Kind::BufferShort.into());
+    );
+    // an arm for a refusal in place of `?`: the edit a_4_answered_by_13 changes it
+    match read {
+        Ok(distance) => {
+            if values.len() < n {
+                return Err(Kind::BufferShort.into());
+            }
+            fill(values, &places, n);
+            Ok(Measured {
+                verdict: verdict_of(distance, scalars.scaled_squared_radius),
+                scaled_squared_distance: distance,
+            })
+        }
+        Err(refusal) => Err(refusal),
     }
-    fill(values, &places, n);
-    Ok(Measured {
-        verdict: verdict_of(distance, scalars.scaled_squared_radius),
-        scaled_squared_distance: distance,
-    })
 }
 
 // The same against figures as one value; C's calls lend codes and X.

@@ -6,7 +6,6 @@ use mathlib.Core.List.{List}
 use native.Mathlib.Omega.{arith}
 use lib.ListN.{length}
 use Rattle.std.specs.Prelude.{Err}
-use Rattle.std.proofs.lemmas.Result.{err_from_is_err_and}
 use Rattle.refusal.specs.declared.Refusal.{Refusal}
 use Rattle.limits.specs.Limits.{total}
 use Rattle.lent.specs.ContractLaws.{unwritten, rewritten}
@@ -28,19 +27,15 @@ reading : (f : Figures) (text : List ℕ) {s : ℕ} → Is s ≡ distance_as tot
     → (values : List Written) × (reading_content total channel_types f text ≡ sound values) × (s ≡ distance_of total f values)
 reading f text told = distance_is total f (reading_content total channel_types f text) (sym told)
 
-pub returns-in_err-distance : goal.returns-in_err-distance
-returns-in_err-distance c =
+pub returns-in-Err : goal.returns-in-Err
+returns-in-Err c =
     let f = lent_figures c.args.scalars c.args.codes.now c.args.scaled_centre.now in
     let text = c.args.text.now in
     let lent = c.args.values.now in
-    let is = distance-refused total f (reading_content total channel_types f text) (sym c.in_err-distance.ensures.is) in
-    let p = err_from_is_err_and c.from_residual.result c.from_residual.ensures.1 in
-    let answer = ap measured_outcome (p.1 ∙ ap Err p.2) in
+    let is = distance-refused total f (reading_content total channel_types f text) (sym c.in-Err.ensures.is) in
     record {
-      answer = answer ∙ sym (answered_refused total channel_types f text (length lent) is);
-      values_filled =
-          unwritten (ap (λ (r : MeasuredOutcome). verdict_number r.verdict) answer) c.args.scalars.n _ lent
-          (faulty_number total channel_types f text is);
+      answer = sym (answered_refused total channel_types f text (length lent) is);
+      values_filled = unwritten refl c.args.scalars.n _ lent (faulty_number total channel_types f text is);
     }
 
 pub returns-then-values-n : goal.returns-then-values-n
@@ -49,7 +44,7 @@ returns-then-values-n c =
     let text = c.args.text.now in
     let lent = c.args.values.now in
     let answer = ap (λ (r : Refusal). measured_outcome (Err r)) c.into.ensures in
-    let is = reading f text c.in_ok-distance.ensures.is in
+    let is = reading f text c.in-Ok.ensures.is in
     record {
       answer = answer ∙ sym (answered_short total channel_types f text (length lent) is.1 (omega arith));
       values_filled = unwritten (ap (λ (r : MeasuredOutcome). verdict_number r.verdict) answer) c.args.scalars.n _ lent (λ h. omega arith);
@@ -59,20 +54,20 @@ pub fill-requires : goal.fill-requires
 fill-requires c =
     let f = lent_figures c.args.scalars c.args.codes.now c.args.scaled_centre.now in
     let text = c.args.text.now in
-    let is = reading f text c.in_ok-distance.ensures.is in
+    let is = reading f text c.in-Ok.ensures.is in
     let most = few_places total channel_types f text 0 is.1 in
-    (omega arith, omega (arith, most, c.in_ok-distance.ensures.same_length))
+    (omega arith, omega (arith, most, c.in-Ok.ensures.same_length))
 
-pub returns : goal.returns
-returns c =
+pub returns-else-values-n : goal.returns-else-values-n
+returns-else-values-n c =
     let f = lent_figures c.args.scalars c.args.codes.now c.args.scaled_centre.now in
     let text = c.args.text.now in
     let lent = c.args.values.now in
-    let is = reading f text c.in_ok-distance.ensures.is in
+    let is = reading f text c.in-Ok.ensures.is in
     record {
       answer = answered total channel_types f text (length lent) is.1 (omega arith) c.verdict_of.ensures is.2;
       values_filled =
-          rewritten (ap verdict_number c.verdict_of.ensures ∙ accepted_number c.in_ok-distance.distance c.args.scalars.scaled_squared_radius)
+          rewritten (ap verdict_number c.verdict_of.ensures ∙ accepted_number c.in-Ok.distance c.args.scalars.scaled_squared_radius)
           c.args.scalars.n _ lent refl
-          (values_filled total channel_types f text 0 is.1 lent c.in_ok-distance.ensures c.fill.ensures);
+          (values_filled total channel_types f text 0 is.1 lent c.in-Ok.ensures c.fill.ensures);
     }
