@@ -1,6 +1,6 @@
 -- `chart::chart_lent` meets its contract. The test is the definition's own; past it the places of X that the channels name are there and
 -- within their limit, and the mark is that of the point and M.
-use Rattle.std.specs.Prelude.{ℕ, ◌≡◌, true, ◌&&◌, Err}
+use Rattle.std.specs.Prelude.{◌≤◌, ℕ, ◌≡◌, true, ◌&&◌, Err}
 use Rattle.std.proofs.Common.{sym, ap, ap₂, ◌∙◌, arith}
 use Rattle.integers.specs.Tests.{both}
 use Rattle.limits.specs.Limits.{total}
@@ -25,6 +25,9 @@ module _ (f : Figures) (h v : ℕ) (known : (figures_known total channel_types f
   limits : Within total f
   limits = known-within total channel_types f tests.0
 
+  channels : ((1 ≤ h) × (h ≤ f.n)) × ((1 ≤ v) × (v ≤ f.n))
+  channels = (channel_known f.n h tests.1, channel_known f.n v tests.2)
+
 pub returns-then-not-chart_known : goal.returns-then-not-chart_known
 unfolding chart_mark
 returns-then-not-chart_known c = rw (sym c.chart_known.ensures ∙ c.if-not-chart_known.true) (ap (λ (r : Refusal). mark_outcome (Err r)) c.into.ensures)
@@ -33,13 +36,15 @@ pub centre_fraction-requires : goal.centre_fraction-requires
 centre_fraction-requires c =
     let f = lent_figures c.args.scalars c.args.codes.now c.args.scaled_centre.now in
     let known = sym c.chart_known.ensures ∙ c.if-not-chart_known.false in
-    (within_centre (limits f c.args.horizontal c.args.vertical known), channel_known f.n c.args.horizontal (tests f c.args.horizontal c.args.vertical known).1)
+    let (h, v) = channels f c.args.horizontal c.args.vertical known in
+    (within_centre (limits f c.args.horizontal c.args.vertical known), (omega (arith, h, v), omega (arith, h, v)))
 
 pub centre_fraction-requires-2 : goal.centre_fraction-requires-2
 centre_fraction-requires-2 c =
     let f = lent_figures c.args.scalars c.args.codes.now c.args.scaled_centre.now in
     let known = sym c.chart_known.ensures ∙ c.if-not-chart_known.false in
-    (within_centre (limits f c.args.horizontal c.args.vertical known), channel_known f.n c.args.vertical (tests f c.args.horizontal c.args.vertical known).2)
+    let (h, v) = channels f c.args.horizontal c.args.vertical known in
+    (within_centre (limits f c.args.horizontal c.args.vertical known), (omega (arith, h, v), omega (arith, h, v)))
 
 pub mark_of-requires : goal.mark_of-requires
 mark_of-requires c =
