@@ -15,15 +15,15 @@ fn try_on_input(rt: &HostRuntime, reference: &[u8], record: &[u8], settings: &[u
         return;
     };
     let mut output = [0u8; OUTPUT_MOST];
-    let answer = program_alerts::alerts(
+    if let Ok(length) = program_alerts::alerts(
         reference,
         record,
         settings,
         &readings[..readings_length],
         &mut output,
-    );
-    let length = answer.length;
-    write_output(rt, &NAME, &output[..length]);
+    ) {
+        write_output(rt, &NAME, &output[..length]);
+    }
 }
 
 fn main(rt: HostRuntime) {

@@ -25,12 +25,12 @@ fn main(rt: HostRuntime) {
         return;
     };
     let mut output = [0u8; OUTPUT_MOST];
-    let answer = program_judge::judge(
+    if let Ok(length) = program_judge::judge(
         &reference[..reference_length],
         &record[..record_length],
         &readings[..readings_length],
         &mut output,
-    );
-    let length = answer.length;
-    write_output(&rt, &NAME, &output[..length]);
+    ) {
+        write_output(&rt, &NAME, &output[..length]);
+    }
 }

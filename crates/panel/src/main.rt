@@ -21,11 +21,11 @@ fn main(rt: HostRuntime) {
         return;
     };
     let mut output = [0u8; OUTPUT_MOST];
-    let answer = program_panel::panel(
+    if let Ok(length) = program_panel::panel(
         &reference[..reference_length],
         &record[..record_length],
         &mut output,
-    );
-    let length = answer.length;
-    write_output(&rt, &NAME, &output[..length]);
+    ) {
+        write_output(&rt, &NAME, &output[..length]);
+    }
 }
