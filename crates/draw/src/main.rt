@@ -17,7 +17,7 @@ fn main(rt: HostRuntime) {
         return;
     };
     let mut output = [0u8; OUTPUT_MOST];
-    let answer = program_draw::draw(&reference[..reference_length], &mut output);
-    let length = answer.length;
-    write_output(&rt, &NAME, &output[..length]);
+    if let Ok(length) = program_draw::draw(&reference[..reference_length], &mut output) {
+        write_output(&rt, &NAME, &output[..length]);
+    }
 }
