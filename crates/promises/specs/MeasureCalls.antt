@@ -24,7 +24,6 @@ use Rattle.measured_reading.proofs.measure_lent.Met as measure-lent-proof
 use Rattle.cundarivo.specs.contracts.reading_text.cundarivo_measure as exported
 use Rattle.cundarivo.proofs.reading_text.cundarivo_measure.Symbol as exported-code
 use Rattle.cundarivo.proofs.reading_text.cundarivo_measure.Met as exported-proof
-use Rattle.refusal.specs.Outcome.{outcome_of, number_of}
 
 module _ {M : Type 1} {𝓤 : Ura M} (𝓛 : Logic 𝓤) (𝓜 : Model 𝓤 𝓛.H) (𝓡 : Running 𝓤 𝓛.H 𝓜) where
   open Notation.connectives 𝓤 use {⌜◌⌝, ◌∗◌}
@@ -35,14 +34,14 @@ module _ {M : Type 1} {𝓤 : Ura M} (𝓛 : Logic 𝓤) (𝓜 : Model 𝓤 𝓛
         (λ κs a r e.
         let figures = a.0 in let text = a.1.0.now in let values = a.1.1.0.now in let values-after = e.1.1.0.now in
         ⌜ measured_outcome r ≡ measure_answer (measured total channel_types figures text) (length values) ⌝
-        ∗ ⌜ values-after ≡ filled (number_of (outcome_of r)) figures.n (measured total channel_types figures text).values values ⌝)
+        ∗ ⌜ values-after ≡ filled (verdict_number (measured_outcome r).verdict) figures.n (measured total channel_types figures text).values values ⌝)
     -- by a second form that is lent codes and X: measure_lent(scalars, codes, scaled_centre, text, values)
     pub measures_lent : Answers 𝓛 𝓜 𝓡 measure-lent.ended measure-lent-code.code measure-lent-code.name
         (λ κs a r e.
         let figures = lent_figures a.0 a.1.0.now a.1.1.0.now in let text = a.1.1.1.0.now in
         let values = a.1.1.1.1.0.now in let values-after = e.1.1.1.1.0.now in
         ⌜ measured_outcome r ≡ measure_answer (measured total channel_types figures text) (length values) ⌝
-        ∗ ⌜ values-after ≡ filled (number_of (outcome_of r)) a.0.n (measured total channel_types figures text).values values ⌝)
+        ∗ ⌜ values-after ≡ filled (verdict_number (measured_outcome r).verdict) a.0.n (measured total channel_types figures text).values values ⌝)
     -- for C and Rust: cundarivo_measure(figures, codes, scaled_centre, text, values)
     pub cundarivo_measure : Answers 𝓛 𝓜 𝓡 exported.ended exported-code.code exported-code.name
         (λ κs a r e.
