@@ -72,7 +72,7 @@ fn put_missing(out: &mut [u8], program: &[u8], index: usize) -> usize
     put_bytes(out, end, &MISSING)
 }
 
-fn put_named_argument(out: &mut [u8], program: &[u8], index: usize, name: &[u8]) -> usize
+pub fn put_named_argument(out: &mut [u8], program: &[u8], index: usize, name: &[u8]) -> usize
     requires { (index < 2 ^ 63) × (named_room ≤ length out.old) }
     ensures { PutWithin named_room (named_argument program.now index name.now) out.old 0 out.new result }
 {

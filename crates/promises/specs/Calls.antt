@@ -14,7 +14,7 @@ use Rattle.drawing.specs.Draw.{drawing, drawing_outcome}
 use Rattle.channel.specs.Channel.{channel_types}
 use Rattle.reference.specs.Clauses.{reference_read, values_in, reference_outcome}
 use Rattle.reference.specs.Reference.{content}
-use Rattle.reference_label.specs.Clauses.{label_part, part_of}
+use Rattle.reference_label.specs.Clauses.{label_part, part_of, part_found}
 use Rattle.envelope.specs.Clauses.{lent_figures}
 use Rattle.envelope.specs.Figures.{figures_of}
 use Rattle.reading.specs.Verdict.{judged, verdict_outcome}
@@ -94,7 +94,8 @@ module _ {M : Type 1} {𝓤 : Ura M} (𝓛 : Logic 𝓤) (𝓜 : Model 𝓤 𝓛
     pub finds_label : Answers 𝓛 𝓜 𝓡 label-part.ended label-part-code.code label-part-code.name
         (λ κs a r e.
         let text = a.0.now in let row = a.1.0 in
-        ⌜ part_of r ≡ label_part row_limit channel_types text row ⌝)
+        ⌜ part_of r ≡ label_part row_limit channel_types text row ⌝
+        ∗ ⌜ r ≡ part_found (label_part row_limit channel_types text row) ⌝)
     -- and as that part of the text: label(text, row)
     pub hands_back_label : Answers 𝓛 𝓜 𝓡 label.ended label-code.code label-code.name
         (λ κs a r e.

@@ -4,7 +4,7 @@
 ghost use Rattle.std.specs.Prelude.{◌≡◌, ◌+◌, take, drop};
 ghost use Rattle.limits.specs.Limits.{row_limit};
 ghost use Rattle.channel.specs.Channel.{channel_types};
-ghost use Rattle.reference_label.specs.Clauses.{part_of, label_part};
+ghost use Rattle.reference_label.specs.Clauses.{label_part, part_found, part_of};
 
 use limits::{PLACES, ROWS};
 use reference::read::parse;
@@ -20,7 +20,8 @@ pub struct Part {
 // Where the label of a row, counted from 1, stands in a reference text. Nowhere where the text is refused, 7 not tested, or has no such
 // row.
 pub fn label_part(text: &[u8], row: usize) -> Option<Part>
-    ensures { part_of result ≡ label_part row_limit channel_types text.now row }
+    ensures part { part_of result ≡ label_part row_limit channel_types text.now row }
+    ensures found { result ≡ part_found (label_part row_limit channel_types text.now row) }
 {
     let mut values = [0i32; PLACES];
     let mut starts = [0usize; ROWS];
