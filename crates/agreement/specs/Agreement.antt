@@ -12,10 +12,9 @@ use Rattle.lists.specs.Padded.{padded}
 use Rattle.refusal.specs.Outcome.{number_of}
 use Rattle.limits.specs.Limits.{channel_limit}
 use Rattle.geometry.specs.Places.{centre_list, centre_of}
-use Rattle.checking.specs.Check.{checking}
+use Rattle.checking.specs.Check.{checking, Checked}
 use Rattle.ball.specs.Ball.{filled_ball}
 use Rattle.ball.specs.declared.Ball.{Ball}
-use Rattle.checking.specs.declared.Checked.{Checked}
 use Rattle.envelope.specs.Figures.{channel_codes, figures_of, envelope_of}
 use Rattle.envelope.specs.declared.Envelope.{Envelope}
 

@@ -28,8 +28,7 @@ use Rattle.std.proofs.Math.Seq.{get_or-take}
 use Rattle.integers.specs.SumLaws.{last_or_below, sumℕ_term, sumℕ_positive}
 use Rattle.integers.specs.Tests.{both, refuted, test-same, same_integer, integer_eq, integer_refl, same_flag, flag_eq, flag_refl}
 use Rattle.lists.specs.Padded.{padded, padded_first}
-use Rattle.refusal.specs.Outcome.{number_of}
-use Rattle.refusal.specs.declared.Outcome.TheVariants.{Accepted}
+use Rattle.refusal.specs.Outcome.{number_of, Accepted}
 use Rattle.geometry.specs.Figures.{scaled_centre}
 use Rattle.geometry.specs.Table.{coordinate, rows_within}
 use Rattle.limits.specs.Limits.{channel_limit, budget_limit}
@@ -38,15 +37,13 @@ use Rattle.geometry.specs.Places.{centre_list, centre_of, weights_total}
 use Rattle.geometry.specs.PlacesLaws.{centre_list_at, centre_list_cong}
 use Rattle.geometry.specs.TableLaws.{within_limits}
 use Rattle.ball.specs.Ball.{filled_ball, ball_of}
-use Rattle.checking.specs.Check.{checking}
-use Rattle.drawing.specs.Draw.{drawing}
+use Rattle.checking.specs.Check.{checking, Checked}
+use Rattle.drawing.specs.Draw.{drawing, DrawingOutcome}
 use Rattle.checking.specs.CheckLaws.{checking-checked}
 use Rattle.ball.specs.Clauses.{Tight}
 use Rattle.checking.specs.Demand.{checking_zero, checking-accepted, checking_tight}
 use Rattle.drawing.specs.DrawnWeights.{drawing-rest, drawing_checks}
 use Rattle.ball.specs.declared.Ball.{Ball}
-use Rattle.checking.specs.declared.Checked.{Checked}
-use Rattle.drawing.specs.declared.Drawing.{Drawing}
 use Rattle.channel.specs.Channel.{Types, codes_known}
 use Rattle.envelope.specs.Figures.{figures_known, figures_of, envelope_of, drawn_envelope}
 use Rattle.envelope.specs.FigureLaws.{known-within, figures-known, checked-within}
@@ -297,7 +294,7 @@ module _ (D limit : ℕ) (rows : List ℤ) (m n : ℕ) where
       record { accepted = accepted; places = λ k l. refl; radius = refl; floor = refl; ending = refl; rest = rest }
 
   module _ (positive : 0 < D) (budget : ℕ) (accepted : (drawing D limit rows m n budget).outcome ≡ Accepted) where
-    abbrev r : Drawing
+    abbrev r : DrawingOutcome
     r = drawing D limit rows m n budget
 
     checks : checking D limit rows m n (take m r.weights) ≡ record { outcome = Accepted; ball = r.ball }

@@ -12,41 +12,21 @@ use limits::{RUN_MOST, SETTINGS};
 pub fn run_within(number: u32) -> bool
     ensures { result ≡ run_within number }
 {
-    if number < 1 {
-        return false;
-    }
-    number <= RUN_MOST
+    (1..=RUN_MOST).contains(&number)
 }
 
 // Whether each of the numbers is so.
 fn runs_within(settings: &[u32]) -> bool
     ensures { result ≡ runs_within settings.now }
 {
-    let mut i = 0;
-    while i < settings.len() {
-        if !run_within(settings[i]) {
-            return false;
-        }
-        i += 1;
-    }
-    true
+    settings.iter().all(|number| run_within(*number))
 }
 
 // Whether the numbers are 1 to 20 settings, each of a k and a c within their limits.
 pub fn settings_within(settings: &[u32]) -> bool
     ensures { result ≡ settings_within settings.now }
 {
-    let numbers = settings.len();
-    if numbers % 2 != 0 {
-        return false;
-    }
-    if numbers < 1 {
-        return false;
-    }
-    if 2 * SETTINGS < numbers {
-        return false;
-    }
-    runs_within(settings)
+    settings.len() % 2 == 0 && (1..=2 * SETTINGS).contains(&settings.len()) && runs_within(settings)
 }
 
 // Puts k and c of each setting into its place of the two slices.
@@ -54,11 +34,8 @@ pub fn split(settings: &[u32], ks: &mut [u32], cs: &mut [u32])
     requires { SplitAsked settings.now ks.old cs.old }
     ensures { Split settings.now ks.new cs.new }
 {
-    let count = settings.len() / 2;
-    let mut j = 0;
-    while j < count {
+    for j in 0..settings.len() / 2 {
         ks[j] = settings[2 * j];
         cs[j] = settings[2 * j + 1];
-        j += 1;
     }
 }

@@ -11,21 +11,19 @@ const NAME: [u8; 6] = *b"alerts";
 // Reads the readings, and writes the output of the program.
 fn try_on_input(rt: &HostRuntime, reference: &[u8], record: &[u8], settings: &[u8]) {
     let mut readings = [0u8; TEXT_READ];
-    let readings_read = read_standard_input(rt, &NAME, &mut readings);
-    if !readings_read.whole {
+    let Some(readings_length) = read_standard_input(rt, &NAME, &mut readings) else {
         return;
-    }
-    let readings_length = readings_read.length;
+    };
     let mut output = [0u8; OUTPUT_MOST];
-    let answer = program_alerts::alerts(
+    if let Ok(length) = program_alerts::alerts(
         reference,
         record,
         settings,
         &readings[..readings_length],
         &mut output,
-    );
-    let length = answer.length;
-    write_output(rt, &NAME, &output[..length]);
+    ) {
+        write_output(rt, &NAME, &output[..length]);
+    }
 }
 
 fn main(rt: HostRuntime) {
@@ -33,23 +31,17 @@ fn main(rt: HostRuntime) {
         return;
     }
     let mut reference = [0u8; TEXT_READ];
-    let reference_read = read_file(&rt, &NAME, 1, &mut reference);
-    if !reference_read.whole {
+    let Some(reference_length) = read_file(&rt, &NAME, 1, &mut reference) else {
         return;
-    }
+    };
     let mut record = [0u8; TEXT_READ];
-    let record_read = read_file(&rt, &NAME, 2, &mut record);
-    if !record_read.whole {
+    let Some(record_length) = read_file(&rt, &NAME, 2, &mut record) else {
         return;
-    }
+    };
     let mut settings = [0u8; TEXT_READ];
-    let settings_read = read_file(&rt, &NAME, 3, &mut settings);
-    if !settings_read.whole {
+    let Some(settings_length) = read_file(&rt, &NAME, 3, &mut settings) else {
         return;
-    }
-    let reference_length = reference_read.length;
-    let record_length = record_read.length;
-    let settings_length = settings_read.length;
+    };
     try_on_input(
         &rt,
         &reference[..reference_length],

@@ -7,7 +7,7 @@ ghost use Rattle.geometry.specs.Move.{scaled_squared_distance_of, is_settled, we
 ghost use Rattle.geometry.specs.Scores.{weighted_squared_distance};
 ghost use Rattle.geometry.specs.Table.{coordinate};
 ghost use Rattle.limits.specs.Limits.{total, difference_limit};
-ghost use Rattle.ball.specs.Ball.{filled_ball, ball_of, empty_ball};
+ghost use Rattle.ball.specs.Ball.{ball_of, empty_ball};
 ghost use Rattle.geometry.specs.Clauses.{Table, WeightsOf, IsCentre};
 ghost use Rattle.moves.specs.Clauses.{Paired};
 
@@ -24,28 +24,18 @@ pub struct Ball {
     pub settled: bool,
 }
 
-// The figures X, M and L, and whether the weights are Settled.
-pub fn filled_ball(
-    scaled_centre: [i64; CHANNELS],
-    scaled_squared_radius: u64,
-    scaled_lower_bound: u64,
-    settled: bool,
-) -> Ball
-    ensures { result ≡ filled_ball scaled_centre scaled_squared_radius scaled_lower_bound settled }
-{
-    Ball {
-        scaled_centre,
-        scaled_squared_radius,
-        scaled_lower_bound,
-        settled,
-    }
-}
+// Every figure 0, as beside a refusal. It is not derived, since edits that must be refused change its figures.
+impl Default for Ball {
+    ghost is_default = { λ b. b ≡ empty_ball };
 
-// Every figure 0, beside a refusal.
-pub fn empty_ball() -> Ball
-    ensures { result ≡ empty_ball }
-{
-    filled_ball([0i64; CHANNELS], 0, 0, false)
+    fn default() -> Ball {
+        Ball {
+            scaled_centre: [0i64; CHANNELS],
+            scaled_squared_radius: 0,
+            scaled_lower_bound: 0,
+            settled: false,
+        }
+    }
 }
 
 // Whether the weights that have this pair of rows are Settled.
@@ -71,8 +61,12 @@ pub fn ball_of(
     ensures { result ≡ ball_of total m n (coordinate rows.now n) (weight_of weights.now) }
 {
     let scaled_lower_bound = bound::scaled_lower_bound(rows, m, n, weights, &scaled_centre);
-    let settled = is_settled(pair);
-    filled_ball(scaled_centre, pair.score, scaled_lower_bound, settled)
+    Ball {
+        scaled_centre,
+        scaled_squared_radius: pair.score,
+        scaled_lower_bound,
+        settled: is_settled(pair),
+    }
 }
 
 // M by e of the far row: D times it, less L.
@@ -92,7 +86,11 @@ pub fn ball_of_scores(rows: &[i32], m: usize, n: usize, weights: &[u32], pair: P
 {
     let scaled_centre = centre::scaled_centre(rows, m, n, weights);
     let scaled_lower_bound = bound::scaled_lower_bound(rows, m, n, weights, &scaled_centre);
-    let radius = radius_of_score(pair.score, scaled_lower_bound);
-    let settled = is_settled(pair);
-    filled_ball(scaled_centre, radius, scaled_lower_bound, settled)
+    let scaled_squared_radius = radius_of_score(pair.score, scaled_lower_bound);
+    Ball {
+        scaled_centre,
+        scaled_squared_radius,
+        scaled_lower_bound,
+        settled: is_settled(pair),
+    }
 }

@@ -3,6 +3,7 @@
 --     type_past      a code past the table has no type, and code 0 neither
 --     place_last     a place of the table that is none of the first seven is the last
 --     type_none      a code whose place is past the table has no type
+--     some_place     the type at a place has a code above 0
 --     known-place    a code is known where its place is one of the table's
 --     code_step      the code of a tag is of the type at a place, or among those after it
 use Prim.Native.Nat.{ℕ, zero, suc, ◌+◌, ◌-◌, ◌≤◌, ◌<◌}
@@ -11,12 +12,12 @@ use mathlib.Core.Bool.{Bool, true, cond, ◌&&◌}
 use mathlib.Core.List.{List, [], ◌∷◌}
 use native.Mathlib.Numerals.{add-one}
 use native.Mathlib.Omega.{arith}
-use borrow.Author.Tests.{eqb-true, eq-eqb, ne_eqb, le-ltb}
+use borrow.Author.Tests.{eqb-true, eq-eqb, ne_eqb, le-ltb, lt-ltb}
 use lib.Dec.{eqb, leb, ltb}
 use lib.ListN.{length, get_or, drop, get_or-eq_default}
 use lib.Seq.{drop-cons}
 use Rattle.text.specs.Parts.{same}
-use Rattle.integers.specs.Tests.{both, Apart, apart_past}
+use Rattle.integers.specs.Tests.{both, clash, Apart, apart_past}
 use Rattle.channel.specs.Channel.{ChannelType, house_types, house_count, channel_types, code_in, no_type, type_in, type_of, known}
 use Rattle.channel.specs.ChannelLaws.{house_sound, known_type}
 
@@ -70,6 +71,9 @@ some_code (suc (suc (suc (suc (suc zero))))) = refl
 some_code (suc (suc (suc (suc (suc (suc zero)))))) = refl
 some_code (suc (suc (suc (suc (suc (suc (suc zero))))))) = refl
 some_code (suc (suc (suc (suc (suc (suc (suc (suc at)))))))) = sym (le-ltb (suc (suc (suc (suc (suc (suc (suc (suc at)))))))) house_count (omega arith))
+
+pub some_place : (at : ℕ) → at < house_count → (get_or house_types at no_type).code ≡ 0 → ⊥
+some_place at h e = clash (some_code at ∙ lt-ltb at house_count h) (ap (leb 1) e)
 
 module _ (code at : ℕ) (e : type_in house_types code ≡ get_or house_types at no_type) where
   pub type_none : house_count ≤ at → type_in house_types code ≡ no_type

@@ -20,9 +20,8 @@ use Rattle.lists.specs.Padded.{padded-take}
 use Rattle.text.specs.Ascii.{byte}
 use Rattle.text.specs.Parts.{comma, same, free}
 use Rattle.channel.specs.Channel.{ChannelType, no_type, Types, type_of, tag_of, type_in, types_of, house_types, channel_types}
-use Rattle.channel.specs.Clauses.{tag_places}
+use Rattle.channel.specs.Clauses.{Tag, tag_places}
 use Rattle.limits.specs.Limits.{tag_limit}
-use Rattle.channel.specs.declared.Tag.{Tag}
 
 pub record ShortTags (types : Types) : Type 0 where
   pub short : (code : ℕ) → length (tag_of types code) ≤ tag_limit

@@ -26,10 +26,8 @@ use Rattle.chart.specs.Fraction.{fraction_of}
 use Rattle.chart.specs.FractionLaws.{Exact, fraction_exact}
 use Rattle.chart.specs.Root.{ceiling_root}
 use Rattle.chart.specs.RootLaws.{root_reaches, root_smallest, root_most}
-use Rattle.chart.specs.Mark.{refused_mark, mark_number, mark_point, mark_radius, channel_within, channel_centre, projected_centre, mark_of, chart_mark}
+use Rattle.chart.specs.Mark.{refused_mark, mark_number, mark_point, mark_radius, channel_within, channel_centre, projected_centre, mark_of, chart_mark, MarkOutcome, Dot, Disc}
 use Rattle.chart.specs.declared.Point.{Point}
-use Rattle.chart.specs.declared.Mark.{Mark}
-use Rattle.chart.specs.declared.Mark.TheVariants.{Dot, Disc}
 
 pub channel_known : (n channel : ℕ) → channel_within n channel ≡ true → (1 ≤ channel) × (channel ≤ n)
 channel_known n channel e =
@@ -45,7 +43,7 @@ disc_of D point zero some = absurd (some refl)
 disc_of D point (suc k) some = refl
 
 module _ (D : ℕ) (types : Types) (f : Figures) (h v : ℕ) where
-  chosen : (b : Bool) → Mark
+  chosen : (b : Bool) → MarkOutcome
   chosen b =
       require b (refused_mark outside_limits) (λ _. mark_of D (projected_centre D f h v) f.ball.scaled_squared_radius)
 
@@ -92,7 +90,7 @@ module _ (D : ℕ) (types : Types) (f : Figures) (h v : ℕ) where
 
 -- ---- 2.12: what an accepted chart shows of M and of x and y, X of its two channels
 
-pub record Shows (D M : ℕ) (x y : ℤ) (mark : Mark) : Type 0 where
+pub record Shows (D M : ℕ) (x y : ℤ) (mark : MarkOutcome) : Type 0 where
   -- the coordinates are x/D and y/D, the radius is the root over D, exactly
   pub horizontal : Exact D x (mark_point mark).horizontal
   pub vertical : Exact D y (mark_point mark).vertical

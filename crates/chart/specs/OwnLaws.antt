@@ -3,7 +3,6 @@
 --     drawn_charted, checked_charted    so is that of an accepted drawing, and of an accepted check
 use Rattle.std.specs.Prelude.{ℕ, ◌≤◌, ◌<◌, ◌≡◌, true, List, ℤ, length, take}
 use Rattle.integers.specs.Tests.{range_in}
-use Rattle.refusal.specs.declared.Outcome.TheVariants.{Accepted}
 use Rattle.limits.specs.Limits.{budget_limit}
 use Rattle.drawing.specs.Draw.{drawing}
 use Rattle.checking.specs.Check.{checking}
@@ -13,6 +12,7 @@ use Rattle.envelope.specs.FigureLaws.{drawn-within, checked-within}
 use Rattle.envelope.specs.declared.Figures.{Figures}
 use Rattle.chart.specs.Mark.{mark_number, chart_mark}
 use Rattle.chart.specs.MarkLaws.{accepts}
+use Rattle.refusal.specs.Outcome.{Accepted}
 
 module _ (D : ℕ) (types : Types) where
   pub figures_charted : (f : Figures) → figures_known D types f ≡ true → (h v : ℕ) → 1 ≤ h → h ≤ f.n → 1 ≤ v → v ≤ f.n

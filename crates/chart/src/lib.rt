@@ -3,23 +3,23 @@
 // holds 53.
 #![tactic(auto)]
 
-ghost use Rattle.std.specs.Prelude.{◌≡◌, ◌≤◌, ◌-◌, ◌^◌, nat_abs};
-ghost use Rattle.refusal.specs.Number.{outside_limits};
+ghost use Rattle.std.specs.Prelude.{◌≡◌, ◌≤◌, ◌-◌, ◌^◌, ◌&&◌, nat_abs};
 ghost use Rattle.limits.specs.Limits.{total, distance_limit};
 ghost use Rattle.geometry.specs.Places.{centre_of};
 ghost use Rattle.geometry.specs.Clauses.{CentreWithin};
 ghost use Rattle.channel.specs.Channel.{channel_types};
+ghost use Rattle.envelope.specs.Figures.{figures_known};
 ghost use Rattle.envelope.specs.Clauses.{lent_figures};
 ghost use Rattle.chart.specs.Fraction.{fraction_of};
-ghost use Rattle.chart.specs.Mark.{refused_mark, channel_within, mark_of, chart_mark};
+ghost use Rattle.chart.specs.Mark.{mark_outcome, channel_within, mark_of, chart_mark};
 
 mod root;
 
 use crate::root::ceiling_root;
 use channel::Code;
-use envelope::{Figures, Scalars, figures_known_lent, scalars_of};
+use envelope::{Figures, Scalars, figures_known_lent};
 use limits::TOTAL;
-use refusal::Refusal;
+use refusal::{Kind, Refusal};
 
 // A point of a chart: each coordinate is counted in steps of its channel.
 #[derive(Clone, Copy)]
@@ -33,17 +33,6 @@ pub struct Point {
 pub enum Mark {
     Dot(Point),
     Disc(Point, f64),
-    Refused(Refusal),
-}
-
-// The refusal 8.
-pub fn refused_mark() -> Mark
-    ensures { result ≡ refused_mark outside_limits }
-{
-    Mark::Refused(Refusal {
-        number: refusal::OUTSIDE_LIMITS,
-        line: 0,
-    })
 }
 
 // x divided by the total.
@@ -57,7 +46,7 @@ fn fraction(x: i64) -> f64
 // A dot where M is 0, else a disc.
 fn mark_of(point: Point, scaled_squared_radius: u64) -> Mark
     requires { scaled_squared_radius ≤ distance_limit total }
-    ensures { result ≡ mark_of total point scaled_squared_radius }
+    ensures { mark_outcome (Ok result) ≡ mark_of total point scaled_squared_radius }
 {
     if scaled_squared_radius == 0 {
         return Mark::Dot(point);
@@ -71,10 +60,23 @@ fn mark_of(point: Point, scaled_squared_radius: u64) -> Mark
 fn channel_within(n: usize, channel: usize) -> bool
     ensures { result ≡ channel_within n channel }
 {
-    if channel < 1 {
-        return false;
-    }
-    channel <= n
+    (1..=n).contains(&channel)
+}
+
+// Whether the figures are within their limits and both channels are among the n.
+fn chart_known(
+    scalars: Scalars,
+    codes: &[Code],
+    scaled_centre: &[i64],
+    horizontal: usize,
+    vertical: usize,
+) -> bool
+    ensures { result ≡ (figures_known total channel_types (lent_figures scalars codes.now scaled_centre.now)
+        && (channel_within scalars.n horizontal && channel_within scalars.n vertical)) }
+{
+    figures_known_lent(scalars, codes, scaled_centre)
+        && channel_within(scalars.n, horizontal)
+        && channel_within(scalars.n, vertical)
 }
 
 // X of a channel, counted from 1, divided by the total.
@@ -92,37 +94,28 @@ pub fn chart_lent(
     scaled_centre: &[i64],
     horizontal: usize,
     vertical: usize,
-) -> Mark
-    ensures { result ≡ chart_mark total channel_types (lent_figures scalars codes.now scaled_centre.now) horizontal vertical }
+) -> Result<Mark, Refusal>
+    ensures { mark_outcome result ≡ chart_mark total channel_types (lent_figures scalars codes.now scaled_centre.now) horizontal vertical }
 {
-    if !figures_known_lent(scalars, codes, scaled_centre) {
-        return refused_mark();
+    if !chart_known(scalars, codes, scaled_centre, horizontal, vertical) {
+        return Err(Kind::OutsideLimits.into());
     }
     let n = scalars.n;
-    if !channel_within(n, horizontal) {
-        return refused_mark();
-    }
-    if !channel_within(n, vertical) {
-        return refused_mark();
-    }
     let point = Point {
         horizontal: centre_fraction(n, scaled_centre, horizontal),
         vertical: centre_fraction(n, scaled_centre, vertical),
     };
-    mark_of(point, scalars.scaled_squared_radius)
+    Ok(mark_of(point, scalars.scaled_squared_radius))
 }
 
-// The same of figures as one value.
-pub fn chart(figures: Figures, horizontal: usize, vertical: usize) -> Mark
-    ensures { result ≡ chart_mark total channel_types figures horizontal vertical }
+// The same of figures as one value; C's calls lend codes and X.
+pub fn chart(figures: Figures, horizontal: usize, vertical: usize) -> Result<Mark, Refusal>
+    ensures { mark_outcome result ≡ chart_mark total channel_types figures horizontal vertical }
 {
-    let codes = figures.codes;
-    let ball = figures.ball;
-    let scaled_centre = ball.scaled_centre;
     chart_lent(
-        scalars_of(figures),
-        &codes,
-        &scaled_centre,
+        figures.scalars(),
+        &figures.codes,
+        &figures.ball.scaled_centre,
         horizontal,
         vertical,
     )

@@ -19,6 +19,7 @@ pub fn ceiling_root(scaled_squared_radius: u64) -> u64
 {
     let mut low: u64 = 0;
     let mut high: u64 = ROOT_MOST;
+    // The step is half of what is left.
     while low + 1 < high {
         let middle = (low + high) / 2;
         if middle * middle < scaled_squared_radius {

@@ -6,8 +6,7 @@ use Rattle.std.proofs.Common.{ap, add-one}
 use borrow.Author.Tests.{eq-eqb, ne_eqb}
 use Rattle.integers.specs.Sum.{sumℕ}
 use Rattle.refusal.specs.Number.{outside_limits, disagreement}
-use Rattle.refusal.specs.Outcome.{refused}
-use Rattle.refusal.specs.declared.Outcome.TheVariants.{Accepted}
+use Rattle.refusal.specs.Outcome.{refused, Accepted}
 use Rattle.geometry.specs.Move.{weight_of}
 use Rattle.geometry.specs.Table.{coordinate, rows_within}
 use Rattle.geometry.specs.Places.{weights_total}

@@ -1,12 +1,11 @@
 -- What the check promises.
 --     CheckPromise rows m n ws r      the definition's answer, and demand 3 where it is accepted
 use Rattle.std.specs.Prelude.{ℕ, ◌≡◌, List, ℤ}
-use Rattle.refusal.specs.declared.Outcome.TheVariants.{Accepted}
 use Rattle.geometry.specs.Table.{coordinate}
 use Rattle.limits.specs.Limits.{total, row_limit}
 use Rattle.ball.specs.Clauses.{Tight}
-use Rattle.checking.specs.Check.{checking}
-use Rattle.checking.specs.declared.Checked.{Checked}
+use Rattle.checking.specs.Check.{checking, Checked}
+use Rattle.refusal.specs.Outcome.{Accepted}
 
 -- a check is the defined one, and where it is accepted demand 3 holds of its figures
 pub record CheckPromise (rows : List ℤ) (m n : ℕ) (ws : List ℕ) (r : Checked) : Type 0 where

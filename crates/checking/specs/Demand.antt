@@ -7,19 +7,17 @@ use Rattle.std.specs.Prelude.{ℕ, ◌<◌, ◌≡◌, refl, true, ◌&&◌, Lis
 use Rattle.std.proofs.Common.{sym, ap, subst, lit<}
 use borrow.Author.Tests.{eqb-true}
 use Rattle.std.proofs.Math.Dec.{eqb}
-use Rattle.refusal.specs.Outcome.{number_of}
-use Rattle.refusal.specs.declared.Outcome.TheVariants.{Accepted}
+use Rattle.refusal.specs.Outcome.{number_of, Accepted}
 use Rattle.geometry.specs.Table.{coordinate, rows_within}
 use Rattle.limits.specs.Limits.{total, row_limit}
 use Rattle.geometry.specs.Places.{weights_total}
 use Rattle.integers.specs.Tests.{both}
 use Rattle.ball.specs.Demand.{weights_tight}
-use Rattle.checking.specs.Check.{checking}
+use Rattle.checking.specs.Check.{checking, Checked}
 use Rattle.ball.specs.Clauses.{Tight}
 use Rattle.checking.specs.Clauses.{CheckPromise}
 use Rattle.refusal.specs.OutcomeLaws.{each_answer, never_accepted, never_zero}
 use Rattle.checking.specs.CheckLaws.{checking-checked}
-use Rattle.checking.specs.declared.Checked.{Checked}
 
 module _ (D limit : ℕ) (rows : List ℤ) (m n : ℕ) (ws : List ℕ) where
   -- where the limits hold, the list has m places and the sum is D, the check accepts; the converse is `checking-accepted`

@@ -5,22 +5,15 @@ ghost use Rattle.std.specs.Prelude.{◌≡◌, ◌≤◌, true, length};
 ghost use Rattle.geometry.specs.Table.{rows_within};
 ghost use Rattle.limits.specs.Limits.{total, row_limit};
 ghost use Rattle.geometry.specs.Places.{weights_total};
-ghost use Rattle.checking.specs.Check.{not_checked, checking};
+ghost use Rattle.checking.specs.Check.{checking, checked_outcome};
 ghost use Rattle.checking.specs.Clauses.{CheckPromise};
 
-use ball::{Ball, ball_of, empty_ball};
+use ball::{Ball, ball_of};
 use figures::centre;
 use figures::table::rows_within;
 use limits::TOTAL;
 use moves::step::pair_of;
-use refusal::Outcome;
-
-// What a check answers. A refusal has every figure 0.
-#[derive(Clone, Copy)]
-pub struct Checked {
-    pub outcome: Outcome,
-    pub ball: Ball,
-}
+use refusal::{Kind, Refusal};
 
 // The sum of the first m weights.
 fn weights_total(weights: &[u32], m: usize) -> u64
@@ -28,47 +21,34 @@ fn weights_total(weights: &[u32], m: usize) -> u64
     ensures { result ≡ weights_total m weights.now }
 {
     let mut sum: u64 = 0;
-    let mut i = 0;
-    while i < m {
+    for i in 0..m {
         sum += weights[i] as u64;
-        i += 1;
     }
     sum
 }
 
-fn not_checked(outcome: Outcome) -> Checked
-    ensures { result ≡ not_checked outcome }
-{
-    let ball = empty_ball();
-    Checked { outcome, ball }
-}
-
 // The check of weights for rows that are known to be within limits. Refused: 8 for a list that is not of m places, then 12.
-pub fn check_weights(rows: &[i32], m: usize, n: usize, weights: &[u32]) -> Checked
+pub fn check_weights(rows: &[i32], m: usize, n: usize, weights: &[u32]) -> Result<Ball, Refusal>
     requires { rows_within row_limit rows.now m n ≡ true }
-    ensures { result ≡ checking total row_limit rows.now m n weights.now }
+    ensures { checked_outcome result ≡ checking total row_limit rows.now m n weights.now }
 {
     if weights.len() != m {
-        return not_checked(refusal::refused_at(refusal::OUTSIDE_LIMITS, 0));
+        return Err(Kind::OutsideLimits.into());
     }
     if weights_total(weights, m) != (TOTAL as u64) {
-        return not_checked(refusal::refused_at(refusal::DISAGREEMENT, 0));
+        return Err(Kind::Disagreement.into());
     }
     let scaled_centre = centre::scaled_centre(rows, m, n, weights);
     let pair = pair_of(rows, m, n, weights, &scaled_centre);
-    let ball = ball_of(rows, m, n, weights, scaled_centre, pair);
-    Checked {
-        outcome: Outcome::Accepted,
-        ball,
-    }
+    Ok(ball_of(rows, m, n, weights, scaled_centre, pair))
 }
 
 // The figures of the weights that the caller lends, one for each of the first m rows of n channels. Refused: 8, then 12.
-pub fn check(rows: &[i32], m: usize, n: usize, weights: &[u32]) -> Checked
-    ensures { CheckPromise rows.now m n weights.now result }
+pub fn check(rows: &[i32], m: usize, n: usize, weights: &[u32]) -> Result<Ball, Refusal>
+    ensures { CheckPromise rows.now m n weights.now (checked_outcome result) }
 {
     if !rows_within(rows, m, n) {
-        return not_checked(refusal::refused_at(refusal::OUTSIDE_LIMITS, 0));
+        return Err(Kind::OutsideLimits.into());
     }
     check_weights(rows, m, n, weights)
 }

@@ -1,5 +1,5 @@
 // The calls for C and Rust, on numbers, lent slices and small structs of numbers: each is the call of its area. `cundarivo_c` exports each by
-// its name.
+// its name once more, since no crate can cite a static library.
 #![tactic(auto)]
 
 pub mod alert_trial_text;

@@ -1,13 +1,13 @@
 -- What the loop of `run` keeps from its start to its end, and what is made of it.
 --     SoFar D rows m n budget weights scores pair moves     the moves so far; the scores and the pair are those of the weights, which sum to D
---     scores_none, keeping_none                             before the first score, and with no column kept
+--     scores_none                                           before the first score
 --     start_good, start_scored, begins                      the first weights sum to D, their scores, and all is kept at the start
 --     ends                                                  where the test for another move fails, the run is done
 --     more, apart                                           where it holds, a move is left and d² is above 0
 --     can_move, can_carry                                   what a turn asks of t
 --     moved_good, moved_scored, again                       the weights and the scores after a turn, and all is kept
 --     drew                                                  what `drawn_within` puts together
-use Prim.Native.Nat.{ℕ, ◌+◌, ◌*◌, ◌≤◌, ◌<◌}
+use Prim.Native.Nat.{ℕ, ◌+◌, ◌≤◌, ◌<◌}
 use mathlib.Core.Path.{◌≡◌, sym, ◌∙◌, ap, ap₂, subst}
 use mathlib.Core.Bool.{Bool, true, false, not, ◌&&◌}
 use mathlib.Core.Logic.{⊎_elim}
@@ -16,7 +16,6 @@ use native.Mathlib.Omega.{arith}
 use lib.Dec.{ltb, lit<}
 use lib.IntN.{ℤ}
 use lib.ListN.{length, replicate, length-replicate, get_or-replicate}
-use Rattle.refusal.specs.declared.Outcome.TheVariants.{Accepted}
 use Rattle.geometry.specs.Move.{is_settled, difference, separation, capped_step, transfer, settled, move_weight, moved, weight_of}
 use Rattle.geometry.specs.Scores.{weighted_squared_distance}
 use Rattle.geometry.specs.Table.{coordinate}
@@ -24,8 +23,7 @@ use Rattle.limits.specs.Limits.{total, row_limit}
 use Rattle.integers.specs.Reading.{Bounded}
 use Rattle.geometry.specs.Clauses.{Table, WeightsOf}
 use Rattle.geometry.proofs.MoveLaws.{separation_positive, move_weight_length, moved_by}
-use Rattle.scores.specs.Clauses.{ScoresWithin, column_limit, Keeping, Raised, Carriable, Carried}
-use Rattle.scores.specs.ColumnLaws.{columns_none}
+use Rattle.scores.specs.Clauses.{ScoresWithin, Raised, Carriable, Carried}
 use Rattle.moves.specs.Clauses.{Paired, Movable, Scored}
 use Rattle.moves.specs.ContractLaws.{movable, weights-moved, scored_first, carriable, scored_moved}
 use Rattle.moves.specs.declared.Pair.{Pair}
@@ -36,6 +34,7 @@ use Rattle.drawing.specs.Draw.{start, run_from, drawn}
 use Rattle.drawing.specs.Clauses.{Ran}
 use Rattle.drawing.specs.RunLaws.{Running, running-start, running_turn, running_stopped, running_spent}
 use Rattle.drawing.specs.DrawLaws.{goes_on, stops, start-length, start-total, start_first, start-rest}
+use Rattle.refusal.specs.Outcome.{Accepted}
 
 -- D is at most what the machine's numbers hold the figures of
 pub record SoFar (D : ℕ) (rows : List ℤ) (m n budget : ℕ) (weights scores : List ℕ) (pair : Pair) (moves : ℕ) : Type 0 where
@@ -50,22 +49,12 @@ pub record SoFar (D : ℕ) (rows : List ℤ) (m n budget : ℕ) (weights scores 
 
 -- ---- the start
 
--- no score yet, and no column kept
+-- no score yet
 pub scores_none : {m : ℕ} → m ≤ row_limit → ScoresWithin m (replicate row_limit 0)
 scores_none {m} most =
     record {
       places = omega (arith, length-replicate {A = ℕ} row_limit 0);
       most = λ i l. omega (arith, get_or-replicate {A = ℕ} row_limit i 0 0 (omega arith));
-    }
-
-pub keeping_none : {rows : List ℤ} {m n : ℕ} → m ≤ row_limit
-    → Keeping rows m n (replicate (column_limit * row_limit) 0) (replicate column_limit row_limit) (replicate row_limit 0) 0
-keeping_none most =
-    record {
-      all = columns_none (length-replicate {A = ℕ} column_limit row_limit) (length-replicate {A = ℕ} (column_limit * row_limit) 0)
-          (λ slot l. omega (arith, get_or-replicate {A = ℕ} column_limit slot row_limit 0 l));
-      by_row = length-replicate {A = ℕ} row_limit 0;
-      next_within = lit< tt;
     }
 
 module _ {rows : List ℤ} {m n : ℕ} (table : Table rows m n) {D : ℕ} {ws : List ℕ} (first : ws ≡ start row_limit D) where

@@ -2,21 +2,20 @@
 --     DrawPromise rows m n b r      the definition's answer; where it is accepted, the sum of its weights, demand 3 and the limits
 --     Ran D limit ..                the weights at the end of a run, the moves made, and the pair that ended it, by e
 use Rattle.std.specs.Prelude.{ℕ, ◌≤◌, ◌≡◌, false, List, ℤ}
-use Rattle.refusal.specs.declared.Outcome.TheVariants.{Accepted}
 use Rattle.geometry.specs.Move.{weight_of}
 use Rattle.geometry.specs.Scores.{weighted_squared_distance}
 use Rattle.geometry.specs.Table.{coordinate}
 use Rattle.geometry.specs.Places.{weights_total}
 use Rattle.limits.specs.Limits.{total, row_limit, budget_limit}
 use Rattle.ball.specs.Clauses.{Tight}
-use Rattle.drawing.specs.Draw.{drawing, start, run_from}
-use Rattle.drawing.specs.declared.Drawing.{Drawing}
+use Rattle.drawing.specs.Draw.{drawing, start, run_from, DrawingOutcome}
 use Rattle.geometry.specs.Clauses.{WeightsOf}
 use Rattle.moves.specs.Clauses.{Paired}
 use Rattle.drawing.specs.declared.Ended.{Ended}
+use Rattle.refusal.specs.Outcome.{Accepted}
 
 -- a drawing is the defined one; where it is accepted its weights sum to D, demand 3 holds of its figures, and they are within their limits
-pub record DrawPromise (rows : List ℤ) (m n b : ℕ) (r : Drawing) : Type 0 where
+pub record DrawPromise (rows : List ℤ) (m n b : ℕ) (r : DrawingOutcome) : Type 0 where
   pub is : r ≡ drawing total row_limit rows m n b
   -- 2.3: the weights keep their sum from the start to the end
   pub total_kept : r.outcome ≡ Accepted → weights_total m r.weights ≡ total

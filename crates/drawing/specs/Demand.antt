@@ -15,8 +15,7 @@ use Rattle.std.proofs.Common.{sym, ◌∙◌, ap, arith, le_trans, lit<}
 use Rattle.std.proofs.Math.Path.{subst}
 use Rattle.std.proofs.Math.Bool.{false}
 use borrow.Author.Tests.{leb-true}
-use Rattle.refusal.specs.Outcome.{number_of}
-use Rattle.refusal.specs.declared.Outcome.TheVariants.{Accepted}
+use Rattle.refusal.specs.Outcome.{number_of, Accepted}
 use Rattle.geometry.specs.Figures.{scaled_lower_bound}
 use Rattle.geometry.specs.Move.{settled, moved, weight_of}
 use Rattle.geometry.specs.Table.{coordinate, rows_within}
@@ -26,13 +25,12 @@ use Rattle.geometry.specs.TableLaws.{within_limits}
 use Rattle.geometry.proofs.MoveLaws.{moved_length, moved-total, lower_bound_rises, rise_some}
 use Rattle.ball.specs.Ball.{ball_of}
 use Rattle.ball.specs.Demand.{weights_tight}
-use Rattle.drawing.specs.Draw.{start, run_from, drawn, drawing}
+use Rattle.drawing.specs.Draw.{start, run_from, drawn, drawing, DrawingOutcome}
 use Rattle.ball.specs.Clauses.{Tight}
 use Rattle.drawing.specs.Clauses.{DrawPromise}
 use Rattle.drawing.specs.RunLaws.{run_keeps}
 use Rattle.drawing.specs.DrawLaws.{run_from_spent, start-length, start-total, drawing-drawn}
 use Rattle.refusal.specs.OutcomeLaws.{each_answer, never_accepted, never_zero}
-use Rattle.drawing.specs.declared.Drawing.{Drawing}
 
 -- ---- runs
 
@@ -70,12 +68,12 @@ module _ (D m n : ℕ) (a : ℕ → ℕ → ℤ) (positive : 0 < D) (some : 0 < 
 module _ (D limit : ℕ) (rows : List ℤ) (m n b : ℕ) where
   -- where the limits hold, and the budget is within its own, a drawing is accepted; the converse is `drawing-accepted`
   pub drawing_accepts : rows_within limit rows m n ≡ true → b ≤ budget_limit → (drawing D limit rows m n b).outcome ≡ Accepted
-  drawing_accepts h k = ap (λ (r : Drawing). r.outcome) (drawing-drawn D limit rows m n b h k)
+  drawing_accepts h k = ap (λ (r : DrawingOutcome). r.outcome) (drawing-drawn D limit rows m n b h k)
 
   pub drawing_zero : number_of (drawing D limit rows m n b).outcome ≡ 0 → (drawing D limit rows m n b).outcome ≡ Accepted
   unfolding drawing
   drawing_zero =
-      let Zero : Drawing → Type 0 = λ r. number_of r.outcome ≡ 0 → r.outcome ≡ Accepted in
+      let Zero : DrawingOutcome → Type 0 = λ r. number_of r.outcome ≡ 0 → r.outcome ≡ Accepted in
       each_answer Zero (rows_within limit rows m n) (λ _. never_zero) (λ _.
       each_answer Zero (leb b budget_limit) (λ _. never_zero) (λ _ _.
       refl))
@@ -85,7 +83,7 @@ module _ (D limit : ℕ) (rows : List ℤ) (m n b : ℕ) where
     pub drawing-accepted : (rows_within limit rows m n ≡ true) × (b ≤ budget_limit)
     unfolding drawing
     drawing-accepted =
-        let Says : Drawing → Type 0 = λ r. r.outcome ≡ Accepted → (rows_within limit rows m n ≡ true) × (b ≤ budget_limit) in
+        let Says : DrawingOutcome → Type 0 = λ r. r.outcome ≡ Accepted → (rows_within limit rows m n ≡ true) × (b ≤ budget_limit) in
         each_answer Says (rows_within limit rows m n) (λ _. never_accepted) (λ h.
         each_answer Says (leb b budget_limit) (λ _. never_accepted) (λ k _.
         (h, leb-true b budget_limit k))) accepted
@@ -98,7 +96,7 @@ module _ (D limit : ℕ) (rows : List ℤ) (m n b : ℕ) where
     unfolding ball_of
     drawing_spent =
         let spent = run_from_spent D m n (coordinate rows n) b 0 (start limit D) in
-        subst (λ (r : Drawing). (r.moves ≤ b) × (r.ball.settled ≡ false → r.moves ≡ b)) (sym drawing_is)
+        subst (λ (r : DrawingOutcome). (r.moves ≤ b) × (r.ball.settled ≡ false → r.moves ≡ b)) (sym drawing_is)
         (omega (arith, spent.most), λ h. omega (arith, spent.all h))
 
     module _ (positive : 0 < D) where
@@ -108,18 +106,18 @@ module _ (D limit : ℕ) (rows : List ℤ) (m n b : ℕ) where
           run_kept_lem D m n (coordinate rows n) positive table.some_row limit b table.rows_most
 
       pub drawing-total : weights_total m (drawing D limit rows m n b).weights ≡ D
-      drawing-total = subst (λ (r : Drawing). weights_total m r.weights ≡ D) (sym drawing_is) kept.sum
+      drawing-total = subst (λ (r : DrawingOutcome). weights_total m r.weights ≡ D) (sym drawing_is) kept.sum
 
       pub drawing_moves : (drawing D limit rows m n b).moves ≤ (drawing D limit rows m n b).ball.scaled_lower_bound
       unfolding ball_of
-      drawing_moves = subst (λ (r : Drawing). r.moves ≤ r.ball.scaled_lower_bound) (sym drawing_is) kept.risen
+      drawing_moves = subst (λ (r : DrawingOutcome). r.moves ≤ r.ball.scaled_lower_bound) (sym drawing_is) kept.risen
 
       pub drawing_tight : Tight D m n (coordinate rows n) (drawing D limit rows m n b).ball
       drawing_tight =
-          subst (λ (r : Drawing). Tight D m n (coordinate rows n) r.ball) (sym drawing_is)
+          subst (λ (r : DrawingOutcome). Tight D m n (coordinate rows n) r.ball) (sym drawing_is)
           (weights_tight D limit rows m n (run_from D m n (coordinate rows n) b 0 (start limit D)).weights positive drawing-accepted.0 kept.sum)
 
-pub draw_promise : (rows : List ℤ) (m n b : ℕ) (r : Drawing) → r ≡ drawing total row_limit rows m n b → DrawPromise rows m n b r
+pub draw_promise : (rows : List ℤ) (m n b : ℕ) (r : DrawingOutcome) → r ≡ drawing total row_limit rows m n b → DrawPromise rows m n b r
 draw_promise rows m n b r e =
     subst (DrawPromise rows m n b) (sym e)
     record {

@@ -10,15 +10,14 @@ use mathlib.Core.List.{List}
 use Rattle.std.proofs.Math.Decide.{dec_lt}
 use Rattle.std.proofs.Math.ListN.{length, length-replicate, get_or-eq_default}
 use Rattle.integers.specs.Sum.{sumℕ}
-use Rattle.refusal.specs.declared.Outcome.TheVariants.{Accepted}
 use Rattle.geometry.specs.Move.{settled, moved, weight_of}
 use Rattle.geometry.specs.Table.{coordinate, rows_within}
 use Rattle.limits.specs.Limits.{budget_limit}
 use Rattle.geometry.specs.Places.{weights_total}
 use Rattle.geometry.proofs.MoveLaws.{near_within, far_within, moved_length, moved_other}
 use Rattle.ball.specs.Ball.{ball_of}
-use Rattle.drawing.specs.Draw.{start, run_from, drawing}
-use Rattle.checking.specs.Check.{checking}
+use Rattle.drawing.specs.Draw.{start, run_from, drawing, DrawingOutcome}
+use Rattle.checking.specs.Check.{checking, Checked}
 use Rattle.drawing.specs.RunLaws.{run_keeps}
 use Rattle.drawing.specs.DrawLaws.{start-length, start-rest}
 use Rattle.refusal.specs.OutcomeLaws.{each_answer}
@@ -26,8 +25,7 @@ use Rattle.checking.specs.CheckLaws.{checking-checked}
 use Rattle.geometry.specs.TableLaws.{within_limits}
 use Rattle.drawing.specs.Demand.{drawing-accepted, drawing_is, drawing-total}
 use Rattle.ball.specs.declared.Ball.{Ball}
-use Rattle.drawing.specs.declared.Drawing.{Drawing}
-use Rattle.checking.specs.declared.Checked.{Checked}
+use Rattle.refusal.specs.Outcome.{Accepted}
 
 -- a run keeps the places of the first weights, and those past the m rows
 module _ (D m n : ℕ) (a : ℕ → ℕ → ℤ) (limit b : ℕ) where
@@ -50,7 +48,7 @@ module _ (D limit : ℕ) (rows : List ℤ) (m n b : ℕ) where
   pub drawing-length : length (drawing D limit rows m n b).weights ≡ limit
   unfolding drawing
   drawing-length =
-      let Long : Drawing → Type 0 = λ r. length r.weights ≡ limit in
+      let Long : DrawingOutcome → Type 0 = λ r. length r.weights ≡ limit in
       each_answer Long (rows_within limit rows m n) (λ _. length-replicate limit 0) (λ _.
       each_answer Long (leb b budget_limit) (λ _. length-replicate limit 0) (λ _.
       run_length D m n (coordinate rows n) limit b))
@@ -61,7 +59,7 @@ module _ (D limit : ℕ) (rows : List ℤ) (m n b : ℕ) where
 
     pub drawing-rest : (i : ℕ) → m ≤ i → weight_of (drawing D limit rows m n b).weights i ≡ 0
     drawing-rest i past =
-        subst (λ (r : Drawing). weight_of r.weights i ≡ 0) (sym (drawing_is D limit rows m n b accepted))
+        subst (λ (r : DrawingOutcome). weight_of r.weights i ≡ 0) (sym (drawing_is D limit rows m n b accepted))
         (run-rest D m n (coordinate rows n) limit b (within_limits limit rows m n within).some_row i past)
 
     pub drawing_checks : 0 < D → checking D limit rows m n (take m (drawing D limit rows m n b).weights)
@@ -70,7 +68,7 @@ module _ (D limit : ℕ) (rows : List ℤ) (m n b : ℕ) where
     drawing_checks positive =
         checking-checked D limit rows m n (take m ws) within places (ap (sumℕ m) same ∙ drawing-total D limit rows m n b accepted positive)
         ∙ ap (λ (w : ℕ → ℕ). answer (ball_of D m n (coordinate rows n) w)) same
-        ∙ subst (λ (r : Drawing). answer (ball_of D m n (coordinate rows n) (weight_of r.weights)) ≡ answer r.ball)
+        ∙ subst (λ (r : DrawingOutcome). answer (ball_of D m n (coordinate rows n) (weight_of r.weights)) ≡ answer r.ball)
         (sym (drawing_is D limit rows m n b accepted)) refl
       where
         ws : List ℕ

@@ -5,23 +5,21 @@ ghost use Rattle.std.specs.Prelude.{◌≡◌, not, ◌&&◌, ltb};
 ghost use Rattle.geometry.specs.Move.{is_settled};
 ghost use Rattle.geometry.specs.Table.{coordinate};
 ghost use Rattle.limits.specs.Limits.{total, row_limit};
-ghost use Rattle.drawing.specs.Draw.{start, run_from, drawn, not_drawn};
+ghost use Rattle.drawing.specs.Draw.{start, run_from, drawn, drawing_outcome};
 ghost use Rattle.geometry.specs.Clauses.{Table};
 ghost use Rattle.drawing.specs.Clauses.{Ran, DrawPromise};
 
-use ball::{Ball, ball_of_scores, empty_ball};
+use ball::{Ball, ball_of_scores};
 use figures::table::rows_within;
 use limits::{BUDGET_MOST, ROWS, TOTAL};
 use moves::Pair;
 use moves::step::{one_move, pair_of_scores, transfer_of};
-use refusal::Outcome;
-use scores::carried::{carry_scores, first_scores};
-use scores::kept::{COLUMN_PLACES, COLUMNS};
+use refusal::{Kind, Refusal};
+use scores::kept::KeptColumns;
 
-// What a drawing answers. Where accepted, `ball.settled` tells the ending: Settled, else Budget. A refusal has every figure 0.
+// A drawing; `ball.settled` tells the ending: Settled, else Budget.
 #[derive(Drop)]
 pub struct Drawing {
-    pub outcome: Outcome,
     pub ball: Ball,
     pub weights: [u32; ROWS],
     pub moves: u32,
@@ -48,10 +46,7 @@ fn all_on_first() -> [u32; ROWS]
 fn goes_on(difference: u64, separation: u64, moves: u32, budget: u32) -> bool
     ensures { result ≡ (not (is_settled difference separation) && ltb moves budget) }
 {
-    if difference <= separation {
-        return false;
-    }
-    moves < budget
+    separation < difference && moves < budget
 }
 
 // The moves. e of each row is carried from move to move, with columns of squared distances kept beside it.
@@ -61,30 +56,17 @@ fn run(rows: &[i32], m: usize, n: usize, budget: u32) -> Ended
 {
     let mut weights = all_on_first();
     let mut scores = [0u64; ROWS];
-    let mut columns = [0u32; COLUMN_PLACES];
-    let mut kept = [ROWS; COLUMNS];
-    let mut slots = [0usize; ROWS];
-    let mut next = first_scores(rows, m, n, &mut scores, &mut columns, &mut kept, &mut slots);
+    let mut columns = KeptColumns::new();
+    columns.first_scores(rows, m, n, &mut scores);
     let mut pair = pair_of_scores(rows, m, n, &weights, &scores);
     let mut moves: u32 = 0;
+    // Only the weights tell how often it turns.
     while goes_on(pair.difference, pair.separation, moves, budget) {
         let from = pair.near;
         let to = pair.far;
         let t = transfer_of(pair.difference, pair.separation, weights[from]);
         weights = one_move(weights, from, to, t);
-        next = carry_scores(
-            rows,
-            m,
-            n,
-            from,
-            to,
-            t,
-            &mut scores,
-            &mut columns,
-            &mut kept,
-            &mut slots,
-            next,
-        );
+        columns.carry_scores(rows, m, n, from, to, t, &mut scores);
         pair = pair_of_scores(rows, m, n, &weights, &scores);
         moves += 1;
     }
@@ -95,44 +77,28 @@ fn run(rows: &[i32], m: usize, n: usize, budget: u32) -> Ended
     }
 }
 
-fn not_drawn(outcome: Outcome) -> Drawing
-    ensures { result ≡ not_drawn row_limit outcome }
-{
-    let ball = empty_ball();
-    Drawing {
-        outcome,
-        ball,
-        weights: [0u32; ROWS],
-        moves: 0,
-    }
-}
-
 // The drawing of rows within limits with a budget within its limit.
 fn drawn_within(rows: &[i32], m: usize, n: usize, budget: u32) -> Drawing
     requires { Table rows.now m n }
-    ensures { result ≡ drawn total m n (coordinate rows.now n) (run_from total m n (coordinate rows.now n) budget 0 (start row_limit total)) }
+    ensures { drawing_outcome row_limit (Ok result) ≡ drawn total m n (coordinate rows.now n) (run_from total m n (coordinate rows.now n) budget 0 (start row_limit total)) }
 {
     let ended = run(rows, m, n, budget);
-    let weights = ended.weights;
-    let pair = ended.pair;
-    let ball = ball_of_scores(rows, m, n, &weights, pair);
     Drawing {
-        outcome: Outcome::Accepted,
-        ball,
-        weights,
+        ball: ball_of_scores(rows, m, n, &ended.weights, ended.pair),
+        weights: ended.weights,
         moves: ended.moves,
     }
 }
 
 // The drawing of the first m rows of n channels with a budget of moves. Refused: 8, then 9.
-pub fn draw(rows: &[i32], m: usize, n: usize, budget: u32) -> Drawing
-    ensures { DrawPromise rows.now m n budget result }
+pub fn draw(rows: &[i32], m: usize, n: usize, budget: u32) -> Result<Drawing, Refusal>
+    ensures { DrawPromise rows.now m n budget (drawing_outcome row_limit result) }
 {
     if !rows_within(rows, m, n) {
-        return not_drawn(refusal::refused_at(refusal::OUTSIDE_LIMITS, 0));
+        return Err(Kind::OutsideLimits.into());
     }
     if BUDGET_MOST < budget {
-        return not_drawn(refusal::refused_at(refusal::BUDGET_TOO_LARGE, 0));
+        return Err(Kind::BudgetTooLarge.into());
     }
-    drawn_within(rows, m, n, budget)
+    Ok(drawn_within(rows, m, n, budget))
 }

@@ -5,11 +5,10 @@
 ghost use Rattle.std.specs.Prelude.{◌+◌, ◌≤◌, ◌<◌, ◌≡◌, length, take};
 
 use ball::Ball;
-use case_io::{byte_at, four_bytes, least, print_number, raised, read_full, two_bytes};
-use checking::Checked;
+use case_io::{byte_at, digest, four_bytes, least, print_number, raised, read_full, two_bytes};
 use drawing::Drawing;
 use limits::{CENTRE_MOST, CHANNELS, PLACES, ROWS};
-use refusal::Outcome;
+use refusal::Refusal;
 use std::io::Stdout;
 
 // The most bytes of the input.
@@ -38,12 +37,8 @@ fn read_rows(text: &[u8], at: usize, count: usize, rows: &mut [i32]) -> usize
     ensures { (result ≤ length rows.new) × (result ≡ length (take result rows.new)) }
 {
     let end = least(count, rows.len());
-    let mut i = 0;
-    let mut from = at;
-    while i < end {
-        rows[i] = signed(two_bytes(text, from));
-        from += 2;
-        i += 1;
+    for i in 0..end {
+        rows[i] = signed(two_bytes(text, at + 2 * i));
     }
     end
 }
@@ -54,73 +49,72 @@ fn read_weights(text: &[u8], at: usize, count: usize, weights: &mut [u32]) -> us
     ensures { (result ≤ length weights.new) × (result ≡ length (take result weights.new)) }
 {
     let end = least(count, weights.len());
-    let mut i = 0;
-    let mut from = at;
-    while i < end {
-        weights[i] = four_bytes(text, from);
-        from += 4;
-        i += 1;
+    for i in 0..end {
+        weights[i] = four_bytes(text, at + 4 * i);
     }
     end
 }
 
-// The sum of place times (X there + limit), as the sum of the sums from each place on.
-fn centre_digest(centre: [i64; CHANNELS]) -> u64 {
-    let mut sum: u64 = 0;
-    let mut tail: u64 = 0;
-    let mut k = CHANNELS;
-    while 0 < k {
-        k -= 1;
-        tail += raised(centre[k], CENTRE_MOST);
-        sum += tail;
-    }
-    sum
+// The sum of place times (X there + limit).
+fn centre_digest(centre: &[i64; CHANNELS]) -> u64 {
+    digest(centre, |x| raised(x, CENTRE_MOST))
 }
 
-fn widened(weight: u32) -> u64
-    ensures { result < 4294967296 }
-{
-    weight as u64
-}
-
-// The sum of place times weight, in the same way.
-fn weights_digest(weights: [u32; ROWS]) -> u64 {
-    let mut sum: u64 = 0;
-    let mut tail: u64 = 0;
-    let mut i = ROWS;
-    while 0 < i {
-        i -= 1;
-        tail += widened(weights[i]);
-        sum += tail;
-    }
-    sum
+// The sum of place times weight.
+fn weights_digest(weights: &[u32; ROWS]) -> u64 {
+    digest(weights, |weight| weight as u64)
 }
 
 // The line of a case.
-fn print_line(stdout: &Stdout, outcome: Outcome, ball: Ball, moves: u32, weights_digest: u64) {
-    print_number(stdout, refusal::number_of(outcome) as u64, b',');
-    print_number(stdout, refusal::line_of(outcome) as u64, b',');
+fn print_line(
+    stdout: &Stdout,
+    number: u32,
+    line: u32,
+    ball: Ball,
+    moves: u32,
+    weights_digest: u64,
+) {
+    print_number(stdout, number as u64, b',');
+    print_number(stdout, line as u64, b',');
     print_number(stdout, ball.settled as u64, b',');
     print_number(stdout, moves as u64, b',');
     print_number(stdout, ball.scaled_squared_radius, b',');
     print_number(stdout, ball.scaled_lower_bound, b',');
-    let centre = ball.scaled_centre;
-    print_number(stdout, centre_digest(centre), b',');
+    print_number(stdout, centre_digest(&ball.scaled_centre), b',');
     print_number(stdout, weights_digest, b'\n');
 }
 
-fn print_drawing(stdout: &Stdout, drawing: Drawing) {
-    let outcome = drawing.outcome;
-    let ball = drawing.ball;
-    let weights = drawing.weights;
-    let digest = weights_digest(weights);
-    print_line(stdout, outcome, ball, drawing.moves, digest);
+// The line of a case that is refused: every figure is 0.
+fn print_refusal(stdout: &Stdout, refusal: Refusal) {
+    print_line(
+        stdout,
+        refusal.number(),
+        refusal.line,
+        Ball::default(),
+        0,
+        0,
+    );
 }
 
-fn print_check(stdout: &Stdout, checked: Checked) {
-    let outcome = checked.outcome;
-    let ball = checked.ball;
-    print_line(stdout, outcome, ball, 0, 0);
+fn print_drawing(stdout: &Stdout, answer: Result<Drawing, Refusal>) {
+    match answer {
+        Ok(drawing) => print_line(
+            stdout,
+            0,
+            0,
+            drawing.ball,
+            drawing.moves,
+            weights_digest(&drawing.weights),
+        ),
+        Err(refusal) => print_refusal(stdout, refusal),
+    }
+}
+
+fn print_check(stdout: &Stdout, answer: Result<Ball, Refusal>) {
+    match answer {
+        Ok(ball) => print_line(stdout, 0, 0, ball, 0, 0),
+        Err(refusal) => print_refusal(stdout, refusal),
+    }
 }
 
 // Runs the case at this byte, writes its line, and answers where the next one starts.
@@ -153,6 +147,7 @@ fn run_all(stdout: &Stdout, text: &[u8])
     requires { length text.now ≤ 65536 }
 {
     let mut at = 0;
+    // The step is a case, as long as it says.
     while at < text.len() && text[at] != END {
         at = run_case(stdout, text, at);
     }

@@ -19,7 +19,6 @@ use borrow.Author.Tests.{leb-true, le-leb}
 use Rattle.std.proofs.Math.Dec.{leb}
 use Rattle.std.proofs.Math.ListN.{length}
 use Rattle.integers.specs.Tests.{both, refuted, range_in}
-use Rattle.refusal.specs.declared.Outcome.TheVariants.{Accepted}
 use Rattle.geometry.specs.Table.{coordinate, places_within}
 use Rattle.limits.specs.Limits.{total, channel_limit, centre_limit, distance_limit, budget_limit}
 use Rattle.geometry.specs.Clauses.{CentreWithin}
@@ -27,20 +26,19 @@ use Rattle.geometry.specs.Places.{centre_of}
 use Rattle.geometry.specs.PlacesLaws.{length_centre_list}
 use Rattle.geometry.specs.TableLaws.{places_within_at, places_within_by, within_limits}
 use Rattle.ball.specs.Ball.{ball_of}
-use Rattle.drawing.specs.Draw.{drawing}
-use Rattle.checking.specs.Check.{checking}
+use Rattle.drawing.specs.Draw.{drawing, DrawingOutcome}
+use Rattle.checking.specs.Check.{checking, Checked}
 use Rattle.checking.specs.CheckLaws.{checking-checked}
 use Rattle.ball.specs.Clauses.{Tight}
 use Rattle.drawing.specs.Demand.{drawing-accepted, drawing_is, drawing_spent, drawing_tight}
 use Rattle.checking.specs.Demand.{checking-accepted, checking_tight}
 use Rattle.ball.specs.declared.Ball.{Ball}
-use Rattle.checking.specs.declared.Checked.{Checked}
-use Rattle.drawing.specs.declared.Drawing.{Drawing}
 use Rattle.channel.specs.Channel.{Types, codes_known}
 use Rattle.envelope.specs.Figures.{channel_codes, figures_within, codes_within, figures_known, figures_of, drawn_figures}
 use Rattle.envelope.specs.Clauses.{scalars_of, lent_figures, places_lent}
 use Rattle.envelope.specs.declared.Figures.{Figures}
 use Rattle.envelope.specs.declared.Scalars.{Scalars}
+use Rattle.refusal.specs.Outcome.{Accepted}
 
 -- ---- the limits, as a record
 
@@ -182,7 +180,7 @@ module _ (D : ℕ) (types : Types) (n : ℕ) (codes : List ℕ) (typed : n ≤ l
         let accepted = drawing-accepted D limit rows m n b h in
         let table = within_limits limit rows m n accepted.0 in
         let eight : length r.ball.scaled_centre ≡ channel_limit =
-        ap (λ (d : Drawing). length d.ball.scaled_centre) (drawing_is D limit rows m n b h) ∙ length_centre_list n _ in
+        ap (λ (d : DrawingOutcome). length d.ball.scaled_centre) (drawing_is D limit rows m n b h) ∙ length_centre_list n _ in
         tight_within m (coordinate rows n) r.ball r.moves (drawing_tight D limit rows m n b h positive)
         (omega (arith, eight, table.channels)) table.some_channel table.channels
         (le_trans (drawing_spent D limit rows m n b h).0 accepted.1)

@@ -14,10 +14,10 @@ use Rattle.limits.specs.Limits.{channel_limit, centre_limit, distance_limit, bud
 use Rattle.geometry.specs.Table.{places_within}
 use Rattle.ball.specs.Ball.{empty_ball}
 use Rattle.ball.specs.declared.Ball.{Ball}
-use Rattle.drawing.specs.declared.Drawing.{Drawing}
 use Rattle.channel.specs.Channel.{Types, codes_known}
 use Rattle.envelope.specs.declared.Figures.{Figures}
 use Rattle.envelope.specs.declared.Envelope.{Envelope}
+use Rattle.drawing.specs.Draw.{DrawingOutcome}
 
 -- places past n are not looked at
 abbrev pub channel_codes : Figures → List ℕ
@@ -55,8 +55,8 @@ abbrev pub empty_envelope : ℕ → Envelope
 empty_envelope limit = envelope_of empty_figures (replicate limit 0)
 
 -- of a drawing, for n channels of these codes
-abbrev pub drawn_figures : ℕ → List ℕ → Drawing → Figures
+abbrev pub drawn_figures : ℕ → List ℕ → DrawingOutcome → Figures
 drawn_figures n codes r = figures_of n codes r.ball r.moves
 
-abbrev pub drawn_envelope : ℕ → List ℕ → Drawing → Envelope
+abbrev pub drawn_envelope : ℕ → List ℕ → DrawingOutcome → Envelope
 drawn_envelope n codes r = envelope_of (drawn_figures n codes r) r.weights

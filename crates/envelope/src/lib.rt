@@ -7,10 +7,10 @@ ghost use Rattle.std.specs.Prelude.{◌≡◌, List, ℕ, ◌≤◌, leb, nat_ab
 ghost use Rattle.limits.specs.Limits.{total, row_limit, centre_limit};
 ghost use Rattle.geometry.specs.Table.{places_within};
 ghost use Rattle.channel.specs.Channel.{channel_types};
-ghost use Rattle.envelope.specs.Figures.{figures_within, figures_known, figures_of, empty_figures, envelope_of, empty_envelope};
+ghost use Rattle.envelope.specs.Figures.{figures_within, figures_known, figures_of, empty_figures, empty_envelope};
 ghost use Rattle.envelope.specs.Clauses.{places_lent, scalars_of, lent_figures};
 
-use ball::{Ball, empty_ball};
+use ball::Ball;
 use channel::Code;
 use limits::{BUDGET_MOST, CENTRE_MOST, CHANNELS, DISTANCE_MOST, ROWS};
 
@@ -42,60 +42,58 @@ pub struct Envelope {
     pub weights: [u32; ROWS],
 }
 
-// The figures of a ball for n channels of these codes.
-pub fn filled_figures(n: usize, codes: [Code; CHANNELS], ball: Ball, moves: u32) -> Figures
-    ensures { result ≡ figures_of n codes ball moves }
-{
-    Figures {
-        n,
-        codes,
-        ball,
-        moves,
+impl Figures {
+    // The figures of a ball for n channels of these codes.
+    pub fn new(n: usize, codes: [Code; CHANNELS], ball: Ball, moves: u32) -> Figures
+        ensures { result ≡ figures_of n codes ball moves }
+    {
+        Figures {
+            n,
+            codes,
+            ball,
+            moves,
+        }
+    }
+
+    // The single numbers of figures.
+    pub fn scalars(self) -> Scalars
+        ensures { result ≡ scalars_of self }
+    {
+        Scalars {
+            n: self.n,
+            scaled_squared_radius: self.ball.scaled_squared_radius,
+            scaled_lower_bound: self.ball.scaled_lower_bound,
+            settled: self.ball.settled,
+            moves: self.moves,
+        }
     }
 }
 
 // Every figure 0.
-pub fn empty_figures() -> Figures
-    ensures { result ≡ empty_figures }
-{
-    filled_figures(0, [0; CHANNELS], empty_ball(), 0)
-}
+impl Default for Figures {
+    ghost is_default = { λ f. f ≡ empty_figures };
 
-// The single numbers of figures.
-pub fn scalars_of(figures: Figures) -> Scalars
-    ensures { result ≡ scalars_of figures }
-{
-    let ball = figures.ball;
-    Scalars {
-        n: figures.n,
-        scaled_squared_radius: ball.scaled_squared_radius,
-        scaled_lower_bound: ball.scaled_lower_bound,
-        settled: ball.settled,
-        moves: figures.moves,
+    fn default() -> Figures {
+        Figures::new(0, [0; CHANNELS], Ball::default(), 0)
     }
 }
 
-// The envelope with these figures and weights.
-pub fn filled_envelope(figures: Figures, weights: [u32; ROWS]) -> Envelope
-    ensures { result ≡ envelope_of figures weights }
-{
-    Envelope { figures, weights }
-}
-
 // Every figure and weight 0.
-pub fn empty_envelope() -> Envelope
-    ensures { result ≡ empty_envelope row_limit }
-{
-    filled_envelope(empty_figures(), [0u32; ROWS])
+impl Default for Envelope {
+    ghost is_default = { λ e. e ≡ empty_envelope row_limit };
+
+    fn default() -> Envelope {
+        Envelope {
+            figures: Figures::default(),
+            weights: [0u32; ROWS],
+        }
+    }
 }
 
 fn place_within(x: i64) -> bool
     ensures { result ≡ leb (nat_abs x) (centre_limit total) }
 {
-    if x < -CENTRE_MOST {
-        return false;
-    }
-    x <= CENTRE_MOST
+    -CENTRE_MOST <= x && x <= CENTRE_MOST
 }
 
 // Whether the first n places of X are within their limit.
@@ -103,49 +101,27 @@ fn centre_within(scaled_centre: &[i64], n: usize) -> bool
     requires { n ≤ length scaled_centre.now }
     ensures { result ≡ places_within (centre_limit total) n scaled_centre.now }
 {
-    let mut k = 0;
-    while k < n {
-        let x = scaled_centre[k];
-        if !place_within(x) {
-            return false;
-        }
-        k += 1;
-    }
-    true
+    scaled_centre[..n].iter().all(|x| place_within(*x))
 }
 
 // Whether n, X, M, L and the moves are within their limits. The codes are not looked at.
+#[tactic(auto, using(std::proofs::lemmas::Bool::Decides::nat_tests), unfolding(crate::specs::Figures::figures_within))]
 fn figures_within(scalars: Scalars, scaled_centre: &[i64]) -> bool
     requires { scalars.n ≤ length scaled_centre.now }
     ensures { (codes : List ℕ) → result ≡ figures_within total (lent_figures scalars codes scaled_centre.now) }
 {
-    let n = scalars.n;
-    if n < 1 {
-        return false;
-    }
-    if CHANNELS < n {
-        return false;
-    }
-    if !centre_within(scaled_centre, n) {
-        return false;
-    }
-    if DISTANCE_MOST < scalars.scaled_squared_radius {
-        return false;
-    }
-    if DISTANCE_MOST < scalars.scaled_lower_bound {
-        return false;
-    }
-    scalars.moves <= BUDGET_MOST
+    (1..=CHANNELS).contains(&scalars.n)
+        && centre_within(scaled_centre, scalars.n)
+        && scalars.scaled_squared_radius <= DISTANCE_MOST
+        && scalars.scaled_lower_bound <= DISTANCE_MOST
+        && scalars.moves <= BUDGET_MOST
 }
 
 // Whether a code and a place of X are lent for each of the n channels.
 pub fn places_lent(n: usize, codes: &[Code], scaled_centre: &[i64]) -> bool
     ensures { result ≡ places_lent n codes.now scaled_centre.now }
 {
-    if codes.len() < n {
-        return false;
-    }
-    n <= scaled_centre.len()
+    n <= codes.len() && n <= scaled_centre.len()
 }
 
 // Whether every figure is within its limits, and each of the n codes is that of a type: what readings, records, charts and panels
@@ -153,21 +129,18 @@ pub fn places_lent(n: usize, codes: &[Code], scaled_centre: &[i64]) -> bool
 pub fn figures_known_lent(scalars: Scalars, codes: &[Code], scaled_centre: &[i64]) -> bool
     ensures { result ≡ figures_known total channel_types (lent_figures scalars codes.now scaled_centre.now) }
 {
-    if !places_lent(scalars.n, codes, scaled_centre) {
-        return false;
-    }
-    if !channel::codes_known(codes, scalars.n) {
-        return false;
-    }
-    figures_within(scalars, scaled_centre)
+    places_lent(scalars.n, codes, scaled_centre)
+        && channel::codes_known(codes, scalars.n)
+        && figures_within(scalars, scaled_centre)
 }
 
-// The same of figures as one value.
+// The same of figures as one value; C's calls lend codes and X.
 pub fn figures_known(figures: Figures) -> bool
     ensures { result ≡ figures_known total channel_types figures }
 {
-    let codes = figures.codes;
-    let ball = figures.ball;
-    let scaled_centre = ball.scaled_centre;
-    figures_known_lent(scalars_of(figures), &codes, &scaled_centre)
+    figures_known_lent(
+        figures.scalars(),
+        &figures.codes,
+        &figures.ball.scaled_centre,
+    )
 }

@@ -3,13 +3,11 @@
 --     envelope_in_numbers o ball moves     the figures of a drawing or a record in numbers, with the outcome o
 --     written_in_numbers r                 what writing a text answers, in numbers
 use Rattle.std.specs.Prelude.{ℕ, cond}
-use Rattle.refusal.specs.Outcome.{number_of, line_of}
-use Rattle.refusal.specs.declared.Outcome.{Outcome}
-use Rattle.refusal.specs.declared.Outcome.TheVariants.{Accepted, Refused}
-use Rattle.lent.specs.declared.TextWritten.{TextWritten}
+use Rattle.refusal.specs.Outcome.{number_of, line_of, Outcome, Accepted, Refused}
 use Rattle.ball.specs.declared.Ball.{Ball}
 use Rattle.export_answers.specs.declared.EnvelopeAnswer.{EnvelopeAnswer}
 use Rattle.export_answers.specs.declared.WrittenAnswer.{WrittenAnswer}
+use Rattle.lent.specs.Clauses.{TextWritten}
 
 -- a figure where accepted, else 0
 abbrev pub figure : Outcome → ℕ → ℕ

@@ -5,16 +5,14 @@
 use Rattle.std.specs.Prelude.{ℕ, ◌≤◌, ◌≡◌, refl, Bool, true, false, cond, List, ℤ}
 use Rattle.std.proofs.Common.{sym, ap, ◌∙◌, arith}
 use mir.Val.{bool_byte}
-use Rattle.refusal.specs.Outcome.{number_of}
-use Rattle.refusal.specs.declared.Outcome.{Outcome}
-use Rattle.refusal.specs.declared.Outcome.TheVariants.{Accepted}
+use Rattle.refusal.specs.Outcome.{number_of, Outcome, Accepted}
 use Rattle.limits.specs.Limits.{row_limit, channel_limit}
 use Rattle.lent.specs.Filled.{filled}
-use Rattle.lent.specs.declared.TextWritten.{TextWritten}
 use Rattle.geometry.specs.Table.{rows_within}
 use Rattle.geometry.specs.TableLaws.{within-table}
 use Rattle.export_answers.specs.Clauses.{written_in_numbers}
 use Rattle.export_answers.specs.declared.WrittenAnswer.{WrittenAnswer}
+use Rattle.lent.specs.Clauses.{TextWritten}
 
 pub as_number : (t : Bool) → bool_byte t ≡ cond t 1 0
 as_number true = refl

@@ -7,14 +7,12 @@ use mathlib.Core.List.{List}
 use lib.IntN.{ℤ}
 use Rattle.integers.specs.Tests.{nonzero}
 use Rattle.refusal.specs.Number.{outside_limits}
-use Rattle.refusal.specs.Outcome.{number_of, require}
-use Rattle.refusal.specs.declared.Outcome.TheVariants.{Accepted}
+use Rattle.refusal.specs.Outcome.{number_of, require, Accepted}
 use Rattle.limits.specs.Limits.{channel_limit}
 use Rattle.channel.specs.Channel.{Types}
 use Rattle.envelope.specs.Figures.{figures_known}
 use Rattle.envelope.specs.FigureLaws.{known-within}
-use Rattle.panel_steps.specs.Panel.{refused_panel, panel_of, panel_shown}
-use Rattle.panel_steps.specs.declared.PanelShown.{PanelShown}
+use Rattle.panel_steps.specs.Panel.{refused_panel, panel_of, panel_shown, PanelShown}
 use Rattle.export_figures.specs.Clauses.{ending_known, figures_given}
 use Rattle.export_chart.specs.Clauses.{panel_given}
 use Rattle.export_figures.specs.declared.FiguresGiven.{FiguresGiven}

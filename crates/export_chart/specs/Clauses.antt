@@ -8,23 +8,20 @@ use Rattle.std.specs.Prelude.{ℕ, List, leb, ℤ}
 use Rattle.refusal.specs.Number.{outside_limits}
 use Rattle.refusal.specs.Outcome.{number_of, line_of}
 use Rattle.channel.specs.Channel.{Types}
-use Rattle.chart.specs.Mark.{refused_mark, mark_number, mark_line, mark_point, mark_radius, chart_mark}
-use Rattle.panel_steps.specs.Panel.{refused_panel, panel_shown}
-use Rattle.chart.specs.declared.Mark.{Mark}
-use Rattle.chart.specs.declared.Mark.TheVariants.{Dot, Disc, Refused}
-use Rattle.panel_steps.specs.declared.PanelShown.{PanelShown}
+use Rattle.chart.specs.Mark.{refused_mark, mark_number, mark_line, mark_point, mark_radius, chart_mark, MarkOutcome, Dot, Disc, Refused}
+use Rattle.panel_steps.specs.Panel.{refused_panel, panel_shown, PanelShown}
 use Rattle.lent.specs.Clauses.{with_room}
 use Rattle.export_figures.specs.Clauses.{answer_given}
 use Rattle.export_figures.specs.declared.FiguresGiven.{FiguresGiven}
 use Rattle.export_chart.specs.declared.MarkAnswer.{MarkAnswer}
 use Rattle.export_chart.specs.declared.PanelAnswer.{PanelAnswer}
 
-abbrev pub mark_code : Mark → ℕ
+abbrev pub mark_code : MarkOutcome → ℕ
 mark_code (Dot point) = 1
 mark_code (Disc point radius) = 2
 mark_code (Refused r) = 0
 
-abbrev pub mark_in_numbers : Mark → MarkAnswer
+abbrev pub mark_in_numbers : MarkOutcome → MarkAnswer
 mark_in_numbers mark =
     record {
       number = mark_number mark;

@@ -1,17 +1,25 @@
 // The chart and the panel for C and Rust: the figures of an envelope are given in numbers, its codes and X in lent slices.
 #![tactic(auto)]
 
-ghost use Rattle.std.specs.Prelude.{◌≡◌, length};
+ghost use Rattle.std.specs.Prelude.{◌≡◌, leb, length};
 ghost use Rattle.limits.specs.Limits.{total};
+ghost use Rattle.refusal.specs.Number.{outside_limits};
+ghost use Rattle.refusal.specs.Outcome.{number_of, outcome_of};
 ghost use Rattle.lent.specs.Filled.{filled};
+ghost use Rattle.lent.specs.Clauses.{with_room};
 ghost use Rattle.channel.specs.Channel.{channel_types};
+ghost use Rattle.chart.specs.Mark.{mark_outcome, refused_mark, chart_mark};
+ghost use Rattle.panel_steps.specs.Panel.{panel_outcome};
+ghost use Rattle.export_figures.specs.Clauses.{answer_given};
 ghost use Rattle.export_chart.specs.Clauses.{mark_in_numbers, chart_answer, panel_given, panel_answer};
 
 use channel::Code;
-use chart::{Mark, refused_mark};
-use export_figures::{FiguresGiven, ending_known, scalars_given};
-use lent::{fill_table, with_room};
-use panel_steps::{PanelShown, refused_panel};
+use chart::{Mark, chart_lent};
+use export_figures::FiguresGiven;
+use lent::fill;
+use limits::CHANNELS;
+use panel_steps::panel_lent;
+use refusal::{Kind, Refusal};
 
 // the marks as numbers; 0 is none of them
 const DOT: u32 = 1;
@@ -39,35 +47,60 @@ pub struct PanelAnswer {
     pub line: u32,
 }
 
-fn mark_in_numbers(mark: Mark) -> MarkAnswer
-    ensures { result ≡ mark_in_numbers mark }
-{
-    match mark {
-        Mark::Dot(point) => MarkAnswer {
-            number: 0,
-            line: 0,
-            mark: DOT,
-            horizontal: point.horizontal,
-            vertical: point.vertical,
-            radius: 0.0,
-        },
-        Mark::Disc(point, radius) => MarkAnswer {
-            number: 0,
-            line: 0,
-            mark: DISC,
-            horizontal: point.horizontal,
-            vertical: point.vertical,
-            radius,
-        },
-        Mark::Refused(refusal) => MarkAnswer {
-            number: refusal.number,
-            line: refusal.line,
-            mark: 0,
-            horizontal: 0.0,
-            vertical: 0.0,
-            radius: 0.0,
-        },
+impl From<Result<Mark, Refusal>> for MarkAnswer {
+    ghost from_gives = { λ mark answer. answer ≡ mark_in_numbers (mark_outcome mark) };
+
+    fn from(mark: Result<Mark, Refusal>) -> MarkAnswer {
+        match mark {
+            Ok(Mark::Dot(point)) => MarkAnswer {
+                number: 0,
+                line: 0,
+                mark: DOT,
+                horizontal: point.horizontal,
+                vertical: point.vertical,
+                radius: 0.0,
+            },
+            Ok(Mark::Disc(point, radius)) => MarkAnswer {
+                number: 0,
+                line: 0,
+                mark: DISC,
+                horizontal: point.horizontal,
+                vertical: point.vertical,
+                radius,
+            },
+            Err(refusal) => MarkAnswer {
+                number: refusal.number(),
+                line: refusal.line,
+                mark: 0,
+                horizontal: 0.0,
+                vertical: 0.0,
+                radius: 0.0,
+            },
+        }
     }
+}
+
+// The mark of the figures that are given.
+fn chart_given(
+    figures: FiguresGiven,
+    codes: &[Code],
+    scaled_centre: &[i64],
+    horizontal: usize,
+    vertical: usize,
+) -> Result<Mark, Refusal>
+    ensures { mark_outcome result ≡ answer_given (λ f. chart_mark total channel_types f horizontal vertical) (refused_mark outside_limits)
+        figures codes.now scaled_centre.now }
+{
+    if !figures.ending_known() {
+        return Err(Kind::OutsideLimits.into());
+    }
+    chart_lent(
+        figures.scalars(),
+        codes,
+        scaled_centre,
+        horizontal,
+        vertical,
+    )
 }
 
 // The mark of an envelope on the chart of two channels counted from 1, the same one allowed. Of `codes` and `scaled_centre` the first
@@ -81,22 +114,42 @@ pub fn chart(
 ) -> MarkAnswer
     ensures { result ≡ chart_answer total channel_types figures codes.now scaled_centre.now horizontal vertical }
 {
-    if !ending_known(figures) {
-        return mark_in_numbers(refused_mark());
-    }
-    let scalars = scalars_given(figures);
-    let mark = chart::chart_lent(scalars, codes, scaled_centre, horizontal, vertical);
-    mark_in_numbers(mark)
+    chart_given(figures, codes, scaled_centre, horizontal, vertical).into()
 }
 
 // What the panel shows of the figures that are given.
-fn panel_given(figures: FiguresGiven, codes: &[Code], scaled_centre: &[i64]) -> PanelShown
-    ensures { result ≡ panel_given total channel_types figures codes.now scaled_centre.now }
+fn panel_given(
+    figures: FiguresGiven,
+    codes: &[Code],
+    scaled_centre: &[i64],
+) -> Result<[i32; CHANNELS], Refusal>
+    ensures { panel_outcome result ≡ panel_given total channel_types figures codes.now scaled_centre.now }
 {
-    if !ending_known(figures) {
-        return refused_panel();
+    if !figures.ending_known() {
+        return Err(Kind::OutsideLimits.into());
     }
-    panel_steps::panel_lent(scalars_given(figures), codes, scaled_centre)
+    panel_lent(figures.scalars(), codes, scaled_centre)
+}
+
+// Fills the first n places of `steps`, or leaves them as they were.
+fn panel_filled(
+    figures: FiguresGiven,
+    codes: &[Code],
+    scaled_centre: &[i64],
+    steps: &mut [i32],
+) -> Result<(), Refusal>
+    ensures outcome { outcome_of result ≡ with_room (leb figures.n (length steps.old))
+        (panel_given total channel_types figures codes.now scaled_centre.now).outcome }
+    ensures steps_filled { steps.new ≡ filled (number_of (outcome_of result)) figures.n
+        (panel_given total channel_types figures codes.now scaled_centre.now).steps steps.old }
+{
+    let shown = panel_given(figures, codes, scaled_centre)?;
+    let room = figures.n <= steps.len();
+    if !room {
+        return Err(Kind::BufferShort.into());
+    }
+    fill(steps, &shown, figures.n);
+    Ok(())
 }
 
 // The centre of an envelope to the nearest whole step, halves away from zero. It fills the first n places of `steps` where accepted, and
@@ -113,17 +166,9 @@ pub fn panel(
     ensures steps_filled { steps.new ≡ filled result.number figures.n
         (panel_given total channel_types figures codes.now scaled_centre.now).steps steps.old }
 {
-    let shown = panel_given(figures, codes, scaled_centre);
-    let answered = shown.outcome;
-    let outcome = with_room(answered, figures.n <= steps.len());
-    let answer = PanelAnswer {
-        number: refusal::number_of(outcome),
-        line: refusal::line_of(outcome),
-    };
-    if answer.number != 0 {
-        return answer;
+    let filled = panel_filled(figures, codes, scaled_centre, steps);
+    PanelAnswer {
+        number: refusal::number_of(&filled),
+        line: refusal::line_of(&filled),
     }
-    let source = shown.steps;
-    fill_table(steps, &source, figures.n);
-    answer
 }

@@ -18,22 +18,24 @@ pub struct FiguresGiven {
     pub moves: u32,
 }
 
-// Whether the ending is one of the two.
-pub fn ending_known(given: FiguresGiven) -> bool
-    ensures { result ≡ ending_known given }
-{
-    given.settled <= 1
-}
+impl FiguresGiven {
+    // Whether the ending is one of the two.
+    pub fn ending_known(self) -> bool
+        ensures { result ≡ ending_known self }
+    {
+        self.settled <= 1
+    }
 
-// The single numbers that are given.
-pub fn scalars_given(given: FiguresGiven) -> Scalars
-    ensures { result ≡ scalars_given given }
-{
-    Scalars {
-        n: given.n,
-        scaled_squared_radius: given.scaled_squared_radius,
-        scaled_lower_bound: given.scaled_lower_bound,
-        settled: given.settled == 1,
-        moves: given.moves,
+    // The single numbers that are given.
+    pub fn scalars(self) -> Scalars
+        ensures { result ≡ scalars_given self }
+    {
+        Scalars {
+            n: self.n,
+            scaled_squared_radius: self.scaled_squared_radius,
+            scaled_lower_bound: self.scaled_lower_bound,
+            settled: self.settled == 1,
+            moves: self.moves,
+        }
     }
 }

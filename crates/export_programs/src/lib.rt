@@ -15,7 +15,7 @@ ghost use Rattle.program_alerts.specs.Output.{alerts_output};
 ghost use Rattle.program_plain.specs.Output.{plain_output};
 ghost use Rattle.export_answers.specs.Clauses.{written_in_numbers};
 
-use export_answers::{WrittenAnswer, written_in_numbers};
+use export_answers::WrittenAnswer;
 
 // The program `draw`: the record of the drawing of a reference text's rows. Where the output fits, it fills the first `length` places
 // of `output` and no other. Refused, with `output` as it was: 13.
@@ -25,7 +25,7 @@ pub fn draw(reference: &[u8], output: &mut [u8]) -> WrittenAnswer
     ensures output_filled { output.new ≡ filled result.number result.length
         (draw_output total row_limit channel_types reference.now) output.old }
 {
-    written_in_numbers(program_draw::draw(reference, output))
+    program_draw::draw(reference, output).into()
 }
 
 // The program `verify`: whether a record agrees with a reference text. Output and refusal as for `draw`.
@@ -35,7 +35,7 @@ pub fn verify(reference: &[u8], record_text: &[u8], output: &mut [u8]) -> Writte
     ensures output_filled { output.new ≡ filled result.number result.length
         (verify_output total row_limit channel_types reference.now record_text.now) output.old }
 {
-    written_in_numbers(program_verify::verify(reference, record_text, output))
+    program_verify::verify(reference, record_text, output).into()
 }
 
 // The program `judge`: the verdict on each reading, against a record that agrees with a reference text. Output and refusal as for `draw`.
@@ -50,7 +50,7 @@ pub fn judge(
     ensures output_filled { output.new ≡ filled result.number result.length
         (judge_output total row_limit channel_types reference.now record_text.now readings.now) output.old }
 {
-    written_in_numbers(program_judge::judge(reference, record_text, readings, output))
+    program_judge::judge(reference, record_text, readings, output).into()
 }
 
 // The program `alerts`: settings tried on readings, against a record that agrees with a reference text. Output and refusal as for `draw`.
@@ -67,13 +67,7 @@ pub fn alerts(
         (alerts_output total row_limit channel_types reference.now record_text.now settings_text.now
         readings.now) output.old }
 {
-    written_in_numbers(program_alerts::alerts(
-        reference,
-        record_text,
-        settings_text,
-        readings,
-        output,
-    ))
+    program_alerts::alerts(reference, record_text, settings_text, readings, output).into()
 }
 
 // The program `panel`: the centre of a record that agrees with a reference text, in whole steps. Output and refusal as for `draw`.
@@ -83,7 +77,7 @@ pub fn panel(reference: &[u8], record_text: &[u8], output: &mut [u8]) -> Written
     ensures output_filled { output.new ≡ filled result.number result.length
         (panel_output total row_limit channel_types reference.now record_text.now) output.old }
 {
-    written_in_numbers(program_panel::panel(reference, record_text, output))
+    program_panel::panel(reference, record_text, output).into()
 }
 
 // The program `plain`: a reference text with each value plain. Output and refusal as for `draw`.
@@ -93,5 +87,5 @@ pub fn plain(reference: &[u8], output: &mut [u8]) -> WrittenAnswer
     ensures output_filled { output.new ≡ filled result.number result.length
         (plain_output row_limit channel_types reference.now) output.old }
 {
-    written_in_numbers(program_plain::plain(reference, output))
+    program_plain::plain(reference, output).into()
 }

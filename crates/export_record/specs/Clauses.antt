@@ -17,12 +17,12 @@ use Rattle.envelope.specs.Figures.{envelope_of}
 use Rattle.envelope.specs.declared.Figures.{Figures}
 use Rattle.envelope.specs.declared.Envelope.{Envelope}
 use Rattle.record_write.specs.Clauses.{record_written}
-use Rattle.record_read.specs.declared.EnvelopeRead.{EnvelopeRead}
 use Rattle.export_answers.specs.Clauses.{envelope_in_numbers, written_in_numbers}
 use Rattle.export_answers.specs.declared.EnvelopeAnswer.{EnvelopeAnswer}
 use Rattle.export_answers.specs.declared.WrittenAnswer.{WrittenAnswer}
 use Rattle.export_figures.specs.Clauses.{ending_known, figures_given}
 use Rattle.export_figures.specs.declared.FiguresGiven.{FiguresGiven}
+use Rattle.record_read.specs.Clauses.{EnvelopeRead}
 
 abbrev pub read_answer : EnvelopeRead → ℕ → ℕ → ℕ → ℕ → EnvelopeAnswer
 read_answer r m n centrePlaces weightsPlaces =

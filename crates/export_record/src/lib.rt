@@ -9,13 +9,14 @@ ghost use Rattle.record_print.specs.Printed.{record_text};
 ghost use Rattle.record_read.specs.Clauses.{record_read};
 ghost use Rattle.export_record.specs.Clauses.{envelope_whole, FiguresPlaces, figures_kept, envelope_given, read_answer, write_answer};
 
-use ball::filled_ball;
-use channel::{Code, fill_codes};
-use envelope::{Envelope, Figures, filled_envelope, filled_figures, places_lent};
-use export_answers::{EnvelopeAnswer, WrittenAnswer, hand_out, written_in_numbers};
-use export_figures::{FiguresGiven, ending_known, scalars_given};
-use lent::{fill_weights, not_written};
+use ball::Ball;
+use channel::Code;
+use envelope::{Envelope, Figures, places_lent};
+use export_answers::{EnvelopeAnswer, WrittenAnswer, hand_out};
+use export_figures::FiguresGiven;
+use lent::fill;
 use limits::{CHANNELS, ROWS};
+use refusal::{Kind, Refusal};
 
 // Reads a record against the first m rows of n channels and the first n codes. It fills the first n places of `scaled_centre`
 // with X and the first m places of `weights` where accepted, and writes nothing else. Refused: 8, 1, 11, 12, then 13.
@@ -36,22 +37,18 @@ pub fn read(
         (record_read total row_limit channel_types rows.now m n codes.now text.now).envelope.weights
         weights.old }
 {
-    let answer = record_read::read(rows, m, n, codes, text);
-    let outcome = answer.outcome;
-    let envelope = answer.envelope;
-    let figures = envelope.figures;
-    let ball = figures.ball;
-    let stated = envelope.weights;
-    hand_out(
-        outcome,
-        ball,
-        figures.moves,
-        &stated,
-        m,
-        n,
-        scaled_centre,
-        weights,
-    )
+    match record_read::read(rows, m, n, codes, text) {
+        Ok(envelope) => hand_out(
+            envelope.figures.ball,
+            envelope.figures.moves,
+            &envelope.weights,
+            m,
+            n,
+            scaled_centre,
+            weights,
+        ),
+        Err(refusal) => refusal.into(),
+    }
 }
 
 // Whether the ending is one of the two, n is within its limit with as many codes and places of X lent, and the weights are those of m
@@ -65,19 +62,11 @@ fn envelope_whole(
 ) -> bool
     ensures { result ≡ envelope_whole row_limit given codes.now scaled_centre.now weights.now m }
 {
-    if !ending_known(given) {
-        return false;
-    }
-    if CHANNELS < given.n {
-        return false;
-    }
-    if !places_lent(given.n, codes, scaled_centre) {
-        return false;
-    }
-    if weights.len() < m {
-        return false;
-    }
-    weights.len() <= ROWS
+    given.ending_known()
+        && given.n <= CHANNELS
+        && places_lent(given.n, codes, scaled_centre)
+        && m <= weights.len()
+        && weights.len() <= ROWS
 }
 
 // The first n places of X, those past n being 0. The loop is one over all places that ends early, so that the compiler unrolls it: a
@@ -87,13 +76,11 @@ fn centre_kept(scaled_centre: &[i64], n: usize) -> [i64; CHANNELS]
     ensures { result ≡ filled 0 n scaled_centre.now (replicate channel_limit (pos 0)) }
 {
     let mut kept = [0i64; CHANNELS];
-    let mut channel = 0;
-    while channel < CHANNELS {
+    for channel in 0..CHANNELS {
         if n <= channel {
             return kept;
         }
         kept[channel] = scaled_centre[channel];
-        channel += 1;
     }
     kept
 }
@@ -103,18 +90,17 @@ fn figures_kept(given: FiguresGiven, codes: &[Code], scaled_centre: &[i64]) -> F
     requires { FiguresPlaces given.n codes.now scaled_centre.now }
     ensures { result ≡ figures_kept given codes.now scaled_centre.now }
 {
-    let n = given.n;
+    let scalars = given.scalars();
     let mut kept_codes = [0 as Code; CHANNELS];
-    fill_codes(&mut kept_codes, codes, n);
-    let kept_centre = centre_kept(scaled_centre, n);
-    let scalars = scalars_given(given);
-    let ball = filled_ball(
-        kept_centre,
-        scalars.scaled_squared_radius,
-        scalars.scaled_lower_bound,
-        scalars.settled,
-    );
-    filled_figures(n, kept_codes, ball, scalars.moves)
+    fill(&mut kept_codes, codes, given.n);
+    let kept_centre = centre_kept(scaled_centre, given.n);
+    let ball = Ball {
+        scaled_centre: kept_centre,
+        scaled_squared_radius: scalars.scaled_squared_radius,
+        scaled_lower_bound: scalars.scaled_lower_bound,
+        settled: scalars.settled,
+    };
+    Figures::new(given.n, kept_codes, ball, scalars.moves)
 }
 
 // The envelope that is given; weights past those that are lent are 0.
@@ -129,8 +115,11 @@ fn envelope_given(
 {
     let figures = figures_kept(given, codes, scaled_centre);
     let mut kept = [0u32; ROWS];
-    fill_weights(&mut kept, weights, weights.len());
-    filled_envelope(figures, kept)
+    fill(&mut kept, weights, weights.len());
+    Envelope {
+        figures,
+        weights: kept,
+    }
 }
 
 // Writes the record of an envelope, drawn from the first m rows, to the first places of the buffer, and to no other. Of `codes` and
@@ -152,9 +141,10 @@ pub fn write(
         buffer.old }
 {
     if !envelope_whole(figures, codes, scaled_centre, weights, m) {
-        return written_in_numbers(not_written(refusal::OUTSIDE_LIMITS));
+        let refused: Result<usize, Refusal> = Err(Refusal::new(Kind::OutsideLimits, 0));
+        return refused.into();
     }
     let envelope = envelope_given(figures, codes, scaled_centre, weights);
     let written = record_write::write(envelope, rows, m, buffer);
-    written_in_numbers(written)
+    written.into()
 }

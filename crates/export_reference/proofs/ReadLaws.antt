@@ -3,6 +3,7 @@
 --     short_table, short_codes       the answers where a lent slice is too short
 --     answered                       the answer where both fit
 --     unwritten                      a lent slice that a refusal leaves
+--     told                           a refusal of the code without a line, in numbers
 --     table_filled, codes-filled     what the lent slices hold where both fit
 use Prim.Native.Nat.{ℕ, zero, suc, ◌*◌, ◌≤◌, ◌<◌}
 use mathlib.Core.Path.{◌≡◌, refl, sym, ap, ap₂, ◌∙◌, subst}
@@ -15,16 +16,19 @@ use lib.IntN.{ℤ}
 use lib.ListN.{length, take, drop}
 use lib.Seq.{take_at, length-take-le}
 use Rattle.refusal.specs.Number.{table_short, buffer_short}
-use Rattle.refusal.specs.Outcome.{number_of, line_of, refused, require}
+use Rattle.refusal.specs.Outcome.{number_of, line_of, refused, require, kind_number}
+use Rattle.refusal.specs.OutcomeLaws.{kind_nonzero}
+use Rattle.refusal.specs.declared.Kind.{Kind}
+use Rattle.refusal.specs.declared.Refusal.{Refusal}
+use Rattle.std.specs.Prelude.{Err}
 use Rattle.limits.specs.Limits.{row_limit}
 use Rattle.lent.specs.Filled.{filled, filled-refused}
 use Rattle.channel.specs.Channel.{channel_types}
 use Rattle.reference.specs.Reference.{content}
 use Rattle.reference_rows.specs.ReferenceText.{channel_count, row_count, table_of}
 use Rattle.reference_rows.specs.Rows.{Content, faulty, sound}
-use Rattle.reference.specs.Clauses.{refused_reference, answer_of, with_table, reference_read, values_in}
+use Rattle.reference.specs.Clauses.{refused_reference, reference_outcome, answer_of, with_table, reference_read, values_in, ReferenceOutcome}
 use Rattle.reference.specs.ContractLaws.{table_fits, table_too_short}
-use Rattle.reference.specs.declared.read.Reference.{Reference}
 use Rattle.export_reference.specs.declared.ReferenceAnswer.{ReferenceAnswer}
 use Rattle.export_reference.specs.Clauses.{reference_in_numbers, reference_answer, refused_answer}
 
@@ -55,12 +59,17 @@ codes_of_lem (faulty zero line) lent = refl
 codes_of_lem (faulty (suc number) line) lent = refl
 codes_of_lem (sound found) lent = refl
 
-pub unwritten : {A : Type 0} (a : ReferenceAnswer) (k count : ℕ) (source lent : List A) → a ≡ refused_answer (suc k)
-    → lent ≡ filled a.number count source lent
-unwritten a k count source lent e =
-    filled-refused a.number count source lent (λ z. let n : suc k ≡ 0 = sym (ap (λ (x : ReferenceAnswer). x.number) e) ∙ z in omega arith)
+pub unwritten : {A : Type 0} (r : Refusal) (a : ReferenceAnswer) (count : ℕ) (source lent : List A)
+    → a ≡ reference_in_numbers (reference_outcome (Err r)) → lent ≡ filled a.number count source lent
+unwritten r a count source lent e =
+    filled-refused a.number count source lent (λ z. kind_nonzero r.kind (sym (ap (λ (x : ReferenceAnswer). x.number) e) ∙ z))
 
-module _ (text : List ℕ) (r : Reference) (is : r ≡ answer_of (content row_limit channel_types text)) (tablePlaces codesPlaces : ℕ) where
+-- a refusal of the code without a line, in numbers
+pub told : {r : Refusal} {a : ReferenceAnswer} (kind : Kind) → r ≡ record { kind = kind; line = 0 }
+    → a ≡ reference_in_numbers (reference_outcome (Err r)) → a ≡ refused_answer (kind_number kind)
+told kind e f = f ∙ ap (λ (r : Refusal). reference_in_numbers (reference_outcome (Err r))) e
+
+module _ (text : List ℕ) (r : ReferenceOutcome) (is : r ≡ answer_of (content row_limit channel_types text)) (tablePlaces codesPlaces : ℕ) where
   defined : with_table tablePlaces r ≡ reference_read row_limit channel_types text tablePlaces
   unfolding reference_read
   defined = ap (with_table tablePlaces) is
@@ -70,7 +79,7 @@ module _ (text : List ℕ) (r : Reference) (is : r ≡ answer_of (content row_li
   short_table h =
       ap (λ (b : Bool). reference_in_numbers (require b (refused_reference (refused buffer_short)) (λ _. refused_reference (refused table_short))))
       (sym (leb-zero codesPlaces))
-      ∙ ap (λ (a : Reference). reference_answer a codesPlaces) (sym (table_too_short tablePlaces r h) ∙ defined)
+      ∙ ap (λ (a : ReferenceOutcome). reference_answer a codesPlaces) (sym (table_too_short tablePlaces r h) ∙ defined)
 
   module _ (h : r.m * r.n ≤ tablePlaces) where
     fits : r ≡ reference_read row_limit channel_types text tablePlaces
@@ -81,7 +90,7 @@ module _ (text : List ℕ) (r : Reference) (is : r ≡ answer_of (content row_li
         ≡ reference_answer (reference_read row_limit channel_types text tablePlaces) codesPlaces
     chosen e =
         ap (λ (b : Bool). reference_in_numbers (require b (refused_reference (refused buffer_short)) (λ _. r))) (sym e)
-        ∙ ap (λ (a : Reference). reference_answer a codesPlaces) fits
+        ∙ ap (λ (a : ReferenceOutcome). reference_answer a codesPlaces) fits
 
     pub short_codes : codesPlaces < r.n
         → refused_answer buffer_short ≡ reference_answer (reference_read row_limit channel_types text tablePlaces) codesPlaces
@@ -98,7 +107,7 @@ module _ (text : List ℕ) (r : Reference) (is : r ≡ answer_of (content row_li
           → filled 0 (r.m * r.n) values lent
           ≡ filled number (r.m * r.n) (values_in (content row_limit channel_types text)) lent
       table_filled first values lent l v =
-          subst (λ (a : Reference). length (values_in (content row_limit channel_types text)) ≡ a.m * a.n
+          subst (λ (a : ReferenceOutcome). length (values_in (content row_limit channel_types text)) ≡ a.m * a.n
           → values ≡ filled (number_of a.outcome) (a.m * a.n) (values_in (content row_limit channel_types text)) first
           → filled 0 (a.m * a.n) values lent ≡ filled (number_of a.outcome) (a.m * a.n) (values_in (content row_limit channel_types text)) lent)
           (sym is)
@@ -108,6 +117,6 @@ module _ (text : List ℕ) (r : Reference) (is : r ≡ answer_of (content row_li
       pub codes-filled : (lent : List ℕ)
           → filled 0 r.n r.codes lent ≡ filled number r.n (reference_read row_limit channel_types text tablePlaces).codes lent
       codes-filled lent =
-          subst (λ (a : Reference). filled 0 a.n a.codes lent ≡ filled (number_of a.outcome) a.n a.codes lent) (sym is)
+          subst (λ (a : ReferenceOutcome). filled 0 a.n a.codes lent ≡ filled (number_of a.outcome) a.n a.codes lent) (sym is)
           (codes_of_lem (content row_limit channel_types text) lent)
-          ∙ ap₂ (λ (x : ℕ) (y : List ℕ). filled x r.n y lent) (sym e) (ap (λ (a : Reference). a.codes) fits)
+          ∙ ap₂ (λ (x : ℕ) (y : List ℕ). filled x r.n y lent) (sym e) (ap (λ (a : ReferenceOutcome). a.codes) fits)

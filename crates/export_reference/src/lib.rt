@@ -2,23 +2,25 @@
 // its place in the text; where it is written, the text goes into such a slice.
 #![tactic(auto)]
 
-ghost use Rattle.std.specs.Prelude.{◌*◌, ◌≡◌, length};
+ghost use Rattle.std.specs.Prelude.{◌*◌, ◌≡◌, length, Ok, Err};
 ghost use Rattle.limits.specs.Limits.{row_limit};
 ghost use Rattle.lent.specs.Filled.{filled};
 ghost use Rattle.channel.specs.Channel.{channel_types};
 ghost use Rattle.reference.specs.Reference.{content};
-ghost use Rattle.reference.specs.Clauses.{reference_read, values_in};
+ghost use Rattle.reference.specs.Clauses.{reference_outcome, reference_read, values_in};
 ghost use Rattle.reference_label.specs.Clauses.{label_part};
 ghost use Rattle.reference_write.specs.Writing.{lent_table, lent_text};
 ghost use Rattle.reference_write.specs.Clauses.{written_text, reference_written};
 ghost use Rattle.export_answers.specs.Clauses.{written_in_numbers};
-ghost use Rattle.export_reference.specs.Clauses.{reference_answer, refused_answer, label_answer};
+ghost use Rattle.export_reference.specs.Clauses.{reference_in_numbers, reference_answer, label_answer};
 
-use channel::{Code, fill_codes};
-use export_answers::{WrittenAnswer, written_in_numbers};
-use lent::fill_table;
+use channel::Code;
+use export_answers::WrittenAnswer;
+use lent::fill;
 use limits::PLACES;
+use reference::read::Reference;
 use reference_label::label_part;
+use refusal::{Kind, Refusal};
 
 // What a reference text answers: number 0 where accepted, else the refusal's number and line, m and n being 0.
 #[repr(C)]
@@ -38,14 +40,29 @@ pub struct LabelAnswer {
     pub length: usize,
 }
 
-fn refused_answer(number: u32) -> ReferenceAnswer
-    ensures { result ≡ refused_answer number }
-{
-    ReferenceAnswer {
-        number,
-        line: 0,
-        m: 0,
-        n: 0,
+impl From<Reference> for ReferenceAnswer {
+    ghost from_gives = { λ r a. a ≡ reference_in_numbers (reference_outcome (Ok r)) };
+
+    fn from(reference: Reference) -> ReferenceAnswer {
+        ReferenceAnswer {
+            number: 0,
+            line: 0,
+            m: reference.m,
+            n: reference.n,
+        }
+    }
+}
+
+impl From<Refusal> for ReferenceAnswer {
+    ghost from_gives = { λ r a. a ≡ reference_in_numbers (reference_outcome (Err r)) };
+
+    fn from(refusal: Refusal) -> ReferenceAnswer {
+        ReferenceAnswer {
+            number: refusal.number(),
+            line: refusal.line,
+            m: 0,
+            n: 0,
+        }
     }
 }
 
@@ -61,36 +78,35 @@ pub fn read(text: &[u8], table: &mut [i32], codes: &mut [Code]) -> ReferenceAnsw
         (reference_read row_limit channel_types text.now (length table.old)).codes codes.old }
 {
     let mut values = [0i32; PLACES];
-    let reference = reference::read::read(text, &mut values);
-    let m = reference.m;
-    let n = reference.n;
-    let places = m * n;
+    let reference = match reference::read::read(text, &mut values) {
+        Ok(reference) => reference,
+        Err(refusal) => return refusal.into(),
+    };
+    let places = reference.m * reference.n;
     if table.len() < places {
-        return refused_answer(refusal::TABLE_SHORT);
+        return Refusal::from(Kind::TableShort).into();
     }
-    if codes.len() < n {
-        return refused_answer(refusal::BUFFER_SHORT);
+    if codes.len() < reference.n {
+        return Refusal::from(Kind::BufferShort).into();
     }
-    fill_table(table, &values, places);
-    let read_codes = reference.codes;
-    fill_codes(codes, &read_codes, n);
-    let outcome = reference.outcome;
-    ReferenceAnswer {
-        number: refusal::number_of(outcome),
-        line: refusal::line_of(outcome),
-        m,
-        n,
-    }
+    fill(table, &values, places);
+    fill(codes, &reference.codes, reference.n);
+    reference.into()
 }
 
 // Where the label of a row, counted from 1, stands in a reference text.
 pub fn label(text: &[u8], row: usize) -> LabelAnswer
     ensures { result ≡ label_answer (label_part row_limit channel_types text.now row) }
 {
-    let part = label_part(text, row);
-    LabelAnswer {
-        start: part.start,
-        length: part.length,
+    match label_part(text, row) {
+        Some(part) => LabelAnswer {
+            start: part.start,
+            length: part.length,
+        },
+        None => LabelAnswer {
+            start: 0,
+            length: 0,
+        },
     }
 }
 
@@ -114,5 +130,5 @@ pub fn write(
         (lent_table rows.now m n codes.now labels.now ends.now)))
         buffer.old }
 {
-    written_in_numbers(reference_write::write(rows, m, n, codes, labels, ends, buffer))
+    reference_write::write(rows, m, n, codes, labels, ends, buffer).into()
 }

@@ -1,24 +1,15 @@
 // L of a set of weights.
-ghost use Rattle.std.specs.Prelude.{◌≡◌, ◌*◌, ◌≤◌, nat_abs};
-ghost use Rattle.integers.specs.Sum.{square};
+ghost use Rattle.std.specs.Prelude.{◌≡◌, ◌*◌, ◌≤◌};
 ghost use Rattle.geometry.specs.Figures.{squared_length, weighted_squared_length, scaled_lower_bound};
 ghost use Rattle.geometry.specs.Move.{weight_of};
 ghost use Rattle.geometry.specs.Table.{coordinate};
-ghost use Rattle.limits.specs.Limits.{total, channel_limit, coordinate_limit, centre_limit, length_limit};
+ghost use Rattle.limits.specs.Limits.{total, channel_limit, centre_limit, length_limit};
 ghost use Rattle.geometry.specs.Places.{centre_of};
 ghost use Rattle.integers.specs.Reading.{Bounded};
 ghost use Rattle.geometry.specs.Clauses.{CentreWithin, RowAt, Table, WeightsWithin, WeightsOf, IsCentre};
 
+use crate::distance::square;
 use limits::{CHANNELS, TOTAL};
-
-// The square of a coordinate.
-fn square_of(a: i32) -> u64
-    requires { nat_abs a ≤ coordinate_limit }
-    ensures { Bounded (coordinate_limit * coordinate_limit) result (square a) }
-{
-    let d = a as i64;
-    (d * d) as u64
-}
 
 // The squared length of a row.
 fn squared_length(rows: &[i32], n: usize, row: usize) -> u64
@@ -27,32 +18,20 @@ fn squared_length(rows: &[i32], n: usize, row: usize) -> u64
 {
     let base = row * n;
     let mut sum: u64 = 0;
-    let mut k = 0;
-    while k < n {
-        sum += square_of(rows[base + k]);
-        k += 1;
+    for k in 0..n {
+        sum += square(rows[base + k] as i64);
     }
     sum
 }
 
-// The square of one coordinate of X.
-fn square_of_centre(scaled_centre: i64) -> u64
-    requires { nat_abs scaled_centre ≤ centre_limit total }
-    ensures { Bounded (centre_limit total * centre_limit total) result (square scaled_centre) }
-{
-    (scaled_centre * scaled_centre) as u64
-}
-
-// The squared length of X.
+// The squared length of X. One function over both types of places would need a ghost value of each place.
 fn squared_length_of_centre(scaled_centre: &[i64; CHANNELS], n: usize) -> u64
     requires { CentreWithin n scaled_centre.now × (n ≤ channel_limit) }
     ensures { Bounded (channel_limit * centre_limit total * centre_limit total) result (squared_length n (centre_of scaled_centre.now)) }
 {
     let mut sum: u64 = 0;
-    let mut k = 0;
-    while k < n {
-        sum += square_of_centre(scaled_centre[k]);
-        k += 1;
+    for k in 0..n {
+        sum += square(scaled_centre[k]);
     }
     sum
 }
@@ -63,10 +42,8 @@ fn weighted_squared_length(rows: &[i32], m: usize, n: usize, weights: &[u32]) ->
     ensures { Bounded (length_limit * total) result (weighted_squared_length m n (coordinate rows.now n) (weight_of weights.now)) }
 {
     let mut sum: u64 = 0;
-    let mut i = 0;
-    while i < m {
+    for i in 0..m {
         sum += (weights[i] as u64) * squared_length(rows, n, i);
-        i += 1;
     }
     sum
 }

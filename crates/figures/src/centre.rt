@@ -23,12 +23,8 @@ fn centre_of_channel(rows: &[i32], m: usize, n: usize, weights: &[u32], k: usize
     ensures { result ≡ scaled_centre (coordinate rows.now n) (weight_of weights.now) m k }
 {
     let mut sum: i64 = 0;
-    let mut at = k;
-    let mut i = 0;
-    while i < m {
-        sum += weighted(weights[i], rows[at]);
-        at += n;
-        i += 1;
+    for i in 0..m {
+        sum += weighted(weights[i], rows[i * n + k]);
     }
     sum
 }
@@ -39,10 +35,8 @@ pub fn scaled_centre(rows: &[i32], m: usize, n: usize, weights: &[u32]) -> [i64;
     ensures { IsCentre rows.now m n weights.now result }
 {
     let mut scaled_centre = [0i64; CHANNELS];
-    let mut k = 0;
-    while k < n {
+    for k in 0..n {
         scaled_centre[k] = centre_of_channel(rows, m, n, weights, k);
-        k += 1;
     }
     scaled_centre
 }

@@ -1,5 +1,5 @@
 // s of a row, and d² of two rows.
-ghost use Rattle.std.specs.Prelude.{◌*◌, ◌≤◌, nat_abs, pos, ◌-ℤ◌, ◌*ℤ◌};
+ghost use Rattle.std.specs.Prelude.{ℕ, ◌*◌, ◌≤◌, nat_abs, pos, ◌-ℤ◌, ◌*ℤ◌};
 ghost use Rattle.integers.specs.Sum.{square};
 ghost use Rattle.geometry.specs.Figures.{squared_distance, scaled_squared_distance};
 ghost use Rattle.geometry.specs.Table.{coordinate};
@@ -11,13 +11,21 @@ ghost use Rattle.geometry.specs.Clauses.{CentreWithin, RowAt};
 use crate::table::channels;
 use limits::TOTAL;
 
+// The square of a number.
+pub(crate) fn square(d: i64) -> u64
+    ghost most: { ℕ }
+    requires { (nat_abs d ≤ most) × (most ≤ 2 * centre_limit total) }
+    ensures { Bounded (most * most) result (square d) }
+{
+    (d * d) as u64
+}
+
 // One channel's part of s: the square of (D times coordinate - X).
 fn scaled_square(a: i32, scaled_centre: i64) -> u64
     requires { (nat_abs a ≤ coordinate_limit) × (nat_abs scaled_centre ≤ centre_limit total) }
     ensures { Bounded ((2 * centre_limit total) * (2 * centre_limit total)) result (square (pos total *ℤ a -ℤ scaled_centre)) }
 {
-    let d = (TOTAL as i64) * (a as i64) - scaled_centre;
-    (d * d) as u64
+    square((TOTAL as i64) * (a as i64) - scaled_centre)
 }
 
 // s of a row.
@@ -26,12 +34,9 @@ pub fn scaled_squared_distance(rows: &[i32], n: usize, row: usize, scaled_centre
     ensures { Bounded (distance_limit total) result (scaled_squared_distance total n (centre_of scaled_centre.now) (coordinate rows.now n row)) }
 {
     let base = row * n;
-    let count = channels(n);
     let mut sum: u64 = 0;
-    let mut k = 0;
-    while k < count {
+    for k in 0..channels(n) {
         sum += scaled_square(rows[base + k], scaled_centre[k]);
-        k += 1;
     }
     sum
 }
@@ -41,8 +46,7 @@ fn square_of_difference(a: i32, b: i32) -> u64
     requires { (nat_abs a ≤ coordinate_limit) × (nat_abs b ≤ coordinate_limit) }
     ensures { Bounded ((2 * coordinate_limit) * (2 * coordinate_limit)) result (square (a -ℤ b)) }
 {
-    let d = (a as i64) - (b as i64);
-    (d * d) as u64
+    square((a as i64) - (b as i64))
 }
 
 // d² of two rows.
@@ -52,12 +56,9 @@ pub fn squared_distance(rows: &[i32], n: usize, i: usize, j: usize) -> u64
 {
     let base = i * n;
     let other = j * n;
-    let count = channels(n);
     let mut sum: u64 = 0;
-    let mut k = 0;
-    while k < count {
+    for k in 0..channels(n) {
         sum += square_of_difference(rows[base + k], rows[other + k]);
-        k += 1;
     }
     sum
 }

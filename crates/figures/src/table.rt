@@ -16,10 +16,7 @@ pub fn channels(n: usize) -> usize
 fn coordinate_within(coordinate: i32) -> bool
     ensures { result ≡ leb (nat_abs coordinate) coordinate_limit }
 {
-    if coordinate < -COORDINATE_MOST {
-        return false;
-    }
-    coordinate <= COORDINATE_MOST
+    -COORDINATE_MOST <= coordinate && coordinate <= COORDINATE_MOST
 }
 
 // Whether the first `count` places are within the coordinate limit.
@@ -27,36 +24,17 @@ fn coordinates_within(rows: &[i32], count: usize) -> bool
     requires { count ≤ length rows.now }
     ensures { result ≡ places_within coordinate_limit count rows.now }
 {
-    let mut i = 0;
-    while i < count {
-        let coordinate = rows[i];
-        if !coordinate_within(coordinate) {
-            return false;
-        }
-        i += 1;
-    }
-    true
+    rows[..count]
+        .iter()
+        .all(|coordinate| coordinate_within(*coordinate))
 }
 
 // Whether m, n, the places and the coordinates are within limits. The product is formed once both factors are small.
 pub fn rows_within(rows: &[i32], m: usize, n: usize) -> bool
     ensures { result ≡ rows_within row_limit rows.now m n }
 {
-    if n < 1 {
-        return false;
-    }
-    if CHANNELS < n {
-        return false;
-    }
-    if m < 1 {
-        return false;
-    }
-    if ROWS < m {
-        return false;
-    }
-    let count = m * n;
-    if rows.len() < count {
-        return false;
-    }
-    coordinates_within(rows, count)
+    (1..=CHANNELS).contains(&n)
+        && (1..=ROWS).contains(&m)
+        && m * n <= rows.len()
+        && coordinates_within(rows, m * n)
 }

@@ -36,13 +36,7 @@ const DOTS: [u8; 3] = *b"...";
 fn is_shown(byte: u8) -> bool
     ensures { result ≡ is_shown byte }
 {
-    if byte < b'!' {
-        return false;
-    }
-    if byte > b'~' {
-        return false;
-    }
-    byte != BACKSLASH
+    (b'!'..=b'~').contains(&byte) && byte != BACKSLASH
 }
 
 fn hex_digit(digit: u8) -> u8
@@ -74,11 +68,7 @@ fn put_escaped_byte(out: &mut [u8], at: usize, byte: u8) -> usize
 fn shown_length(name: &[u8]) -> usize
     ensures { ShownLength name.now result }
 {
-    if name.len() < NAME_MOST {
-        name.len()
-    } else {
-        NAME_MOST
-    }
+    name.len().min(NAME_MOST)
 }
 
 // Prints the first bytes of a name from index `at` on, and answers the index after them.
@@ -88,10 +78,8 @@ pub fn put_start(out: &mut [u8], at: usize, name: &[u8]) -> usize
 {
     let count = shown_length(name);
     let mut end = at;
-    let mut i = 0;
-    while i < count {
-        end = put_escaped_byte(out, end, name[i]);
-        i += 1;
+    for byte in &name[..count] {
+        end = put_escaped_byte(out, end, *byte);
     }
     end
 }

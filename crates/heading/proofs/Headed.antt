@@ -1,12 +1,13 @@
 -- What the answer to a line says of it as a heading.
---     codes_in h       the codes of an answer
+--     codes_in h       the codes of a heading
 --     Headed          the line is a heading with these codes
---     headed          so it is where the answer has a channel
---     not_headed      the line is no heading where the answer has none
+--     headed          so it is where the answer is one
+--     not_headed      the line is no heading where the answer is none
 use Prim.Native.Nat.{ℕ, ◌≤◌}
 use mathlib.Core.Path.{◌≡◌, refl, sym, ap, ◌∙◌}
 use mathlib.Core.List.{List}
 use mathlib.Core.Option.{Option, none, some}
+use Rattle.std.specs.Prelude.{None, Some}
 use native.Mathlib.Omega.{arith}
 use lib.ListN.{length, take}
 use Rattle.lists.specs.Padded.{padded, padded-take, padded-length}
@@ -27,14 +28,15 @@ pub record Headed (word : List ℕ) (types : Types) (line : List ℕ) (h : Headi
   pub is : h ≡ record { n = length (codes_in h); codes = padded channel_limit (codes_in h) }
   pub codes : heading_of word channel_limit types line ≡ some (codes_in h)
 
-module _ (word : List ℕ) (types : Types) (line : List ℕ) (h : Heading) (e : h ≡ heading_read (heading_of word channel_limit types line)) where
-  pub headed : (h.n ≡ 0 → ⊥) → Headed word types line h
-  headed some_channel = go (heading_of word channel_limit types line) refl
+module _ (word : List ℕ) (types : Types) (line : List ℕ) where
+  pub headed : (h : Heading) → Some h ≡ heading_read (heading_of word channel_limit types line) → Headed word types line h
+  headed h e = go (heading_of word channel_limit types line) refl
     where
       go : (o : Option (List ℕ)) → heading_of word channel_limit types line ≡ o → Headed word types line h
-      go none f = absurd (some_channel (ap (λ g. g.n) (e ∙ ap heading_read f)))
+      go none f = let unlike : Some h ≡ None = e ∙ ap heading_read f in cc
       go (some codes) f =
-          let is : h ≡ record { n = length codes; codes = padded channel_limit codes } = e ∙ ap heading_read f in
+          let read : Some h ≡ Some (record { n = length codes; codes = padded channel_limit codes }) = e ∙ ap heading_read f in
+          let is : h ≡ record { n = length codes; codes = padded channel_limit codes } = cc in
           let within = heading-within types word channel_limit line codes f in
           let first : codes_in h ≡ codes = ap codes_in is ∙ padded-take channel_limit codes within.channels in
           let long : h.n ≡ length codes = ap (λ g. g.n) is in
@@ -46,12 +48,9 @@ module _ (word : List ℕ) (types : Types) (line : List ℕ) (h : Heading) (e : 
             codes = f ∙ ap some (sym first);
           }
 
-  pub not_headed : h.n ≡ 0 → heading_of word channel_limit types line ≡ none
-  not_headed no-channel = go (heading_of word channel_limit types line) refl
+  pub not_headed : None ≡ heading_read (heading_of word channel_limit types line) → heading_of word channel_limit types line ≡ none
+  not_headed e = go (heading_of word channel_limit types line) e
     where
-      go : (o : Option (List ℕ)) → heading_of word channel_limit types line ≡ o → heading_of word channel_limit types line ≡ none
-      go none f = f
-      go (some codes) f =
-          let within = heading-within types word channel_limit line codes f in
-          let long : h.n ≡ length codes = ap (λ g. g.n) (e ∙ ap heading_read f) in
-          absurd (omega arith)
+      go : (o : Option (List ℕ)) → None ≡ heading_read o → o ≡ none
+      go none f = refl
+      go (some codes) f = cc

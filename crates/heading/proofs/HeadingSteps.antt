@@ -1,5 +1,5 @@
 -- A heading that is read field by field.
---     counted, counted-read, count_most       the number of channels from what is kept of a number; it is within the limit
+--     no_count, some_count, count_most        the number of channels from what is read of it; it is within the limit
 --     TagsSoFar, tags_none, tags_next         the tags of a heading as they are read
 --     tags_unknown, tags_few, tags_many       what stops their walk
 --     tags_done                               the heading that it ends with
@@ -7,20 +7,19 @@
 --     heading_no_count, heading_tags          a heading without its n, and with it
 use Prim.Native.Nat.{ℕ, zero, suc, ◌+◌, ◌≤◌, ◌<◌}
 use mathlib.Core.Path.{◌≡◌, refl, sym, ap, ap₂, ◌∙◌}
-use mathlib.Core.Bool.{Bool, true, false, cond, and-false}
+use mathlib.Core.Bool.{Bool, true, false, cond, ◌&&◌, and-false}
 use mathlib.Core.List.{List, [], ◌∷◌, ◌++◌, append-nil}
 use mathlib.Core.Option.{Option, none, some, map}
+use Rattle.std.specs.Prelude.{None, Some}
 use native.Mathlib.Omega.{arith}
-use borrow.Author.Tests.{le-leb, lt-leb, eq-eqb, ne_eqb, leb-true, leb-false}
+use borrow.Author.Tests.{le-leb, eq-eqb, ne_eqb, leb-true}
 use lib.Dec.{eqb, leb}
 use lib.IntN.{ℤ, pos, negsuc}
 use lib.ListN.{length, set, length-append}
 use Rattle.limits.specs.Limits.{channel_limit}
 use Rattle.text.specs.Parts.{comma, cut, same}
 use Rattle.number.specs.Number.{plain}
-use Rattle.number.specs.Clauses.{magnitude_limit, saturated, plain_read}
-use Rattle.number.specs.declared.Plain.{Plain}
-use Rattle.number.specs.declared.Plain.TheVariants as written
+use Rattle.number.specs.Clauses.{above_zero, count_read, count_field}
 use Rattle.channel.specs.Channel.{Types, code_of}
 use Rattle.heading.specs.Heading.{count_within, stated_count, and_code, codes_of_tags, heading_fields, heading_of}
 use Rattle.integers.specs.Tests.{cond_same}
@@ -29,29 +28,39 @@ use Rattle.lists.specs.Padded.{padded, padded_next}
 use Rattle.heading.specs.Clauses.{heading_read, tags_read}
 use Rattle.heading.specs.declared.Heading.{Heading}
 
+-- ---- what is read of a number above 0
+
+none_zero : (n : ℕ) → None ≡ above_zero n → n ≡ 0
+none_zero zero h = refl
+none_zero (suc n) h = cc
+
+some_above : (n : ℕ) {k : ℕ} → Some k ≡ above_zero n → (n ≡ k) × (k ≡ 0 → ⊥)
+some_above zero h = cc
+some_above (suc n) {k} h = let e : k ≡ suc n = cc in (sym e, λ z. omega arith)
+
 -- ---- the number of channels
 
-abbrev pub counted : ℕ → Plain → ℕ
-counted limit written.Malformed = 0
-counted limit (written.Number true m) = 0
-counted limit (written.Number false m) = cond (leb m limit) m 0
-
-pub counted-read : (limit : ℕ) (field : List ℕ) → limit < magnitude_limit → counted limit (plain_read (plain field)) ≡ stated_count limit field
+counted : (limit : ℕ) (field : List ℕ) → count_field limit field ≡ above_zero (stated_count limit field)
 unfolding stated_count
-counted-read limit field h = go (plain field)
+counted limit field = go (plain field)
   where
-    go : (o : Option ℤ) → counted limit (plain_read o) ≡ count_within limit o
+    within : (n : ℕ) (t : Bool) → cond (leb 1 n && t) (Some n) None ≡ above_zero (cond t n 0)
+    within zero true = refl
+    within zero false = refl
+    within (suc n) true = rw (le-leb 1 (suc n) (omega arith))
+    within (suc n) false = ap (λ t. cond t (Some (suc n)) None) (and-false (leb 1 (suc n)))
+
+    go : (o : Option ℤ) → count_read limit o ≡ above_zero (count_within limit o)
     go none = refl
     go (some (negsuc k)) = refl
-    go (some (pos n)) = within (leb n limit) refl
-      where
-        within : (t : Bool) → leb n limit ≡ t → counted limit (plain_read (some (pos n))) ≡ count_within limit (some (pos n))
-        within true e =
-            let k : saturated n ≡ n = omega (arith, leb-true n limit e) in
-            ap (λ j. cond (leb j limit) j 0) k
-        within false e =
-            let k : leb (saturated n) limit ≡ false = lt-leb (saturated n) limit (omega (arith, leb-false n limit e)) in
-            ap (λ t. cond t (saturated n) 0) k ∙ sym (ap (λ t. cond t n 0) e)
+    go (some (pos n)) = within n (leb n limit)
+
+module _ (limit : ℕ) (field : List ℕ) where
+  pub no_count : None ≡ count_field limit field → stated_count limit field ≡ 0
+  no_count h = none_zero (stated_count limit field) (h ∙ counted limit field)
+
+  pub some_count : {n : ℕ} → Some n ≡ count_field limit field → (stated_count limit field ≡ n) × (n ≡ 0 → ⊥)
+  some_count h = some_above (stated_count limit field) (h ∙ counted limit field)
 
 pub count_most : (limit : ℕ) (field : List ℕ) → stated_count limit field ≤ limit
 unfolding stated_count
@@ -95,9 +104,9 @@ module _ (types : Types) (n : ℕ) (tags : List (List ℕ)) where
 
 module _ {types : Types} {n : ℕ} {tags rest : List (List ℕ)} {places : List ℕ} {i : ℕ} (f : TagsSoFar types n tags rest places i) where
   pub tags_next : {tag : List ℕ} {further : List (List ℕ)} {code : ℕ} → n ≤ channel_limit → i < n → rest ≡ tag ∷ further
-      → code ≡ code_of types tag → (code ≡ 0 → ⊥) → TagsSoFar types n tags further (set places i code) (i + 1)
+      → Some code ≡ above_zero (code_of types tag) → TagsSoFar types n tags further (set places i code) (i + 1)
   unfolding codes_of_tags
-  tags_next {tag} {further} {code} m h e k z =
+  tags_next {tag} {further} {code} m h e k =
       record {
         codes = f.codes ++ (code ∷ []);
         passed = length-append f.codes (code ∷ []) ∙ omega (arith, f.passed);
@@ -106,41 +115,40 @@ module _ {types : Types} {n : ℕ} {tags rest : List (List ℕ)} {places : List 
         counts = f.counts ∙ ap (λ l. i + length l) e ∙ omega arith;
         continues =
             f.continues ∙ ap (λ l. map (λ (l : List ℕ). f.codes ++ l) (codes_of_tags types l)) e
-            ∙ ap (λ d. map (λ (l : List ℕ). f.codes ++ l) (and_code d (codes_of_tags types further))) (sym k)
-            ∙ go code z (codes_of_tags types further);
+            ∙ go (code_of types tag) k (codes_of_tags types further);
       }
     where
-      go : (d : ℕ) → (d ≡ 0 → ⊥) → (o : Option (List ℕ))
-          → map (λ (l : List ℕ). f.codes ++ l) (and_code d o) ≡ map (λ (l : List ℕ). (f.codes ++ (d ∷ [])) ++ l) o
-      go zero z o = absurd (z refl)
-      go (suc d) z o = gathered_next f.codes (suc d) o
+      go : (d : ℕ) → Some code ≡ above_zero d → (o : Option (List ℕ))
+          → map (λ (l : List ℕ). f.codes ++ l) (and_code d o) ≡ map (λ (l : List ℕ). (f.codes ++ (code ∷ [])) ++ l) o
+      go zero z o = cc
+      go (suc d) z o = let is : code ≡ suc d = cc in rw is (gathered_next f.codes (suc d) o)
 
-  pub tags_unknown : {tag : List ℕ} {further : List (List ℕ)} → rest ≡ tag ∷ further → code_of types tag ≡ 0 → heading_read none ≡ tags_read types n tags
+  pub tags_unknown : {tag : List ℕ} {further : List (List ℕ)} → rest ≡ tag ∷ further → None ≡ above_zero (code_of types tag) → None ≡ tags_read types n tags
   unfolding codes_of_tags
   tags_unknown {tag} {further} e k =
       let o : codes_of_tags types tags ≡ none =
       f.continues ∙ ap (λ l. map (λ (l : List ℕ). f.codes ++ l) (codes_of_tags types l)) e
-      ∙ ap (λ d. map (λ (l : List ℕ). f.codes ++ l) (and_code d (codes_of_tags types further))) k in
+      ∙ ap (λ d. map (λ (l : List ℕ). f.codes ++ l) (and_code d (codes_of_tags types further))) (none_zero (code_of types tag) k) in
       sym (ap (λ o. heading_read (cond (eqb n (length tags)) o none)) o ∙ ap heading_read (cond_same (eqb n (length tags)) none))
 
-  other_count : (length tags ≡ n → ⊥) → heading_read none ≡ tags_read types n tags
+  other_count : (length tags ≡ n → ⊥) → None ≡ tags_read types n tags
   other_count h =
       sym (ap (λ t. heading_read (cond t (codes_of_tags types tags) none)) (ne_eqb n (length tags) (λ e. h (sym e))))
 
-  pub tags_few : i < n → rest ≡ [] → heading_read none ≡ tags_read types n tags
+  pub tags_few : i < n → rest ≡ [] → None ≡ tags_read types n tags
   tags_few h e = other_count (λ c. omega (arith, f.counts, ap (length {A = List ℕ}) e))
 
-  pub tags_many : {tag : List ℕ} {further : List (List ℕ)} → n ≤ i → rest ≡ tag ∷ further → heading_read none ≡ tags_read types n tags
+  pub tags_many : {tag : List ℕ} {further : List (List ℕ)} → n ≤ i → rest ≡ tag ∷ further → None ≡ tags_read types n tags
   tags_many h e = other_count (λ c. omega (arith, f.counts, ap (length {A = List ℕ}) e))
 
-  pub tags_done : n ≤ i → rest ≡ [] → record { n = n; codes = places } ≡ tags_read types n tags
+  pub tags_done : n ≤ i → rest ≡ [] → Some (record { n = n; codes = places }) ≡ tags_read types n tags
   unfolding codes_of_tags
   tags_done h e =
       let a : length f.codes ≡ n = omega (arith, f.passed) in
       let b : length tags ≡ n = omega (arith, f.counts, ap (length {A = List ℕ}) e) in
       let o : codes_of_tags types tags ≡ some f.codes =
       f.continues ∙ ap (λ l. map (λ (l : List ℕ). f.codes ++ l) (codes_of_tags types l)) e ∙ ap some (append-nil f.codes) in
-      ap₂ heading (sym a) f.placed ∙ sym (ap₂ (λ t o. heading_read (cond t o none)) (eq-eqb n (length tags) (sym b)) o)
+      ap₂ (λ n codes. Some (heading n codes)) (sym a) f.placed ∙ sym (ap₂ (λ t o. heading_read (cond t o none)) (eq-eqb n (length tags) (sym b)) o)
 
 -- ---- the line
 

@@ -1,10 +1,11 @@
 -- What the functions answer for a heading, and how many bytes a heading takes.
---     heading_read codes         a heading in eight places; n is 0 where there is none
+--     heading_read codes         a heading in eight places
 --     tags_read types n tags     the heading of n channels with these tags
 --     tag_room                   the room of a tag after a comma
 --     heading_room word n        the room that printing a heading of n channels asks for, where n takes that of any number
 --     heading_most word n        the most bytes of a heading of n channels
-use Rattle.std.specs.Prelude.{ℕ, ◌+◌, ◌*◌, cond, List, [], eqb, length}
+use Rattle.std.specs.Prelude.{ℕ, ◌+◌, ◌*◌, cond, List, eqb, length}
+use Rattle.std.specs.Prelude.{Option as Answer, None, Some}
 use Rattle.std.proofs.Math.Option.{Option, none, some}
 use Rattle.lists.specs.Padded.{padded}
 use Rattle.limits.specs.Limits.{channel_limit, tag_limit, channel_digits}
@@ -13,11 +14,11 @@ use Rattle.channel.specs.Channel.{Types}
 use Rattle.heading.specs.Heading.{codes_of_tags}
 use Rattle.heading.specs.declared.Heading.{Heading}
 
-abbrev pub heading_read : Option (List ℕ) → Heading
-heading_read none = record { n = 0; codes = padded channel_limit [] }
-heading_read (some codes) = record { n = length codes; codes = padded channel_limit codes }
+abbrev pub heading_read : Option (List ℕ) → Answer Heading
+heading_read none = None
+heading_read (some codes) = Some (record { n = length codes; codes = padded channel_limit codes })
 
-abbrev pub tags_read : Types → ℕ → List (List ℕ) → Heading
+abbrev pub tags_read : Types → ℕ → List (List ℕ) → Answer Heading
 tags_read types n tags = heading_read (cond (eqb n (length tags)) (codes_of_tags types tags) none)
 
 abbrev pub tag_room : ℕ

@@ -13,30 +13,24 @@ fn main(rt: HostRuntime) {
         return;
     }
     let mut reference = [0u8; TEXT_READ];
-    let reference_read = read_file(&rt, &NAME, 1, &mut reference);
-    if !reference_read.whole {
+    let Some(reference_length) = read_file(&rt, &NAME, 1, &mut reference) else {
         return;
-    }
+    };
     let mut record = [0u8; TEXT_READ];
-    let record_read = read_file(&rt, &NAME, 2, &mut record);
-    if !record_read.whole {
+    let Some(record_length) = read_file(&rt, &NAME, 2, &mut record) else {
         return;
-    }
+    };
     let mut readings = [0u8; TEXT_READ];
-    let readings_read = read_standard_input(&rt, &NAME, &mut readings);
-    if !readings_read.whole {
+    let Some(readings_length) = read_standard_input(&rt, &NAME, &mut readings) else {
         return;
-    }
-    let reference_length = reference_read.length;
-    let record_length = record_read.length;
-    let readings_length = readings_read.length;
+    };
     let mut output = [0u8; OUTPUT_MOST];
-    let answer = program_judge::judge(
+    if let Ok(length) = program_judge::judge(
         &reference[..reference_length],
         &record[..record_length],
         &readings[..readings_length],
         &mut output,
-    );
-    let length = answer.length;
-    write_output(&rt, &NAME, &output[..length]);
+    ) {
+        write_output(&rt, &NAME, &output[..length]);
+    }
 }

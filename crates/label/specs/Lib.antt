@@ -2,9 +2,9 @@
 pub mod Label
 pub mod Key
 pub mod LabelLaws
+pub mod RowLabel
 pub mod Clauses
 pub mod ContractLaws
-pub mod RowLabel
 pub mod RowLabelLaws
 pub mod Marks
 pub mod MarksLaws

@@ -5,35 +5,27 @@
 pub mod marks;
 pub mod row;
 
-ghost use Rattle.std.specs.Prelude.{◌≡◌, min, length};
+ghost use Rattle.std.specs.Prelude.{◌≡◌, ◌≤◌, cond, eqb, min, None, length};
 ghost use Rattle.limits.specs.Limits.{label_limit};
-ghost use Rattle.label.specs.Key.{label_digit, label_key};
-ghost use Rattle.label.specs.Clauses.{FirstFieldRead};
+ghost use Rattle.text.specs.Parts.{comma};
+ghost use Rattle.text.specs.Clauses.{PartEnd};
+ghost use Rattle.number.specs.Clauses.{above_zero};
+ghost use Rattle.label.specs.Key.{label_digit};
+ghost use Rattle.label.specs.Clauses.{FirstFieldRead, label_found};
 
 use limits::LABEL_MOST;
-use text::parts::field_end;
+use text::parts::{Field, field_end};
 
 // how many bytes may stand in a label: 26 letters, 10 digits and the hyphen
 const LABEL_BYTE_COUNT: u64 = 26 + 10 + 1;
 
 const KEY_BASE: u64 = LABEL_BYTE_COUNT + 1;
 
-// A line's first field: the number of the label that it is, 0 where it is none, and where it ends.
-#[derive(Clone, Copy)]
-pub struct LabelField {
-    pub key: u64,
-    pub end: usize,
-}
-
 // How many bytes from the start of a line on can be those of a label.
 fn label_room(line: &[u8]) -> usize
     ensures { result ≡ min (length line.now) label_limit }
 {
-    if line.len() < LABEL_MOST {
-        line.len()
-    } else {
-        LABEL_MOST
-    }
+    line.len().min(LABEL_MOST)
 }
 
 // 1 to 26 for a letter, 27 to 36 for a digit, 37 for a hyphen, 0 for any other byte. An arm for each byte is compiled to a table, which
@@ -83,35 +75,44 @@ fn label_digit(byte: u8) -> u64
     }
 }
 
-// The first field of a line, its bytes gone through once: past the bytes of a label it ends, or it is none.
-pub fn label_field(line: &[u8]) -> LabelField
-    ensures { FirstFieldRead label_key line.now result.key result.end }
+// The field that goes on at `at`, after bytes of a label with this number: a label where it ends there.
+fn label_ending(line: &[u8], at: usize, key: u64) -> Field<Option<u64>>
+    requires { at ≤ length line.now }
+    ensures ends { PartEnd comma line.now at result.end }
+    ensures is { result.value ≡ cond (eqb result.end at) (above_zero key) None }
+{
+    let end = field_end(line, at);
+    let value = if end == at && key != 0 {
+        Some(key)
+    } else {
+        None
+    };
+    Field { value, end }
+}
+
+// The number of the label that is a line's first field. Its bytes are gone through once: past the bytes of a label it ends, or it is none.
+pub fn label_field(line: &[u8]) -> Field<Option<u64>>
+    ensures { FirstFieldRead label_found line.now result.value result.end }
 {
     let room = label_room(line);
     let mut key: u64 = 0;
-    let mut i = 0;
-    while i < room {
+    for i in 0..room {
         let digit = label_digit(line[i]);
         if digit == 0 {
-            break;
+            return label_ending(line, i, key);
         }
         key = key * KEY_BASE + digit;
-        i += 1;
     }
-    let end = field_end(line, i);
-    if end != i {
-        return LabelField { key: 0, end };
-    }
-    LabelField { key, end }
+    label_ending(line, room, key)
 }
 
-// The number of a label, 0 where the field is no label: it is none where a comma stands in it.
-pub fn label_key(field: &[u8]) -> u64
-    ensures { result ≡ label_key field.now }
+// The number of a label: the field is none where a comma stands in it.
+pub fn label_key(field: &[u8]) -> Option<u64>
+    ensures { result ≡ label_found field.now }
 {
     let first = label_field(field);
     if first.end < field.len() {
-        return 0;
+        return None;
     }
-    first.key
+    first.value
 }

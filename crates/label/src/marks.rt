@@ -32,9 +32,5 @@ pub fn used_of_marked(keys: &[u64], count: usize, marks: &[bool], key: u64) -> b
     requires { (count ≤ length keys.now) × Marked marks.now (take count keys.now) }
     ensures { result ≡ key_used key (take count keys.now) }
 {
-    let place = mark_place(key);
-    if !marks[place] {
-        return false;
-    }
-    used(keys, count, key)
+    marks[mark_place(key)] && used(keys, count, key)
 }

@@ -1,20 +1,28 @@
 -- What is handed out to lent memory.
+--     TextWritten, text_outcome a      what writing a text answers, in numbers
 --     not_written o, written bytes     a text that is refused, and one of so many bytes that is written
 --     Part buffer count               the first places of a buffer, as they are handed on
 --     text_written text places         a text that is written to a buffer of so many places: 13, or the whole text
 --     with_room room o                 the outcome of a call that fills lent slices: 13, tested last, where they are too short
-use Rattle.std.specs.Prelude.{ℕ, ◌≤◌, ◌≡◌, Bool, List, leb, length, take}
+use Rattle.std.specs.Prelude.{ℕ, ◌≤◌, ◌≡◌, Bool, List, leb, length, take, Result, Ok, Err}
 use Rattle.refusal.specs.Number.{buffer_short}
-use Rattle.refusal.specs.Outcome.{refused, require}
-use Rattle.refusal.specs.declared.Outcome.{Outcome}
-use Rattle.refusal.specs.declared.Outcome.TheVariants.{Accepted, Refused}
-use Rattle.lent.specs.declared.TextWritten.{TextWritten}
+use Rattle.refusal.specs.Outcome.{refused, require, Outcome, Accepted, Refused, refusal_outcome}
+use Rattle.refusal.specs.declared.Refusal.{Refusal}
+
+-- what writing a text to a lent buffer answers, in numbers; in a refusal the length is 0
+pub record TextWritten : Type 0 where
+  pub outcome : Outcome
+  pub length : ℕ
 
 abbrev pub not_written : Outcome → TextWritten
 not_written o = record { outcome = o; length = 0 }
 
 abbrev pub written : ℕ → TextWritten
 written bytes = record { outcome = Accepted; length = bytes }
+
+abbrev pub text_outcome : Result ℕ Refusal → TextWritten
+text_outcome (Ok bytes) = written bytes
+text_outcome (Err r) = not_written (refusal_outcome r)
 
 -- the first places of a buffer, as they are handed on
 pub record Part (buffer : List ℕ) (count : ℕ) : Type 0 where

@@ -13,12 +13,9 @@ use Rattle.std.proofs.lemmas.Bool.{lt-leb}
 use Rattle.std.proofs.Math.Seq.{take-length}
 use Rattle.integers.specs.Tests.{nonzero}
 use Rattle.refusal.specs.Number.{buffer_short}
-use Rattle.refusal.specs.Outcome.{refused, number_of, require}
-use Rattle.refusal.specs.declared.Outcome.{Outcome}
-use Rattle.refusal.specs.declared.Outcome.TheVariants.{Accepted, Refused}
+use Rattle.refusal.specs.Outcome.{refused, number_of, require, Outcome, Accepted, Refused}
 use Rattle.lent.specs.Filled.{filled, filled-refused, filled-length}
-use Rattle.lent.specs.Clauses.{not_written, written, Part, text_written, with_room}
-use Rattle.lent.specs.declared.TextWritten.{TextWritten}
+use Rattle.lent.specs.Clauses.{not_written, written, Part, text_written, with_room, TextWritten}
 
 -- ---- a text
 

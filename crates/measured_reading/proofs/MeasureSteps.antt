@@ -20,10 +20,8 @@ use Rattle.envelope.specs.FigureLaws.{known-within}
 use Rattle.envelope.specs.declared.Figures.{Figures}
 use Rattle.reading.specs.Content.{reading_content, faulty, sound, distance_of}
 use Rattle.reading.specs.ContentLaws.{sound_accepted}
-use Rattle.reading.specs.Clauses.{DistanceRead}
-use Rattle.reading.specs.declared.Distance.{Distance}
-use Rattle.reading.specs.Verdict.{verdict_of}
-use Rattle.reading.specs.declared.Verdict.{Verdict}
+use Rattle.reading.specs.Clauses.{DistanceRead, Distance}
+use Rattle.reading.specs.Verdict.{verdict_of, VerdictOutcome}
 use Rattle.measured_reading.specs.Measured.{refused_measure, measure_of, MeasuredReading, measured, measure_answer}
 use Rattle.measured_reading.specs.MeasuredLaws.{measured_as_lem, answer_fits, answer_short, answer_none}
 
@@ -49,10 +47,10 @@ module _ (D : ℕ) (types : Types) (f : Figures) (text : List ℕ) (places : ℕ
     pub answered_short : places < f.n → measure_answer (measured D types f text) places ≡ refused_measure buffer_short 0
     answered_short h = answer_short (measured D types f text) places (omega (arith, ap (λ (r : MeasuredReading). length r.values) measures, as_many))
 
-    pub answered : f.n ≤ places → {v : Verdict} {s : ℕ} → v ≡ verdict_of s f.ball.scaled_squared_radius → s ≡ distance_of D f values
+    pub answered : f.n ≤ places → {v : VerdictOutcome} {s : ℕ} → v ≡ verdict_of s f.ball.scaled_squared_radius → s ≡ distance_of D f values
         → record { verdict = v; scaled_squared_distance = s } ≡ measure_answer (measured D types f text) places
     answered h by is-s =
-        ap₂ (λ (v : Verdict) (s : ℕ). record { verdict = v; scaled_squared_distance = s })
+        ap₂ (λ (v : VerdictOutcome) (s : ℕ). record { verdict = v; scaled_squared_distance = s })
         (by ∙ ap (λ (s : ℕ). verdict_of s f.ball.scaled_squared_radius) is-s) is-s
         ∙ sym (ap (λ (r : MeasuredReading). r.answer) measures)
         ∙ sym (answer_fits (measured D types f text) places (omega (arith, ap (λ (r : MeasuredReading). length r.values) measures, as_many)))

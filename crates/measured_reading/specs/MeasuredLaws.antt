@@ -16,19 +16,16 @@ use Rattle.std.proofs.lemmas.Bool.{lt-leb}
 use Rattle.std.proofs.lemmas.List.{length-map}
 use Rattle.integers.specs.Tests.{impossible, nonzero}
 use Rattle.refusal.specs.Number.{buffer_short}
-use Rattle.refusal.specs.Outcome.{require}
+use Rattle.refusal.specs.Outcome.{require, RefusalNumbers}
 use Rattle.refusal.specs.OutcomeLaws.{each_answer}
-use Rattle.refusal.specs.declared.Refusal.{Refusal}
 use Rattle.channel.specs.Channel.{Types}
 use Rattle.value.specs.Value.{reads}
 use Rattle.envelope.specs.declared.Figures.{Figures}
 use Rattle.reading.specs.Content.{Content, faulty, sound, reading_content, distance_of}
 use Rattle.reading.specs.ContentLaws.{Accepted}
-use Rattle.reading.specs.Verdict.{verdict_number, verdict_on, judged}
+use Rattle.reading.specs.Verdict.{verdict_number, verdict_on, judged, Quiet, Alarm, Refused}
 use Rattle.reading.specs.VerdictLaws.{quiet_or_alarm, accepted-printed, quiet_in_ball, alarm_off_ball}
-use Rattle.reading.specs.declared.Verdict.TheVariants.{Quiet, Alarm, Refused}
-use Rattle.measured_reading.specs.Measured.{refused_measure, MeasuredReading, not_measured, measured_as, measured, measure_answer}
-use Rattle.measured_reading.specs.declared.Measured.{Measured}
+use Rattle.measured_reading.specs.Measured.{refused_measure, MeasuredReading, not_measured, measured_as, measured, measure_answer, MeasuredOutcome}
 
 module _ (D : ℕ) (types : Types) (f : Figures) (text : List ℕ) where
   pub measured_as_lem : {c : Content} → reading_content D types f text ≡ c → measured D types f text ≡ measured_as D f c
@@ -86,12 +83,12 @@ module _ (D : ℕ) (types : Types) (f : Figures) (text : List ℕ) where
           λ h. measured-judged ∙ off-ball.1 (sym m.distance ∙ h.0, h.1),
         )
 
-  pub measured-refused : (r : Refusal) → judged D types f text ≡ Refused r → measured D types f text ≡ not_measured r.number r.line
+  pub measured-refused : (r : RefusalNumbers) → judged D types f text ≡ Refused r → measured D types f text ≡ not_measured r.number r.line
   unfolding measured judged
   measured-refused r = go (reading_content D types f text)
     where
       go : (c : Content) → verdict_on D f c ≡ Refused r → measured_as D f c ≡ not_measured r.number r.line
-      go (faulty k l) is = let same : record { number = k; line = l } ≡ r = cc in ap (λ (x : Refusal). not_measured x.number x.line) same
+      go (faulty k l) is = let same : record { number = k; line = l } ≡ r = cc in ap (λ (x : RefusalNumbers). not_measured x.number x.line) same
       go (sound values) is =
           quiet_or_alarm (distance_of D f values) f.ball.scaled_squared_radius
           (λ v. v ≡ Refused r → measured_as D f (sound values) ≡ not_measured r.number r.line) (λ e. impossible (cc)) (λ _ e. impossible (cc)) is
@@ -112,7 +109,7 @@ pub answer_none : (k l places : ℕ) → measure_answer (not_measured k l) place
 answer_none k l places = answer_fits (not_measured k l) places zero-le
 
 module _ (D : ℕ) (types : Types) (f : Figures) (text : List ℕ) (places : ℕ) where
-  pub refusal_before_room : (r : Refusal) → judged D types f text ≡ Refused r
+  pub refusal_before_room : (r : RefusalNumbers) → judged D types f text ≡ Refused r
       → measure_answer (measured D types f text) places ≡ refused_measure r.number r.line
   refusal_before_room r is =
       ap (λ (m : MeasuredReading). measure_answer m places) (measured-refused D types f text r is) ∙ answer_none r.number r.line places
@@ -120,7 +117,7 @@ module _ (D : ℕ) (types : Types) (f : Figures) (text : List ℕ) (places : ℕ
   pub answer-accepted : verdict_number (measure_answer (measured D types f text) places).verdict ≡ 0
       → (f.n ≤ places) × Measures D types f text
   answer-accepted =
-      each_answer (λ (r : Measured). verdict_number r.verdict ≡ 0 → (f.n ≤ places) × Measures D types f text)
+      each_answer (λ (r : MeasuredOutcome). verdict_number r.verdict ≡ 0 → (f.n ≤ places) × Measures D types f text)
       (leb (length (measured D types f text).values) places)
       (λ _ h. nonzero h)
       (λ fits h.

@@ -8,30 +8,20 @@ ghost use Rattle.lent.specs.Filled.{filled};
 ghost use Rattle.channel.specs.Channel.{channel_types};
 ghost use Rattle.envelope.specs.Clauses.{lent_figures};
 ghost use Rattle.reading.specs.Verdict.{verdict_number};
-ghost use Rattle.measured_reading.specs.Measured.{refused_measure, measured, measure_answer};
+ghost use Rattle.measured_reading.specs.Measured.{measured_outcome, measured, measure_answer};
 
 use channel::Code;
-use envelope::{Figures, Scalars, scalars_of};
-use lent::fill_table;
+use envelope::{Figures, Scalars};
+use lent::fill;
 use limits::CHANNELS;
-use reading::{Distance, Verdict, distance_of_text, verdict_of};
-use refusal::Refusal;
+use reading::{Verdict, distance_of_text, verdict_of};
+use refusal::{Kind, Refusal};
 
-// The verdict on a reading and its s, which is 0 in a refusal.
+// The verdict on a reading and its s.
 #[derive(Clone, Copy)]
 pub struct Measured {
     pub verdict: Verdict,
     pub scaled_squared_distance: u64,
-}
-
-// The refusal with this number at this line.
-pub fn refused_measure(number: u32, line: u32) -> Measured
-    ensures { result ≡ refused_measure number line }
-{
-    Measured {
-        verdict: Verdict::Refused(Refusal { number, line }),
-        scaled_squared_distance: 0,
-    }
 }
 
 // The verdict on a text and its s, against the figures of an envelope whose codes and X are lent. It fills the first n places of `values`
@@ -42,10 +32,10 @@ pub fn measure_lent(
     scaled_centre: &[i64],
     text: &[u8],
     values: &mut [i32],
-) -> Measured
-    ensures answer { result ≡ measure_answer (measured total channel_types (lent_figures scalars codes.now scaled_centre.now)
+) -> Result<Measured, Refusal>
+    ensures answer { measured_outcome result ≡ measure_answer (measured total channel_types (lent_figures scalars codes.now scaled_centre.now)
         text.now) (length values.old) }
-    ensures values_filled { values.new ≡ filled (verdict_number result.verdict) scalars.n
+    ensures values_filled { values.new ≡ filled (verdict_number (measured_outcome result).verdict) scalars.n
         (measured total channel_types (lent_figures scalars codes.now scaled_centre.now) text.now).values
         values.old }
 {
@@ -62,31 +52,33 @@ pub fn measure_lent(
         text,
         &mut places,
     );
+    // an arm for a refusal in place of `?`: the edit a_4_answered_by_13 changes it
     match read {
-        Distance::Is(distance) => {
+        Ok(distance) => {
             if values.len() < n {
-                return refused_measure(refusal::BUFFER_SHORT, 0);
+                return Err(Kind::BufferShort.into());
             }
-            fill_table(values, &places, n);
-            let verdict = verdict_of(distance, scalars.scaled_squared_radius);
-            Measured {
-                verdict,
+            fill(values, &places, n);
+            Ok(Measured {
+                verdict: verdict_of(distance, scalars.scaled_squared_radius),
                 scaled_squared_distance: distance,
-            }
+            })
         }
-        Distance::Refused(refusal) => refused_measure(refusal.number, refusal.line),
+        Err(refusal) => Err(refusal),
     }
 }
 
-// The same against figures as one value.
-pub fn measure(figures: Figures, text: &[u8], values: &mut [i32]) -> Measured
-    ensures answer { result ≡ measure_answer (measured total channel_types figures text.now) (length values.old) }
-    ensures values_filled { values.new ≡ filled (verdict_number result.verdict) figures.n (measured total channel_types figures text.now).values
+// The same against figures as one value; C's calls lend codes and X.
+pub fn measure(figures: Figures, text: &[u8], values: &mut [i32]) -> Result<Measured, Refusal>
+    ensures answer { measured_outcome result ≡ measure_answer (measured total channel_types figures text.now) (length values.old) }
+    ensures values_filled { values.new ≡ filled (verdict_number (measured_outcome result).verdict) figures.n (measured total channel_types figures text.now).values
         values.old }
 {
-    let codes = figures.codes;
-    let ball = figures.ball;
-    let scaled_centre = ball.scaled_centre;
-    let scalars = scalars_of(figures);
-    measure_lent(scalars, &codes, &scaled_centre, text, values)
+    measure_lent(
+        figures.scalars(),
+        &figures.codes,
+        &figures.ball.scaled_centre,
+        text,
+        values,
+    )
 }

@@ -9,11 +9,9 @@ ghost use Rattle.message.specs.Message.{
   named_argument,
   excess_message,
   file_message,
-  standard_input,
-  standard_output,
   stream_message,
 };
-ghost use Rattle.message.specs.Clauses.{stream_room, program_room, argument_room, named_room, message_room};
+ghost use Rattle.message.specs.Clauses.{IndexFits, told, stream_room, program_room, argument_room, named_room, message_room};
 ghost use Rattle.file_name.specs.Clauses.{PutWithin};
 
 use file_name::{NAME_ROOM, START_ROOM, put_name, put_start};
@@ -36,6 +34,18 @@ const EXCESS: [u8; 15] = *b": one too many\n";
 // room for every message; the longest is that of an argument which is one too many, with these parts
 pub const MESSAGE_ROOM: usize = START_ROOM + 2 + 9 + NUMBER_ROOM + 1 + NAME_ROOM + 15;
 
+// What is told of an argument, by its index, counted from 1, and its bytes, of a file by its name, or of a stream. The first two are lines;
+// after the others a reason follows.
+#[derive(Clone, Copy, PartialEq, Eq, Debug)]
+pub enum Message<'a> {
+    MissingArgument(usize),
+    ExcessArgument(usize, &'a [u8]),
+    Argument(usize, &'a [u8]),
+    File(&'a [u8]),
+    StandardInput,
+    StandardOutput,
+}
+
 // Each of these prints a message at the start of a slice with room for it, and answers its length.
 fn put_program(out: &mut [u8], program: &[u8]) -> usize
     requires { program_room ≤ length out.old }
@@ -54,7 +64,7 @@ fn put_argument(out: &mut [u8], program: &[u8], index: usize) -> usize
     put_number(out, end, index as i64)
 }
 
-pub fn put_missing(out: &mut [u8], program: &[u8], index: usize) -> usize
+fn put_missing(out: &mut [u8], program: &[u8], index: usize) -> usize
     requires { (index < 2 ^ 63) × (message_room ≤ length out.old) }
     ensures { PutWithin message_room (missing_message program.now index) out.old 0 out.new result }
 {
@@ -71,7 +81,7 @@ pub fn put_named_argument(out: &mut [u8], program: &[u8], index: usize, name: &[
     put_name(out, start, name)
 }
 
-pub fn put_excess(out: &mut [u8], program: &[u8], index: usize, name: &[u8]) -> usize
+fn put_excess(out: &mut [u8], program: &[u8], index: usize, name: &[u8]) -> usize
     requires { (index < 2 ^ 63) × (message_room ≤ length out.old) }
     ensures { PutWithin message_room (excess_message program.now index name.now) out.old 0 out.new result }
 {
@@ -79,7 +89,7 @@ pub fn put_excess(out: &mut [u8], program: &[u8], index: usize, name: &[u8]) -> 
     put_bytes(out, end, &EXCESS)
 }
 
-pub fn put_file(out: &mut [u8], program: &[u8], name: &[u8]) -> usize
+fn put_file(out: &mut [u8], program: &[u8], name: &[u8]) -> usize
     requires { message_room ≤ length out.old }
     ensures { PutWithin message_room (file_message program.now name.now) out.old 0 out.new result }
 {
@@ -95,16 +105,16 @@ fn put_stream(out: &mut [u8], program: &[u8], stream: &[u8]) -> usize
     put_bytes(out, start, stream)
 }
 
-pub fn put_input(out: &mut [u8], program: &[u8]) -> usize
-    requires { message_room ≤ length out.old }
-    ensures { PutWithin message_room (stream_message program.now standard_input) out.old 0 out.new result }
+pub fn put_message(out: &mut [u8], program: &[u8], message: Message<'_>) -> usize
+    requires { IndexFits message × (message_room ≤ length out.old) }
+    ensures { PutWithin message_room (told program.now message.entry) out.old 0 out.new result }
 {
-    put_stream(out, program, &STANDARD_INPUT)
-}
-
-pub fn put_output(out: &mut [u8], program: &[u8]) -> usize
-    requires { message_room ≤ length out.old }
-    ensures { PutWithin message_room (stream_message program.now standard_output) out.old 0 out.new result }
-{
-    put_stream(out, program, &STANDARD_OUTPUT)
+    match message {
+        Message::MissingArgument(index) => put_missing(out, program, index),
+        Message::ExcessArgument(index, name) => put_excess(out, program, index, name),
+        Message::Argument(index, name) => put_named_argument(out, program, index, name),
+        Message::File(name) => put_file(out, program, name),
+        Message::StandardInput => put_stream(out, program, &STANDARD_INPUT),
+        Message::StandardOutput => put_stream(out, program, &STANDARD_OUTPUT),
+    }
 }

@@ -5,12 +5,11 @@
 --     far_score, near_score     the scores of the two rows that were found
 --     paired                    the two rows with g and d²
 use Prim.Native.Nat.{ℕ, ◌≤◌, ◌<◌}
-use mathlib.Core.Path.{◌≡◌, refl, sym, ◌∙◌, ap, ap₂}
+use mathlib.Core.Path.{◌≡◌, refl, sym, ◌∙◌, ap, ap₂, subst}
 use mathlib.Core.List.{List}
 use native.Mathlib.Omega.{arith}
 use lib.Dec.{ltb}
 use lib.IntN.{ℤ}
-use Rattle.integers.specs.Reading.{Bounded}
 use Rattle.geometry.specs.Figures.{squared_distance}
 use Rattle.geometry.specs.Select.{farthest, nearest}
 use Rattle.geometry.specs.Move.{far_row, near_row, difference, separation, weight_of}
@@ -18,9 +17,10 @@ use Rattle.geometry.specs.Table.{coordinate}
 use Rattle.geometry.specs.Clauses.{Table, WeightsOf}
 use Rattle.geometry.proofs.MoveLaws.{difference-within}
 use Rattle.geometry.specs.SelectLaws.{Picked, farthest_cong, farthest_mostℕ, nearest_cong}
-use Rattle.limits.specs.Limits.{separation_limit, total}
+use Rattle.limits.specs.Limits.{total}
 use Rattle.scores.specs.Clauses.{score_of}
-use Rattle.moves.specs.Clauses.{FoundRow, Paired}
+use Rattle.moves.specs.Clauses.{FoundRow, PairWith, Paired}
+use Rattle.moves.specs.declared.Pair.{Pair}
 use Rattle.moves.specs.declared.Selected.{Selected}
 
 pub found : {scores : List ℕ} {m pick row score : ℕ} → Picked (score_of scores) m pick row score
@@ -50,20 +50,17 @@ module _ {D : ℕ} (most : D ≤ total) {rows : List ℤ} {m n : ℕ} {ws scores
   pub near_score : near.score ≡ score (near_row D m n (coordinate rows n) (weight_of ws))
   near_score = k.score_is ∙ are near.row k.within ∙ ap score found-near
 
-  pub paired : {gap d : ℕ} → gap ≡ difference D m n (coordinate rows n) (weight_of ws)
-      → Bounded separation_limit d (squared_distance n (coordinate rows n far.row) (coordinate rows n near.row))
-      → Paired D rows m n ws score
-      (record { far = far.row; near = near.row; score = far.score; difference = gap; separation = d })
+  pub paired : {gap : ℕ} {r : Pair} → gap ≡ difference D m n (coordinate rows n) (weight_of ws) → PairWith rows n far near gap r → Paired D rows m n ws score r
   unfolding separation
-  paired differs b =
-      record {
+  paired {gap} {r} differs b =
+      subst (Paired D rows m n ws score) (sym b.is) record {
         far_is = found-far;
         near_is = found-near;
         score_is = far_score;
         difference_is = differs;
-        separation_is = b.is ∙ ap₂ (λ i j. squared_distance n (coordinate rows n i) (coordinate rows n j)) found-far found-near;
+        separation_is = b.separation_is ∙ ap₂ (λ i j. squared_distance n (coordinate rows n i) (coordinate rows n j)) found-far found-near;
         far_within = f.within;
         near_within = k.within;
         difference_most = omega (arith, differs, difference-within t g, most);
-        separation_most = b.most;
+        separation_most = b.separation_most;
       }

@@ -5,12 +5,14 @@
 --     no_score                               what is held as a score before the first row of weight above 0
 --     NearHeld scores ws m i held           what is held is the near row of the first i of m rows, with its score, if one of them has weight
 --     FoundRow scores m row r               the row that a pass over the scores found, and its score
+--     PairWith rows n far near gap r         two rows that were found, with the score of the first, a difference and d²
 --     Paired D rows m n ws score r          the far and the near row with the far row's score, g and d²
 --     Movable t from to ws                  both rows are in the list, and a u32 holds what each weight becomes
 --     Scored rows m n ws scores             the scores are e of the weights
 -- The equations take the total D; the bounds are those of the largest, `total`, which the machine's numbers hold.
 use Rattle.std.specs.Prelude.{ℕ, zero, suc, ◌+◌, ◌^◌, ◌≤◌, ◌<◌, ◌≡◌, Bool, true, ◌&&◌, List, ltb, ℤ, length}
 use Rattle.geometry.specs.Move.{far_row, near_row, difference, separation, weight_of}
+use Rattle.geometry.specs.Figures.{squared_distance}
 use Rattle.geometry.specs.Scores.{weighted_squared_distance}
 use Rattle.geometry.specs.SelectLaws.{FarSoFar, NearSoFar}
 use Rattle.geometry.specs.Table.{coordinate}
@@ -44,6 +46,12 @@ pub record FoundRow (scores : List ℕ) (m row : ℕ) (r : Selected) : Type 0 wh
   pub is : r.row ≡ row
   pub within : r.row < m
   pub score_is : r.score ≡ score_of scores r.row
+
+-- two rows that were found, with the score of the first, a difference and d²
+pub record PairWith (rows : List ℤ) (n : ℕ) (far near : Selected) (gap : ℕ) (r : Pair) : Type 0 where
+  pub is : r ≡ record { far = far.row; near = near.row; score = far.score; difference = gap; separation = r.separation }
+  pub separation_is : r.separation ≡ squared_distance n (coordinate rows n far.row) (coordinate rows n near.row)
+  pub separation_most : r.separation ≤ separation_limit
 
 -- the far and the near row with the far row's score, g and d²
 pub record Paired (D : ℕ) (rows : List ℤ) (m n : ℕ) (ws : List ℕ) (score : ℕ → ℕ) (r : Pair) : Type 0 where

@@ -15,9 +15,7 @@ pub fn fill_distances(rows: &[i32], m: usize, n: usize, scaled_centre: &[i64], s
     ensures { Placed (λ i. scaled_squared_distance total n (centre_of scaled_centre.now) (coordinate rows.now n i)) 0
         scores.old scores.new m }
 {
-    let mut i = 0;
-    while i < m {
+    for i in 0..m {
         scores[i] = scaled_squared_distance(rows, n, i, scaled_centre);
-        i += 1;
     }
 }

@@ -30,10 +30,8 @@ fn block_at_most(scores: &[u64], at: usize, best: u64) -> bool
     ensures { result ≡ each_from (λ i. not (ltb best (score_of scores.now i))) at block_rows }
 {
     let mut each = true;
-    let mut k = 0;
-    while k < BLOCK {
-        each = each & at_most(scores[at + k], best);
-        k += 1;
+    for k in 0..BLOCK {
+        each &= at_most(scores[at + k], best);
     }
     each
 }
@@ -44,31 +42,24 @@ fn block_without_weight(weights: &[u32], at: usize) -> bool
     ensures { result ≡ each_from (λ i. eqb (weight_of weights.now i) 0) at block_rows }
 {
     let mut each = true;
-    let mut k = 0;
-    while k < BLOCK {
-        each = each & (weights[at + k] == 0);
-        k += 1;
+    for k in 0..BLOCK {
+        each &= weights[at + k] == 0;
     }
     each
 }
 
 // The far row of the rows before `end`, where that of the rows before `from` is held.
-fn farther(scores: &[u64], from: usize, end: usize, held: Selected) -> Selected
+fn farther(scores: &[u64], from: usize, end: usize, mut held: Selected) -> Selected
     requires { FarHeld scores.now end from held × (end ≤ length scores.now) }
     ensures { FarHeld scores.now end end result }
 {
-    let mut row = held.row;
-    let mut score = held.score;
-    let mut i = from;
-    while i < end {
-        let candidate = scores[i];
-        if score < candidate {
-            row = i;
-            score = candidate;
+    for row in from..end {
+        let score = scores[row];
+        if held.score < score {
+            held = Selected { row, score };
         }
-        i += 1;
     }
-    Selected { row, score }
+    held
 }
 
 // The row with the largest score of all rows.
@@ -81,6 +72,7 @@ pub fn farthest_row(scores: &[u64], m: usize) -> Selected
         score: scores[0],
     };
     let mut at = 0;
+    // The step is a block.
     while BLOCK <= m - at {
         if !block_at_most(scores, at, held.score) {
             held = farther(scores, at, at + BLOCK, held);
@@ -90,25 +82,21 @@ pub fn farthest_row(scores: &[u64], m: usize) -> Selected
     farther(scores, at, m, held)
 }
 
-// The near row of the rows before `end`, if one of them has weight, where that of the rows before `from` is held.
-fn nearer(scores: &[u64], weights: &[u32], from: usize, end: usize, held: Selected) -> Selected
+// The near row of the rows before `end`, if one of them has weight, where that of the rows before `from` is held. A score is
+// read past the test of the row's weight, since a compiler that may read it before takes both for every row.
+fn nearer(scores: &[u64], weights: &[u32], from: usize, end: usize, mut held: Selected) -> Selected
     requires { NearHeld scores.now weights.now end from held × (ScoresWithin end scores.now × (end ≤ length weights.now)) }
     ensures { NearHeld scores.now weights.now end end result }
 {
-    let mut row = held.row;
-    let mut score = held.score;
-    let mut i = from;
-    while i < end {
-        if 0 < weights[i] {
-            let candidate = scores[i];
-            if candidate < score {
-                row = i;
-                score = candidate;
+    for row in from..end {
+        if 0 < weights[row] {
+            let score = scores[row];
+            if score < held.score {
+                held = Selected { row, score };
             }
         }
-        i += 1;
     }
-    Selected { row, score }
+    held
 }
 
 // The row with the smallest score among the rows of weight above 0. What is held before the first of them is above every score.
@@ -118,6 +106,7 @@ pub fn nearest_row(scores: &[u64], weights: &[u32], m: usize) -> Selected
 {
     let mut held = Selected { row: 0, score: TOP };
     let mut at = 0;
+    // The step is a block.
     while BLOCK <= m - at {
         if !block_without_weight(weights, at) {
             held = nearer(scores, weights, at, at + BLOCK, held);

@@ -5,14 +5,28 @@ ghost use Rattle.geometry.specs.Scores.{weighted_squared_distance};
 ghost use Rattle.geometry.specs.Table.{coordinate};
 ghost use Rattle.limits.specs.Limits.{total, separation_limit, difference_limit};
 ghost use Rattle.integers.specs.Reading.{Bounded};
-ghost use Rattle.geometry.specs.Clauses.{Table, WeightsOf, IsCentre};
-ghost use Rattle.moves.specs.Clauses.{Paired, Movable, Scored};
+ghost use Rattle.geometry.specs.Clauses.{RowAt, Table, WeightsOf, IsCentre};
+ghost use Rattle.moves.specs.Clauses.{PairWith, Paired, Movable, Scored};
 
-use crate::Pair;
 use crate::distances::fill_distances;
 use crate::select::{farthest_row, nearest_row};
+use crate::{Pair, Selected};
 use figures::distance::squared_distance;
 use limits::{ROWS, TOTAL};
+
+// The far and the near row that were found, with the far row's score, g and d².
+fn pair_with(rows: &[i32], n: usize, far: Selected, near: Selected, difference: u64) -> Pair
+    requires { RowAt rows.now n far.row × RowAt rows.now n near.row }
+    ensures { PairWith rows.now n far near difference result }
+{
+    Pair {
+        far: far.row,
+        near: near.row,
+        score: far.score,
+        difference,
+        separation: squared_distance(rows, n, far.row, near.row),
+    }
+}
 
 // The far and the near row of the weights whose X is `scaled_centre`, with s of the far row, g and d².
 pub fn pair_of(rows: &[i32], m: usize, n: usize, weights: &[u32], scaled_centre: &[i64]) -> Pair
@@ -24,18 +38,9 @@ pub fn pair_of(rows: &[i32], m: usize, n: usize, weights: &[u32], scaled_centre:
     fill_distances(rows, m, n, scaled_centre, &mut distances);
     let far = farthest_row(&distances, m);
     let near = nearest_row(&distances, weights, m);
-    let far_row = far.row;
-    let near_row = near.row;
     let gap = far.score - near.score;
     let difference = gap / (TOTAL as u64);
-    let separation = squared_distance(rows, n, far_row, near_row);
-    Pair {
-        far: far_row,
-        near: near_row,
-        score: far.score,
-        difference,
-        separation,
-    }
+    pair_with(rows, n, far, near, difference)
 }
 
 // The far and the near row of the weights whose e are `scores`, with e of the far row, g and d².
@@ -46,17 +51,8 @@ pub fn pair_of_scores(rows: &[i32], m: usize, n: usize, weights: &[u32], scores:
 {
     let far = farthest_row(scores, m);
     let near = nearest_row(scores, weights, m);
-    let far_row = far.row;
-    let near_row = near.row;
     let difference = far.score - near.score;
-    let separation = squared_distance(rows, n, far_row, near_row);
-    Pair {
-        far: far_row,
-        near: near_row,
-        score: far.score,
-        difference,
-        separation,
-    }
+    pair_with(rows, n, far, near, difference)
 }
 
 // t: the whole part of (g + d² - 1)/(2d²), never more than the near row's weight. Where the quotient is not below the weight no division is
@@ -78,7 +74,7 @@ pub fn one_move(mut weights: [u32; ROWS], from: usize, to: usize, t: u32) -> [u3
     requires { Movable t from to weights }
     ensures { result ≡ move_weight t from to weights }
 {
-    weights[from] = weights[from] - t;
-    weights[to] = weights[to] + t;
+    weights[from] -= t;
+    weights[to] += t;
     weights
 }

@@ -1,5 +1,6 @@
 -- Laws of the number that the code keeps.
 --     saturated_small                            a number below 10^19 is kept as it is
+--     above_zero_some                            a number that is not 0 stands for itself
 --     saturated-grown                            one digit more, after what is kept or after the number itself
 --     digits_saturated                           what the digits make after a number depends on what is kept of it
 --     digits_end, digits_more                    the digits from an index on: none, and one more
@@ -9,6 +10,7 @@
 --     plain_led, plain_other                     a field as a plain number, by what is read after its hyphen, or of all of it where it has none
 --     field_whole, field_parted                  a field by itself, without a comma and with one
 use Rattle.std.specs.Prelude.{ℕ, zero, suc, ◌+◌, ◌-◌, ◌*◌, ◌≤◌, ◌<◌, ◌≡◌, refl, Bool, true, false, cond, ◌&&◌, eqb, leb, ℤ, pos, get_or, drop}
+use Rattle.std.specs.Prelude.{Option as Answer, None, Some}
 use Rattle.std.proofs.Common.{sym, ◌∙◌, subst, eq-eqb, ne_eqb, leb-true, leb-false, take_all}
 use Rattle.std.proofs.Math.Path.{ap}
 use mathlib.Core.List.{List, [], ◌∷◌, ◌++◌}
@@ -23,10 +25,8 @@ use Rattle.text.specs.PartsLaws.{part_at, free-end}
 use Rattle.text.specs.FieldsLaws.{field_length, field_first, leading_on, leading_done, leading_end, leading_whole, leading_stopped}
 use Rattle.number.specs.Number.{hyphen, digit_zero, is_digit, digits_from, magnitude_of, negated, plain}
 use Rattle.number.specs.NumberLaws.{digit_step, digit_none, magnitude_empty, magnitude_zero, magnitude_one, magnitude_first, plain-signed, plain_unsigned, print-plain, print-free}
-use Rattle.number.specs.Clauses.{magnitude_limit, saturated, grown, magnitude_read, plain_read, unsigned_field, plain_field, with_sign, LeadingDigits}
-use Rattle.number.specs.declared.Magnitude.TheVariants.{Malformed, Saturated}
-use Rattle.number.specs.declared.Plain.{Plain}
-use Rattle.number.specs.declared.Plain.TheVariants as written
+use Rattle.number.specs.Clauses.{magnitude_limit, saturated, grown, magnitude_read, plain_read, above_zero, unsigned_field, plain_field, with_sign, number_of, LeadingDigits}
+use Rattle.number.specs.declared.Number.{Number}
 
 pub saturated_small : (n : ℕ) → n < magnitude_limit → saturated n ≡ n
 saturated_small n h = omega arith
@@ -34,11 +34,15 @@ saturated_small n h = omega arith
 pub saturated-grown : (n d : ℕ) → saturated (saturated n * 10 + d) ≡ saturated (n * 10 + d)
 saturated-grown n d = omega arith
 
+pub above_zero_some : (n : ℕ) → (n ≡ 0 → ⊥) → above_zero n ≡ Some n
+above_zero_some zero h = absurd (h refl)
+above_zero_some (suc k) h = refl
+
 -- ---- digits
 
 pub digits_saturated : (l : List ℕ) (n : ℕ) → magnitude_read (digits_from l n) ≡ magnitude_read (digits_from l (saturated n))
 unfolding digits_from
-digits_saturated [] n = let e : saturated n ≡ saturated (saturated n) = omega arith in ap Saturated e
+digits_saturated [] n = let e : saturated n ≡ saturated (saturated n) = omega arith in ap Some e
 digits_saturated (b ∷ l) n = go (is_digit b) refl (digits_saturated l (n * 10 + (b - digit_zero))) (digits_saturated l (saturated n * 10 + (b - digit_zero)))
   where
     go : (t : Bool) → is_digit b ≡ t →
@@ -59,12 +63,12 @@ run s at = leading is_digit (drop at s)
 
 module _ (s : List ℕ) (i n : ℕ) where
   pub digits_end : (i < length s → is_digit (get_or s i 0) ≡ false) → n ≤ magnitude_limit
-      → (magnitude_read (digits_from (run s i) n) ≡ Saturated n) × (length (run s i) ≡ 0)
+      → (magnitude_read (digits_from (run s i) n) ≡ Some n) × (length (run s i) ≡ 0)
   unfolding digits_from
   digits_end h k =
       let e : saturated n ≡ n = omega arith in
       let none : run s i ≡ [] = leading_done is_digit s i h in
-      (ap (λ (l : List ℕ). magnitude_read (digits_from l n)) none ∙ ap Saturated e, ap length none)
+      (ap (λ (l : List ℕ). magnitude_read (digits_from l n)) none ∙ ap Some e, ap length none)
 
   pub digits_more : (r : ℕ) → i < length s → is_digit (get_or s i 0) ≡ true → r ≡ grown n (get_or s i 0)
       → (magnitude_read (digits_from (run s i) n) ≡ magnitude_read (digits_from (run s (i + 1)) r)) × (length (run s i) ≡ suc (length (run s (i + 1))))
@@ -101,22 +105,22 @@ module _ (s : List ℕ) (at : ℕ) {m e end : ℕ} (d : LeadingDigits s at m e) 
   pub unsigned_ends : PartEnd comma s at end
   unsigned_ends = leading_end is_digit comma refl s at end (subst (λ k. PartEnd comma s k end) d.ends p)
 
-  pub unsigned_other : (e ≡ end → ⊥) → unsigned_field (part_at s at end) ≡ Malformed
+  pub unsigned_other : (e ≡ end → ⊥) → unsigned_field (part_at s at end) ≡ None
   unsigned_other h =
       let found = leading_stopped is_digit comma refl s at end unsigned_ends (λ k. h (d.ends ∙ sym k)) in
       ap magnitude_read
       (magnitude_none (part_at s at end)
       (ap (λ (l : List ℕ). digits_from l 0) found.2 ∙ digits_stop (drop at s) found.0 found.1 0 found.3))
 
-  pub unsigned_empty : at ≡ end → unsigned_field (part_at s at end) ≡ Malformed
+  pub unsigned_empty : at ≡ end → unsigned_field (part_at s at end) ≡ None
   unsigned_empty h = ap magnitude_read (magnitude_empty (part_at s at end) (omega (arith, field_length s at end p.high)))
 
-  pub unsigned_zero : at + 1 < end → get_or s at 0 ≡ digit_zero → unsigned_field (part_at s at end) ≡ Malformed
+  pub unsigned_zero : at + 1 < end → get_or s at 0 ≡ digit_zero → unsigned_field (part_at s at end) ≡ None
   unsigned_zero h k =
       ap magnitude_read
       (magnitude_zero (part_at s at end) (omega (arith, field_length s at end p.high)) (field_first s at end p.high (omega arith) ∙ k))
 
-  pub unsigned_whole : e ≡ end → (at ≡ end → ⊥) → (at + 1 < end → get_or s at 0 ≡ digit_zero → ⊥) → unsigned_field (part_at s at end) ≡ Saturated m
+  pub unsigned_whole : e ≡ end → (at ≡ end → ⊥) → (at + 1 < end → get_or s at 0 ≡ digit_zero → ⊥) → unsigned_field (part_at s at end) ≡ Some m
   unsigned_whole h some_byte k =
       ap magnitude_read (go (leb end (at + 1)) refl)
       ∙ ap (λ (l : List ℕ). magnitude_read (digits_from l 0)) (leading_whole is_digit comma refl s at end (sym h ∙ d.ends))
@@ -134,12 +138,12 @@ module _ (s : List ℕ) (at : ℕ) {m e end : ℕ} (d : LeadingDigits s at m e) 
 
 -- ---- plain numbers
 
-pub with_sign_lem : (negative : Bool) (m : ℕ) → (negative && eqb m 0) ≡ false → with_sign negative (Saturated m) ≡ written.Number negative m
+pub with_sign_lem : (negative : Bool) (m : ℕ) → (negative && eqb m 0) ≡ false → with_sign negative (Some m) ≡ Some (number_of negative m)
 with_sign_lem false m h = refl
 with_sign_lem true zero h = clash refl h
 with_sign_lem true (suc k) h = refl
 
-pub minus_zero : (negative : Bool) (m : ℕ) → (negative && eqb m 0) ≡ true → with_sign negative (Saturated m) ≡ written.Malformed
+pub minus_zero : (negative : Bool) (m : ℕ) → (negative && eqb m 0) ≡ true → with_sign negative (Some m) ≡ None
 minus_zero false m h = clash h refl
 minus_zero true zero h = refl
 minus_zero true (suc k) h = clash h (ne_eqb (suc k) 0 (λ e. omega arith))
@@ -163,15 +167,15 @@ plain_led l = ap plain_read (plain-signed (hyphen ∷ l) (omega arith) refl) ∙
 
 -- ---- a field by itself
 
-module _ (s : List ℕ) {number : Plain} {e : ℕ} (f : FieldRead plain_field s 0 number e) where
+module _ (s : List ℕ) {number : Answer Number} {e : ℕ} (f : FieldRead plain_field s 0 number e) where
   pub field_whole : length s ≤ e → number ≡ plain_field s
   field_whole h = f.is ∙ ap plain_field (take_all (e - 0) s (omega arith))
 
   -- no comma stands in a number
-  pub field_parted : e < length s → plain_field s ≡ written.Malformed
+  pub field_parted : e < length s → plain_field s ≡ None
   field_parted h = go (plain s) refl
     where
-      go : (o : Option ℤ) → plain s ≡ o → plain_read o ≡ written.Malformed
+      go : (o : Option ℤ) → plain s ≡ o → plain_read o ≡ None
       go none k = refl
       go (some z) k =
           clash (ap (free comma) (sym (print-plain s z k)) ∙ print-free comma refl refl z) ((free-end comma s e f.ends).1 h)

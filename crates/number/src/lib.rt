@@ -5,9 +5,9 @@
 ghost use Rattle.std.specs.Prelude.{◌≡◌, ◌≤◌, length};
 ghost use Rattle.text.specs.Clauses.{FieldRead};
 ghost use Rattle.number.specs.Number.{digit_zero, digit_nine, is_digit};
-ghost use Rattle.number.specs.Clauses.{magnitude_limit, grown, LeadingDigits, unsigned_field, with_sign, plain_field};
+ghost use Rattle.number.specs.Clauses.{magnitude_limit, grown, LeadingDigits, unsigned_field, with_sign, plain_field, count_field};
 
-use text::parts::{field_end, past_byte};
+use text::parts::{Field, field_end, past_byte};
 
 // 10^19: the least number of more than 19 digits
 pub const MAGNITUDE_MOST: u64 = 10_000_000_000_000_000_000;
@@ -21,39 +21,11 @@ const NINE: u8 = b'9';
 
 const HYPHEN: u8 = b'-';
 
-// What a field of digits holds.
+// A plain number.
 #[derive(Clone, Copy)]
-pub enum Magnitude {
-    Malformed,
-    Saturated(u64),
-}
-
-// What a field that may be a plain number holds.
-#[derive(Clone, Copy)]
-pub enum Plain {
-    Malformed,
-    Number { negative: bool, magnitude: u64 },
-}
-
-// The digits that stand somewhere in a line, as a number, and the index after them.
-#[derive(Clone, Copy)]
-struct Run {
-    magnitude: u64,
-    end: usize,
-}
-
-// What the field that starts somewhere in a line holds, and where it ends.
-#[derive(Clone, Copy)]
-struct MagnitudeAt {
-    magnitude: Magnitude,
-    end: usize,
-}
-
-// The same for a field that may be a plain number.
-#[derive(Clone, Copy)]
-pub struct PlainAt {
-    pub number: Plain,
-    pub end: usize,
+pub struct Number {
+    pub negative: bool,
+    pub magnitude: u64,
 }
 
 // The magnitude with one more digit.
@@ -72,99 +44,97 @@ fn with_digit(magnitude: u64, byte: u8) -> u64
 fn is_digit(byte: u8) -> bool
     ensures { result ≡ is_digit byte }
 {
-    if byte < ZERO {
-        return false;
-    }
-    byte <= NINE
+    matches!(byte, ZERO..=NINE)
 }
 
-// The digits that stand from `at` on, and the index after them.
-fn leading_digits(line: &[u8], at: usize) -> Run
+// The digits that stand from `at` on, as a number, up to the index after them.
+fn leading_digits(line: &[u8], at: usize) -> Field<u64>
     requires { at ≤ length line.now }
-    ensures { LeadingDigits line.now at result.magnitude result.end }
+    ensures { LeadingDigits line.now at result.value result.end }
 {
     let mut magnitude: u64 = 0;
-    let mut i = at;
-    while i < line.len() {
+    for i in at..line.len() {
         let byte = line[i];
         if !is_digit(byte) {
-            return Run { magnitude, end: i };
+            return Field {
+                value: magnitude,
+                end: i,
+            };
         }
         magnitude = with_digit(magnitude, byte);
-        i += 1;
     }
-    Run { magnitude, end: i }
+    Field {
+        value: magnitude,
+        end: line.len(),
+    }
 }
 
 // The field of a line that starts at `at` as a number without a sign: digits without a leading zero.
-fn unsigned_at(line: &[u8], at: usize) -> MagnitudeAt
+fn unsigned_at(line: &[u8], at: usize) -> Field<Option<u64>>
     requires { at ≤ length line.now }
-    ensures { FieldRead unsigned_field line.now at result.magnitude result.end }
+    ensures { FieldRead unsigned_field line.now at result.value result.end }
 {
-    let run = leading_digits(line, at);
-    let digits_end = run.end;
-    let end = field_end(line, digits_end);
-    let malformed = MagnitudeAt {
-        magnitude: Magnitude::Malformed,
-        end,
-    };
-    if digits_end != end {
+    let digits = leading_digits(line, at);
+    let end = field_end(line, digits.end);
+    let malformed = Field { value: None, end };
+    if digits.end != end || at == end {
         return malformed;
     }
-    if at == end {
+    if at + 1 < end && line[at] == ZERO {
         return malformed;
     }
-    if at + 1 < end {
-        if line[at] == ZERO {
-            return malformed;
-        }
-    }
-    MagnitudeAt {
-        magnitude: Magnitude::Saturated(run.magnitude),
+    Field {
+        value: Some(digits.value),
         end,
     }
 }
 
 // The number with this sign: none is `-0`.
-fn with_sign(negative: bool, whole: Magnitude) -> Plain
+fn with_sign(negative: bool, whole: Option<u64>) -> Option<Number>
     ensures { result ≡ with_sign negative whole }
 {
-    match whole {
-        Magnitude::Malformed => Plain::Malformed,
-        Magnitude::Saturated(magnitude) => {
-            if negative & (magnitude == 0) {
-                Plain::Malformed
-            } else {
-                Plain::Number {
-                    negative,
-                    magnitude,
-                }
-            }
-        }
+    let magnitude = whole?;
+    if negative && magnitude == 0 {
+        return None;
     }
+    Some(Number {
+        negative,
+        magnitude,
+    })
 }
 
 // The field of a line that starts at `at` as a plain number, and where it ends.
-pub fn plain_number_at(line: &[u8], at: usize) -> PlainAt
+pub fn plain_number_at(line: &[u8], at: usize) -> Field<Option<Number>>
     requires { at ≤ length line.now }
-    ensures { FieldRead plain_field line.now at result.number result.end }
+    ensures { FieldRead plain_field line.now at result.value result.end }
 {
     let sign = past_byte(line, at, HYPHEN);
     let unsigned = unsigned_at(line, sign.next);
-    let whole = unsigned.magnitude;
-    PlainAt {
-        number: with_sign(sign.found, whole),
+    Field {
+        value: with_sign(sign.found, unsigned.value),
         end: unsigned.end,
     }
 }
 
 // A field as a plain number: no comma stands in one.
-pub fn plain_number(field: &[u8]) -> Plain
+pub fn plain_number(field: &[u8]) -> Option<Number>
     ensures { result ≡ plain_field field.now }
 {
     let read = plain_number_at(field, 0);
     if read.end < field.len() {
-        return Plain::Malformed;
+        return None;
     }
-    read.number
+    read.value
+}
+
+// A field as a plain number from 1 to `most`.
+pub fn plain_count(field: &[u8], most: u32) -> Option<u32>
+    ensures { result ≡ count_field most field.now }
+{
+    let number = plain_number(field)?;
+    let within = 1 <= number.magnitude && number.magnitude <= most as u64;
+    if number.negative || !within {
+        return None;
+    }
+    Some(number.magnitude as u32)
 }

@@ -13,23 +13,19 @@ fn main(rt: HostRuntime) {
         return;
     }
     let mut reference = [0u8; TEXT_READ];
-    let reference_read = read_file(&rt, &NAME, 1, &mut reference);
-    if !reference_read.whole {
+    let Some(reference_length) = read_file(&rt, &NAME, 1, &mut reference) else {
         return;
-    }
+    };
     let mut record = [0u8; TEXT_READ];
-    let record_read = read_standard_input(&rt, &NAME, &mut record);
-    if !record_read.whole {
+    let Some(record_length) = read_standard_input(&rt, &NAME, &mut record) else {
         return;
-    }
-    let reference_length = reference_read.length;
-    let record_length = record_read.length;
+    };
     let mut output = [0u8; OUTPUT_MOST];
-    let answer = program_panel::panel(
+    if let Ok(length) = program_panel::panel(
         &reference[..reference_length],
         &record[..record_length],
         &mut output,
-    );
-    let length = answer.length;
-    write_output(&rt, &NAME, &output[..length]);
+    ) {
+        write_output(&rt, &NAME, &output[..length]);
+    }
 }

@@ -3,7 +3,6 @@
 --     drawn_shown, checked_shown    so is that of an accepted drawing, and of an accepted check
 use Rattle.std.specs.Prelude.{ℕ, ◌≤◌, ◌<◌, ◌≡◌, true, List, ℤ, length, take}
 use Rattle.std.proofs.Common.{ap}
-use Rattle.refusal.specs.declared.Outcome.TheVariants.{Accepted}
 use Rattle.limits.specs.Limits.{budget_limit}
 use Rattle.drawing.specs.Draw.{drawing}
 use Rattle.checking.specs.Check.{checking}
@@ -11,9 +10,9 @@ use Rattle.channel.specs.Channel.{Types, codes_known}
 use Rattle.envelope.specs.Figures.{figures_known, figures_of, drawn_figures}
 use Rattle.envelope.specs.FigureLaws.{drawn-within, checked-within}
 use Rattle.envelope.specs.declared.Figures.{Figures}
-use Rattle.panel_steps.specs.Panel.{panel_shown}
+use Rattle.panel_steps.specs.Panel.{panel_shown, PanelShown}
 use Rattle.panel_steps.specs.PanelLaws.{panel_shows}
-use Rattle.panel_steps.specs.declared.PanelShown.{PanelShown}
+use Rattle.refusal.specs.Outcome.{Accepted}
 
 module _ (D : ℕ) (types : Types) where
   pub figures_shown : (f : Figures) → figures_known D types f ≡ true → (panel_shown D types f).outcome ≡ Accepted

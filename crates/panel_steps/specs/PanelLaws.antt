@@ -24,8 +24,7 @@ use Rattle.channel.specs.Channel.{Types}
 use Rattle.envelope.specs.Figures.{figures_known}
 use Rattle.envelope.specs.FigureLaws.{known-within}
 use Rattle.envelope.specs.declared.Figures.{Figures}
-use Rattle.panel_steps.specs.Panel.{nearest_magnitude, nearest_step, refused_panel, panel_of, panel_shown}
-use Rattle.panel_steps.specs.declared.PanelShown.{PanelShown}
+use Rattle.panel_steps.specs.Panel.{nearest_magnitude, nearest_step, refused_panel, panel_of, panel_shown, PanelShown}
 
 -- ---- the nearest whole number
 

@@ -13,13 +13,11 @@ fn main(rt: HostRuntime) {
         return;
     }
     let mut reference = [0u8; TEXT_READ];
-    let reference_read = read_standard_input(&rt, &NAME, &mut reference);
-    if !reference_read.whole {
+    let Some(reference_length) = read_standard_input(&rt, &NAME, &mut reference) else {
         return;
-    }
-    let reference_length = reference_read.length;
+    };
     let mut output = [0u8; OUTPUT_MOST];
-    let answer = program_plain::plain(&reference[..reference_length], &mut output);
-    let length = answer.length;
-    write_output(&rt, &NAME, &output[..length]);
+    if let Ok(length) = program_plain::plain(&reference[..reference_length], &mut output) {
+        write_output(&rt, &NAME, &output[..length]);
+    }
 }

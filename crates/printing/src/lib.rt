@@ -23,12 +23,9 @@ pub fn put_bytes(out: &mut [u8], at: usize, word: &[u8]) -> usize
     requires { at + length word.now ≤ length out.old }
     ensures { Put word.now out.old at out.new result }
 {
-    let mut i = 0;
-    while i < word.len() {
-        out[at + i] = word[i];
-        i += 1;
-    }
-    at + i
+    let end = at + word.len();
+    out[at..end].copy_from_slice(word);
+    end
 }
 
 // How many digits a number has.
@@ -37,6 +34,7 @@ fn width(magnitude: u64) -> usize
 {
     let mut digits = 1;
     let mut rest = magnitude / 10;
+    // The step is a division.
     while 0 < rest {
         rest /= 10;
         digits += 1;
@@ -51,9 +49,7 @@ fn put_magnitude(out: &mut [u8], at: usize, magnitude: u64) -> usize
 {
     let end = at + width(magnitude);
     let mut rest = magnitude;
-    let mut place = end;
-    while at < place {
-        place -= 1;
+    for place in (at..end).rev() {
         out[place] = ZERO + (rest % 10) as u8;
         rest /= 10;
     }
@@ -78,11 +74,9 @@ pub fn put_numbers(out: &mut [u8], at: usize, word: &[u8], numbers: &[i64], coun
     ensures { Put (numbers_after word.now (take count numbers.now)) out.old at out.new result }
 {
     let mut from = put_bytes(out, at, word);
-    let mut i = 0;
-    while i < count {
+    for number in &numbers[..count] {
         out[from] = COMMA;
-        from = put_number(out, from + 1, numbers[i]);
-        i += 1;
+        from = put_number(out, from + 1, *number);
     }
     from
 }

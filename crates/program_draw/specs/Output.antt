@@ -6,8 +6,7 @@
 use Rattle.std.specs.Prelude.{ℕ, List, length}
 use Rattle.limits.specs.Limits.{channel_limit}
 use Rattle.lists.specs.Padded.{padded}
-use Rattle.drawing.specs.Draw.{drawing}
-use Rattle.drawing.specs.declared.Drawing.{Drawing}
+use Rattle.drawing.specs.Draw.{drawing, DrawingOutcome}
 use Rattle.channel.specs.Channel.{Types}
 use Rattle.reference_rows.specs.ReferenceText.{codes_of, channel_count, row_count, table_of}
 use Rattle.reference_rows.specs.Rows.{Content, faulty, sound}
@@ -21,7 +20,7 @@ abbrev pub draw_budget : ℕ
 draw_budget = 10000
 
 -- the drawing of the rows of an accepted text is itself accepted (`draw_accepted`)
-abbrev pub drawn_output : Types → List ℕ → Drawing → List ℕ
+abbrev pub drawn_output : Types → List ℕ → DrawingOutcome → List ℕ
 drawn_output types codes d = unless_refused d.outcome (λ _. record_text types (drawn_envelope (length codes) (padded channel_limit codes) d))
 
 abbrev pub content_output : ℕ → ℕ → Types → Content → List ℕ

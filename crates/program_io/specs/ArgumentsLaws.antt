@@ -6,9 +6,7 @@ use Rattle.std.proofs.Math.Path.{subst}
 use Rattle.std.proofs.Math.Bool.{true, false}
 use native.Mathlib.Omega.{arith}
 use borrow.Author.Tests.{ltb-true}
-use Rattle.program_io.specs.declared.arguments.Given.{Given}
-use Rattle.program_io.specs.declared.arguments.Given.TheVariants.{Exact, Missing, Excess}
-use Rattle.program_io.specs.Arguments.{arguments_given}
+use Rattle.program_io.specs.Arguments.{Given, Exact, Missing, Excess, arguments_given}
 
 abbrev pub place_of : Given → ℕ
 place_of Exact = 0

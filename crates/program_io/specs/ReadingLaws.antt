@@ -8,9 +8,7 @@ use Rattle.std.specs.Prelude.{ℕ, zero, suc, ◌+◌, ◌≤◌, ◌<◌, ◌�
 use Rattle.std.proofs.Common.{sym, ap, subst, arith, length-take-le, ltb-true}
 use Rattle.std.specs.Int.Signed.{lt_z}
 use Rattle.integers.specs.Tests.{impossible, clash}
-use Rattle.program_io.specs.declared.descriptor.TextRead.{TextRead}
-use Rattle.program_io.specs.declared.descriptor.AfterRead.TheVariants.{Done, More}
-use Rattle.program_io.specs.Reading.{not_read, read_whole, after_read}
+use Rattle.program_io.specs.Reading.{TextRead, Done, More, not_read, read_whole, after_read}
 use Rattle.program_io.specs.Clauses.{Moved, Read}
 
 pub after_failed : (z : ℤ) (at : ℕ) → lt_z z (pos 0) ≡ true → Done not_read ≡ after_read z at

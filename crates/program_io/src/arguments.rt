@@ -1,33 +1,32 @@
 // The arguments that a program was started with.
 ghost use Rattle.std.specs.Prelude.{◌≡◌, ◌^◌, ◌<◌};
-ghost use Rattle.program_io.specs.Arguments.{arguments_given};
+ghost use Rattle.program_io.specs.Arguments.{arguments_given, given_of};
 
-use report::{tell_excess, tell_missing};
+use message::Message;
+use report::tell;
+use std::cmp::Ordering;
 use std::env::FillError;
 use std::rt::Env;
 
 // The most bytes that are read of an argument: those of the system's longest path, with the byte that ends it.
 pub const NAME_READ: usize = 4096;
 
-// How the arguments that are there compare with those that are taken. An argument is told by its index, counted from 1.
-#[derive(Drop)]
-pub enum Given {
-    Exact,
+// Why the arguments that are there are not those that are taken: the first that is missing or one too many, by its index, counted from 1.
+#[derive(Clone, Copy, PartialEq, Eq, Debug)]
+enum Mismatch {
     Missing(usize),
     Excess(usize),
 }
 
-fn compared(present: usize, count: u32) -> Given
-    ensures { result ≡ arguments_given present count }
+fn compared(present: usize, count: u32) -> Result<(), Mismatch>
+    ensures { given_of result ≡ arguments_given present count }
 {
     let taken = count as usize;
-    if present < taken {
-        return Given::Missing(present + 1);
+    match present.cmp(&taken) {
+        Ordering::Less => Err(Mismatch::Missing(present + 1)),
+        Ordering::Equal => Ok(()),
+        Ordering::Greater => Err(Mismatch::Excess(taken + 1)),
     }
-    if taken < present {
-        return Given::Excess(taken + 1);
-    }
-    Given::Exact
 }
 
 // How many arguments are there, without the program's own name, which stands before them.
@@ -46,23 +45,24 @@ fn tell_argument_excess(rt: &HostRuntime, program: &[u8], index: usize)
     requires { index < 2 ^ 63 }
 {
     let mut name = [0u8; NAME_READ];
-    match rt.arg(index, &mut name) {
-        Ok(length) => tell_excess(&rt.stderr(), program, index, &name[..length]),
-        Err(FillError::TooLong) => tell_excess(&rt.stderr(), program, index, &name),
-        Err(FillError::NotPresent) => tell_excess(&rt.stderr(), program, index, &[]),
-    }
+    let told = match rt.arg(index, &mut name) {
+        Ok(length) => &name[..length],
+        Err(FillError::TooLong) => &name[..],
+        Err(FillError::NotPresent) => &[],
+    };
+    let message = Message::ExcessArgument(index, told);
+    tell(&rt.stderr(), program, message);
 }
 
 // Whether the program was started with exactly so many arguments; else tells the first that is missing or one too many.
 pub fn arguments(rt: &HostRuntime, program: &[u8], count: u32) -> bool {
-    let given = compared(argument_count(rt), count);
-    match given {
-        Given::Exact => true,
-        Given::Missing(index) => {
-            tell_missing(&rt.stderr(), program, index);
+    match compared(argument_count(rt), count) {
+        Ok(()) => true,
+        Err(Mismatch::Missing(index)) => {
+            tell(&rt.stderr(), program, Message::MissingArgument(index));
             false
         }
-        Given::Excess(index) => {
+        Err(Mismatch::Excess(index)) => {
             tell_argument_excess(rt, program, index);
             false
         }

@@ -1,12 +1,13 @@
 // The texts that a program reads, and what it writes.
-ghost use Rattle.std.specs.Prelude.{◌<◌, length};
+ghost use Rattle.std.specs.Prelude.{◌≡◌, ◌^◌, ◌<◌, length};
 ghost use Rattle.limits.specs.Limits.{text_limit};
-ghost use Rattle.program_io.specs.Clauses.{Read};
+ghost use Rattle.program_io.specs.Clauses.{text_of_option, text_of_result, Read};
 
 use crate::arguments::NAME_READ;
-use crate::descriptor::{TextRead, not_read, read_descriptor};
+use crate::descriptor::read_descriptor;
 use limits::TEXT_MOST;
-use report::{fail_argument, fail_file, fail_input, fail_output, tell_missing};
+use message::Message;
+use report::{fail, tell};
 use std::env::FillError;
 use std::fs::File;
 use std::io;
@@ -28,62 +29,76 @@ fn open_named(rt: &HostRuntime, name: &[u8]) -> io::Result<File> {
 }
 
 // Reads the file of this name.
-fn read_named(rt: &HostRuntime, program: &[u8], name: &[u8], text: &mut [u8]) -> TextRead
-    ensures { Read result text.new }
+fn read_named(rt: &HostRuntime, name: &[u8], text: &mut [u8]) -> io::Result<usize>
+    ensures { Read (text_of_result result) text.new }
 {
-    let mut file = match open_named(rt, name) {
-        Ok(file) => file,
-        Err(error) => {
-            fail_file(&rt.stderr(), program, name, error);
-            return not_read();
-        }
-    };
-    let mut failure = None;
-    let read = read_descriptor(&mut file, text, &mut failure);
-    if let Some(error) = failure {
-        fail_file(&rt.stderr(), program, name, error);
-    }
-    read
+    let mut file = open_named(rt, name)?;
+    read_descriptor(&mut file, text)
 }
 
-// Reads the file that the argument with this index, counted from 1, names, as far as the slice goes. What fails is told. The slice has a
-// place more than a text may have bytes, so that a text above the limit is not taken for its beginning.
-pub fn read_file(rt: &HostRuntime, program: &[u8], index: u32, text: &mut [u8]) -> TextRead
+// How many bytes were read, none where that failed, which is told.
+fn read_or_told<E, F: FnOnce(E)>(read: Result<usize, E>, tell: F) -> Option<usize>
+    requires { F.IsAlwaysCallable tell }
+    ensures { text_of_option result ≡ text_of_result read }
+{
+    match read {
+        Ok(length) => Some(length),
+        Err(error) => {
+            tell(error);
+            None
+        }
+    }
+}
+
+// Tells an argument that cannot be read as the name of a file, by its first bytes where it is longer than a path.
+fn tell_argument_unread(
+    rt: &HostRuntime,
+    program: &[u8],
+    index: usize,
+    name: &[u8],
+    error: FillError,
+)
+    requires { index < 2 ^ 63 }
+{
+    match error {
+        FillError::TooLong => {
+            let error = Error::from_raw_os_error(ENAMETOOLONG);
+            fail(&rt.stderr(), program, Message::Argument(index, name), error)
+        }
+        FillError::NotPresent => tell(&rt.stderr(), program, Message::MissingArgument(index)),
+    }
+}
+
+// Reads the file that the argument with this index, counted from 1, names, as far as the slice goes, and answers how many bytes, none where
+// that fails, which is told. The slice has a place more than a text may have bytes, so that a text above the limit is not taken for its
+// beginning.
+pub fn read_file(rt: &HostRuntime, program: &[u8], index: u32, text: &mut [u8]) -> Option<usize>
     requires { text_limit < length text.old }
-    ensures { Read result text.new }
+    ensures { Read (text_of_option result) text.new }
 {
     let place = index as usize;
     let mut name = [0u8; NAME_READ];
-    match rt.arg(place, &mut name) {
-        Ok(length) => read_named(rt, program, &name[..length], text),
-        Err(FillError::TooLong) => {
-            let error = Error::from_raw_os_error(ENAMETOOLONG);
-            fail_argument(&rt.stderr(), program, place, &name, error);
-            not_read()
-        }
-        Err(FillError::NotPresent) => {
-            tell_missing(&rt.stderr(), program, place);
-            not_read()
-        }
-    }
+    let length = read_or_told(rt.arg(place, &mut name), |error| {
+        tell_argument_unread(rt, program, place, &name, error)
+    })?;
+    read_or_told(read_named(rt, &name[..length], text), |error| {
+        fail(&rt.stderr(), program, Message::File(&name[..length]), error)
+    })
 }
 
 // Reads standard input in the same way.
-pub fn read_standard_input(rt: &HostRuntime, program: &[u8], text: &mut [u8]) -> TextRead
+pub fn read_standard_input(rt: &HostRuntime, program: &[u8], text: &mut [u8]) -> Option<usize>
     requires { text_limit < length text.old }
-    ensures { Read result text.new }
+    ensures { Read (text_of_option result) text.new }
 {
-    let mut failure = None;
-    let read = read_descriptor(&mut rt.stdin(), text, &mut failure);
-    if let Some(error) = failure {
-        fail_input(&rt.stderr(), program, error);
-    }
-    read
+    read_or_told(read_descriptor(&mut rt.stdin(), text), |error| {
+        fail(&rt.stderr(), program, Message::StandardInput, error)
+    })
 }
 
 // Writes to standard output. A write that fails is told.
 pub fn write_output(rt: &HostRuntime, program: &[u8], output: &[u8]) {
     if let Err(error) = rt.write_all(output) {
-        fail_output(&rt.stderr(), program, error);
+        fail(&rt.stderr(), program, Message::StandardOutput, error);
     }
 }

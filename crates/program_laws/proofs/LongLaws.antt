@@ -31,10 +31,9 @@ use Rattle.alert_settings.specs.Settings.{settings_within}
 use Rattle.alert_trial.specs.Trial.{faulty as untried, trial_of}
 use Rattle.settings_text.specs.SettingsText.{text_of_settings}
 use Rattle.settings_text.specs.SettingsTextLaws.{refuses_long as refuses-long-settings}
-use Rattle.record_read.specs.Clauses.{not_read, record_read}
+use Rattle.record_read.specs.Clauses.{not_read, record_read, EnvelopeRead}
 use Rattle.typed_rows.specs.Given.{given_within}
 use Rattle.record_read.specs.ReadLaws.{read_limits, read_length}
-use Rattle.record_read.specs.declared.EnvelopeRead.{EnvelopeRead}
 use Rattle.program_lines.specs.Lines.{print_refusal, print_accepted}
 use Rattle.program_draw.specs.Output.{content_output, draw_output}
 use Rattle.program_judge.specs.Output.{judge_output}

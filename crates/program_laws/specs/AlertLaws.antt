@@ -19,8 +19,6 @@ use Rattle.std.proofs.Common.{sym, ◌∙◌, arith}
 use mathlib.Core.List.{List, [], ◌∷◌, ◌++◌, map}
 use Rattle.std.proofs.lemmas.List.{length-map}
 use Rattle.std.proofs.Math.Seq.{append_snoc}
-use Rattle.refusal.specs.declared.Outcome.{Outcome}
-use Rattle.refusal.specs.declared.Outcome.TheVariants.{Accepted}
 use Rattle.text.specs.Parts.{line_end, text_within, same, cut, join, free, all_free}
 use Rattle.text.specs.Lines.{print_lines, ended}
 use Rattle.text.specs.LinesLaws.{printed_ended}
@@ -30,9 +28,7 @@ use Rattle.printing.specs.Clauses.{numbers_after}
 use Rattle.printing.specs.ContractLaws.{numbers-free}
 use Rattle.channel.specs.Channel.{Types}
 use Rattle.envelope.specs.declared.Figures.{Figures}
-use Rattle.reading.specs.Verdict.{judged}
-use Rattle.reading.specs.declared.Verdict.{Verdict}
-use Rattle.reading.specs.declared.Verdict.TheVariants.{Quiet, Alarm, Refused}
+use Rattle.reading.specs.Verdict.{judged, VerdictOutcome, Quiet, Alarm, Refused}
 use Rattle.alert.specs.Alert.{counted}
 use Rattle.alert_settings.specs.Settings.{settings_of}
 use Rattle.alert_trial.specs.Trial.{verdicts_on, is_alarm, is_quiet, is_turned_back, count, four_numbers, totals_line}
@@ -43,30 +39,31 @@ use Rattle.program_record.specs.Against.{unless_refused, record_against}
 use Rattle.program_verdicts.specs.Output.{readings_output}
 use Rattle.program_verdicts.specs.OutputLaws.{readings_judged}
 use Rattle.program_judge.specs.Output.{judge_output}
+use Rattle.refusal.specs.Outcome.{Outcome, Accepted}
 
 -- ---- what judge prints
 
-abbrev pub verdict_text : Verdict → List ℕ
+abbrev pub verdict_text : VerdictOutcome → List ℕ
 verdict_text Quiet = numbers_after quiet_word []
 verdict_text (Alarm excess) = numbers_after alarm_word (pos excess ∷ [])
 verdict_text (Refused r) = numbers_after refusal_word (pos r.number ∷ pos r.line ∷ [])
 
-text-printed : (v : Verdict) → verdict_text v ++ (line_end ∷ []) ≡ print_verdict v
+text-printed : (v : VerdictOutcome) → verdict_text v ++ (line_end ∷ []) ≡ print_verdict v
 text-printed Quiet = refl
 text-printed (Alarm excess) = refl
 text-printed (Refused r) = refl
 
-texts_printed : (vs : List Verdict) → map (λ (line : List ℕ). line ++ (line_end ∷ [])) (map verdict_text vs) ≡ map print_verdict vs
+texts_printed : (vs : List VerdictOutcome) → map (λ (line : List ℕ). line ++ (line_end ∷ [])) (map verdict_text vs) ≡ map print_verdict vs
 texts_printed [] = refl
 texts_printed (v ∷ vs) = ap₂ ◌∷◌ (text-printed v) (texts_printed vs)
 
-text-free : (v : Verdict) → free line_end (verdict_text v) ≡ true
+text-free : (v : VerdictOutcome) → free line_end (verdict_text v) ≡ true
 unfolding free
 text-free Quiet = numbers-free line_end refl refl (λ e. omega arith) quiet_word [] refl
 text-free (Alarm excess) = numbers-free line_end refl refl (λ e. omega arith) alarm_word (pos excess ∷ []) refl
 text-free (Refused r) = numbers-free line_end refl refl (λ e. omega arith) refusal_word (pos r.number ∷ pos r.line ∷ []) refl
 
-texts_free : (vs : List Verdict) → all_free line_end (map verdict_text vs) ≡ true
+texts_free : (vs : List VerdictOutcome) → all_free line_end (map verdict_text vs) ≡ true
 unfolding all_free
 texts_free [] = refl
 texts_free (v ∷ vs) = ap₂ ◌&&◌ (text-free v) (texts_free vs)
@@ -105,25 +102,25 @@ lines_that test [] = 0
 lines_that test (line ∷ lines) = counted (test line) + lines_that test lines
 
 -- a line passes the test where its verdict is so
-lines_that_lem : (test : List ℕ → Bool) (kind : Verdict → Bool) → ((v : Verdict) → test (print_verdict v) ≡ kind v)
-    → (vs : List Verdict) → lines_that test (map print_verdict vs) ≡ count kind vs
+lines_that_lem : (test : List ℕ → Bool) (kind : VerdictOutcome → Bool) → ((v : VerdictOutcome) → test (print_verdict v) ≡ kind v)
+    → (vs : List VerdictOutcome) → lines_that test (map print_verdict vs) ≡ count kind vs
 unfolding lines_that count
 lines_that_lem test kind same_kind [] = refl
 lines_that_lem test kind same_kind (v ∷ vs) = ap₂ (λ t n. counted t + n) (same_kind v) (lines_that_lem test kind same_kind vs)
 
-alarm_line : (v : Verdict) → starts alarm_word (print_verdict v) ≡ is_alarm v
+alarm_line : (v : VerdictOutcome) → starts alarm_word (print_verdict v) ≡ is_alarm v
 unfolding numbers_after join same
 alarm_line Quiet = refl
 alarm_line (Alarm excess) = refl
 alarm_line (Refused r) = refl
 
-quiet_line : (v : Verdict) → same (print_verdict v) (quiet_word ++ (line_end ∷ [])) ≡ is_quiet v
+quiet_line : (v : VerdictOutcome) → same (print_verdict v) (quiet_word ++ (line_end ∷ [])) ≡ is_quiet v
 unfolding numbers_after join same
 quiet_line Quiet = refl
 quiet_line (Alarm excess) = refl
 quiet_line (Refused r) = refl
 
-turned_back_line : (v : Verdict) → starts refusal_word (print_verdict v) ≡ is_turned_back v
+turned_back_line : (v : VerdictOutcome) → starts refusal_word (print_verdict v) ≡ is_turned_back v
 unfolding numbers_after join same
 turned_back_line Quiet = refl
 turned_back_line (Alarm excess) = refl
@@ -143,14 +140,14 @@ abbrev pub lines_counted : List ℕ → List ℕ
 lines_counted output = four_numbers (length (lines_with_ends output)) (alarm_lines output) (quiet_lines output) (turned_back_lines output)
 
 module _ (D : ℕ) (types : Types) (f : Figures) (readings : List ℕ) (bytes : text_within readings ≡ true) where
-  abbrev verdicts : List Verdict
+  abbrev verdicts : List VerdictOutcome
   verdicts = verdicts_on D types f readings
 
   abbrev output : List ℕ
   output = readings_output D types f readings
 
   -- by a test of lines that tells a kind of verdict
-  kind_lines : (test : List ℕ → Bool) (kind : Verdict → Bool) → ((v : Verdict) → test (print_verdict v) ≡ kind v)
+  kind_lines : (test : List ℕ → Bool) (kind : VerdictOutcome → Bool) → ((v : VerdictOutcome) → test (print_verdict v) ≡ kind v)
       → lines_that test (lines_with_ends output) ≡ count kind verdicts
   kind_lines test kind same_kind = ap (lines_that test) (judge_lines D types f readings bytes) ∙ lines_that_lem test kind same_kind verdicts
 

@@ -13,8 +13,7 @@ use Rattle.reference_row.specs.Row.{Row}
 use Rattle.reference_rows.specs.ReferenceText.{ReferenceText, codes_of, rows_of, row_count, labels_of, table_of}
 use Rattle.reference_rows.specs.Rows.{sound}
 use Rattle.reference.specs.Reference.{content}
-use Rattle.record_read.specs.Clauses.{record_read}
-use Rattle.record_read.specs.declared.EnvelopeRead.{EnvelopeRead}
+use Rattle.record_read.specs.Clauses.{record_read, EnvelopeRead}
 use Rattle.program_lines.specs.Lines.{print_accepted}
 use Rattle.program_record.specs.Against.{record_against, of_figures}
 use Rattle.program_record.specs.AgainstLaws.{against_sound}

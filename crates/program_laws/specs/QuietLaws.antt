@@ -10,7 +10,6 @@ use Rattle.std.specs.Prelude.{ℕ, ◌+◌, ◌≤◌, ◌<◌, ◌≡◌, true,
 use Rattle.std.proofs.Common.{sym, ◌∙◌, ap, arith, length-append, take-append-drop}
 use Rattle.std.proofs.Math.ListN.{get_or-map}
 use Rattle.refusal.specs.Number.{outside_limits}
-use Rattle.refusal.specs.declared.Outcome.TheVariants.{Accepted}
 use Rattle.limits.specs.Limits.{budget_limit}
 use Rattle.geometry.specs.Table.{coordinate}
 use Rattle.drawing.specs.Draw.{drawing}
@@ -38,9 +37,9 @@ use Rattle.envelope.specs.Figures.{figures_known, figures_of, drawn_figures}
 use Rattle.envelope.specs.FigureLaws.{drawn-within, checked-within}
 use Rattle.reading_line.specs.Reading.{print_reading, own_reading}
 use Rattle.reading.specs.Content.{point_of}
-use Rattle.reading.specs.Verdict.{verdict_number, judged}
+use Rattle.reading.specs.Verdict.{verdict_number, judged, Quiet}
 use Rattle.reading.specs.QuietLaws.{drawn_not_8, checked_not_8, tight_row_quiet}
-use Rattle.reading.specs.declared.Verdict.TheVariants.{Quiet}
+use Rattle.refusal.specs.Outcome.{Accepted}
 
 module _ (D : ℕ) (positive : 0 < D) (limit : ℕ) (types : Types) (types_sound : SoundTypes types)
     (reference : List ℕ) (found : ReferenceText) (is : content limit types reference ≡ sound found) (more : List ℤ)

@@ -25,10 +25,7 @@ use Rattle.std.proofs.Math.ListN.{length}
 use Rattle.integers.specs.Tests.{both, clash, test-same, range_in}
 use Rattle.lists.specs.Each.{Each, each_cons}
 use Rattle.refusal.specs.Number.{text_length, line_form, value_range, tag_differs, alert_settings}
-use Rattle.refusal.specs.Outcome.{number_of, line_of}
-use Rattle.refusal.specs.declared.Refusal.{Refusal}
-use Rattle.refusal.specs.declared.Outcome.{Outcome}
-use Rattle.refusal.specs.declared.Outcome.TheVariants.{Accepted, Refused}
+use Rattle.refusal.specs.Outcome.{number_of, line_of, RefusalNumbers, Outcome, Accepted, Refused}
 use Rattle.limits.specs.Limits.{text_limit}
 use Rattle.text.specs.Ascii.{byte}
 use Rattle.text.specs.Lines.{print_lines}
@@ -50,10 +47,8 @@ use Rattle.envelope.specs.Figures.{channel_codes, figures_known}
 use Rattle.envelope.specs.declared.Figures.{Figures}
 use Rattle.envelope.specs.declared.Envelope.{Envelope}
 use Rattle.reading.specs.Content.{distance_of}
-use Rattle.reading.specs.Verdict.{judged}
+use Rattle.reading.specs.Verdict.{judged, VerdictOutcome, Quiet, Alarm, Refused as RefusedReading}
 use Rattle.reading.specs.VerdictLaws.{quiet_or_alarm, each_verdict}
-use Rattle.reading.specs.declared.Verdict.{Verdict}
-use Rattle.reading.specs.declared.Verdict.TheVariants.{Quiet, Alarm, Refused as RefusedReading}
 use Rattle.alert.specs.Alert.{Setting}
 use Rattle.alert_settings.specs.Settings.{settings_within, settings_of}
 use Rattle.alert_trial.specs.Trial.{verdicts_on, four_numbers, trial_lines, Trial, trial_of}
@@ -63,7 +58,6 @@ use Rattle.settings_text.specs.SettingsTextLaws.{text-printed}
 use Rattle.record_form.specs.Record.{print_record}
 use Rattle.record_print.specs.Printed.{record_text}
 use Rattle.record_read.specs.ReadLaws.{each_read}
-use Rattle.record_read.specs.declared.EnvelopeRead.{EnvelopeRead}
 use Rattle.panel_steps.specs.Panel.{panel_shown}
 use Rattle.text.specs.EndedLines.{with_ends, lines_with_ends}
 use Rattle.program_lines.specs.Lines.{refusal_word, print_refusal, print_accepted, print_verdict, print_verdicts, print_steps}
@@ -81,6 +75,7 @@ use Rattle.program_verdicts.specs.OutputLaws.{readings_refused, readings_judged}
 use Rattle.program_panel.specs.OutputLaws.{panel_accepted}
 use Rattle.program_record.specs.AgainstLaws.{against-within}
 use Rattle.program_laws.specs.TripLaws.{cut_line}
+use Rattle.record_read.specs.Clauses.{EnvelopeRead}
 
 abbrev pub of_reading : ℕ → ℕ → Bool
 of_reading number line =
@@ -119,13 +114,13 @@ module _ (D limit : ℕ) (types : Types) (reference text : List ℕ) where
           each_read D limit types (table_of found) (row_count found) (channel_count found) (codes_of found) text OfTexts refl refl (λ line e. refl) refl
           (λ e a. refl)
 
-  pub refusal_of_texts : (r : Refusal) → (record_against D limit types reference text).outcome ≡ Refused r → of_reading r.number r.line ≡ false
+  pub refusal_of_texts : (r : RefusalNumbers) → (record_against D limit types reference text).outcome ≡ Refused r → of_reading r.number r.line ≡ false
   refusal_of_texts r is = ap (λ o. of_reading (number_of o) (line_of o)) (sym is) ∙ texts_told
 
 -- ---- readings
 
 -- a verdict that is no refusal, or such a refusal
-abbrev OfReading : Verdict → Type 0
+abbrev OfReading : VerdictOutcome → Type 0
 OfReading Quiet = Unit {0}
 OfReading (Alarm excess) = Unit {0}
 OfReading (RefusedReading r) = of_reading r.number r.line ≡ true
@@ -138,7 +133,7 @@ module _ (D : ℕ) (types : Types) (f : Figures) (within : figures_known D types
         (λ reading _ _ _ _ _.
         quiet_or_alarm (distance_of D f reading.values) f.ball.scaled_squared_radius OfReading tt (λ _. tt))
 
-    pub refusal_of_reading : (r : Refusal) → judged D types f text ≡ RefusedReading r → of_reading r.number r.line ≡ true
+    pub refusal_of_reading : (r : RefusalNumbers) → judged D types f text ≡ RefusedReading r → of_reading r.number r.line ≡ true
     refusal_of_reading r is = subst OfReading is judged_told
 
 -- ---- each reading of readings
@@ -361,7 +356,7 @@ unfolding numbers_after join
 accepted_told = other_told (byte "O") _ refl
 
 -- the line of a verdict, and whatever follows it
-line_told : (v : Verdict) → OfReading v → (more : List ℕ) → refuses_texts (print_verdict v ++ more) ≡ false
+line_told : (v : VerdictOutcome) → OfReading v → (more : List ℕ) → refuses_texts (print_verdict v ++ more) ≡ false
 unfolding numbers_after join
 line_told Quiet h more = other_told (byte "Q") _ refl
 line_told (Alarm excess) h more = other_told (byte "A") _ refl
@@ -401,7 +396,7 @@ four_told : (a b c d : ℕ) (more : List ℕ) → refuses_texts (four_numbers a 
 unfolding numbers_after join
 four_told a b c d more = ap refuses_texts (append_assoc (print (pos a)) _ more) ∙ number_told a _
 
-trial_told : (settings : List Setting) (vs : List Verdict) → refuses_texts (print_lines (trial_lines settings vs)) ≡ false
+trial_told : (settings : List Setting) (vs : List VerdictOutcome) → refuses_texts (print_lines (trial_lines settings vs)) ≡ false
 unfolding print_lines
 trial_told [] vs = four_told _ _ _ _ _
 trial_told (s ∷ settings) vs = four_told _ _ _ _ _

@@ -38,14 +38,11 @@ use Rattle.channel.specs.CodesLaws.{each_codes}
 use Rattle.envelope.specs.declared.Envelope.{Envelope}
 use Rattle.reading_line.specs.Reading.{Reading, one_line, reading_line, reading_of, print_reading, own_reading}
 use Rattle.reading_line.specs.ReadingLaws.{line-text, printed_form, own-form, own-length}
-use Rattle.reading.specs.Verdict.{judged}
-use Rattle.reading.specs.declared.Verdict.{Verdict}
-use Rattle.reading.specs.declared.Verdict.TheVariants.{Quiet}
+use Rattle.reading.specs.Verdict.{judged, VerdictOutcome, Quiet}
 use Rattle.record_print.specs.Printed.{record_text}
-use Rattle.record_read.specs.Clauses.{record_read}
+use Rattle.record_read.specs.Clauses.{record_read, EnvelopeRead}
 use Rattle.record_read.specs.ReadLaws.{accepting}
 use Rattle.record.specs.HouseLaws.{house_drawn_read}
-use Rattle.record_read.specs.declared.EnvelopeRead.{EnvelopeRead}
 use Rattle.text.specs.EndedLines.{with_ends, lines_with_ends}
 use Rattle.program_lines.specs.Lines.{print_accepted, print_verdict, print_verdicts}
 use Rattle.program_draw.specs.Output.{draw_budget, draw_output}
@@ -180,7 +177,7 @@ module _ (reference : List ℕ) (found : ReferenceText) (is : content row_limit 
         let in_form =
         own-form channel_types house_sound codes (label_at found i) (row_at found i).values codes_known_lem row_labelled row_within.complete in
         ap (print_verdicts total channel_types drawn.figures) (reading_next n (row_text i) more (row_reading i) (printed_form in_form))
-        ∙ ap (λ (v : Verdict). print_verdict v ++ print_verdicts total channel_types drawn.figures (lines_with_ends more)) row-judged
+        ∙ ap (λ (v : VerdictOutcome). print_verdict v ++ print_verdicts total channel_types drawn.figures (lines_with_ends more)) row-judged
 
   pub rows_quiet : (places : List ℕ) → Each (λ i. i < m) 0 places → text_within (flat_map row_text places) ≡ true
       → judge_output total row_limit channel_types reference drawn_text (flat_map row_text places)

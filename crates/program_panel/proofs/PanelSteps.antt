@@ -3,16 +3,16 @@
 --     StepPut, step_put              a tag, a comma and a step, with room for byte 10
 --     Steps codes steps out₀ ..      the first channels are printed
 --     steps_start, -next, -done      before the first, after one more, and after the last
---     Shown f steps, shown           the panel of an accepted record: its figures have n codes, and its lines are what is owed
+--     known_read                     the figures of an accepted record are within their limits
+--     Shown f steps, shown           the panel of such figures: they have n codes, and its lines are what is owed
 use Prim.Native.Nat.{ℕ, ◌+◌, ◌*◌, ◌^◌, ◌≤◌, ◌<◌}
 use mathlib.Core.Path.{◌≡◌, refl, sym, ap, ap₂, ◌∙◌}
 use mathlib.Core.List.{List, [], ◌∷◌, ◌++◌}
+use mathlib.Core.Bool.{true}
 use native.Mathlib.Omega.{arith}
 use lib.IntN.{ℤ, pos, nat_abs}
 use lib.ListN.{length, get_or, set, take, length-set}
 use lib.Seq.{length-take-le}
-use Rattle.refusal.specs.declared.Outcome.{Outcome}
-use Rattle.refusal.specs.declared.Outcome.TheVariants.{Accepted}
 use Rattle.limits.specs.Limits.{total, row_limit, channel_limit, tag_limit, distance_digits}
 use Rattle.text.specs.Parts.{comma, line_end}
 use Rattle.number.specs.Number.{print}
@@ -25,16 +25,16 @@ use Rattle.channel.specs.ContractLaws.{house_short, type_short}
 use Rattle.envelope.specs.Figures.{figures_known}
 use Rattle.envelope.specs.FigureLaws.{known-within, known_coded}
 use Rattle.envelope.specs.declared.Figures.{Figures}
-use Rattle.record_read.specs.declared.EnvelopeRead.{EnvelopeRead}
-use Rattle.panel_steps.specs.Panel.{panel_shown}
+use Rattle.panel_steps.specs.Panel.{panel_shown, PanelShown}
 use Rattle.panel_steps.specs.OwnLaws.{figures_shown}
-use Rattle.panel_steps.specs.declared.PanelShown.{PanelShown}
 use Rattle.program_lines.specs.Lines.{print_steps}
 use Rattle.program_panel.specs.Output.{shown_output}
 use Rattle.program_record.specs.Against.{unless_refused, record_against}
 use Rattle.program_panel.specs.Clauses.{step_room}
 use Rattle.program_panel.specs.OutputLaws.{steps_none, steps_more, steps_first}
 use Rattle.program_record.specs.AgainstLaws.{against-within}
+use Rattle.refusal.specs.Outcome.{Outcome, Accepted}
+use Rattle.record_read.specs.Clauses.{EnvelopeRead}
 
 -- where the tag ends: a comma, a number and byte 10 have room after it
 pub tag_end : (code : ℕ) {out out' : List ℕ} {at end : ℕ} → at + step_room ≤ length out → Put (tag_of channel_types code) out at out' end
@@ -94,13 +94,16 @@ pub record Shown (f : Figures) (steps : List ℤ) : Type 0 where
   pub typed : f.n ≤ length f.codes
   pub is : print_steps channel_types (take f.n f.codes) (take f.n steps) ≡ shown_output total channel_types f
 
-pub shown : (read : EnvelopeRead) (reference text : List ℕ) → read ≡ record_against total row_limit channel_types reference text → read.outcome ≡ Accepted
-    → (panel : PanelShown) → panel ≡ panel_shown total channel_types read.envelope.figures → Shown read.envelope.figures panel.steps
-shown read reference text is accepted panel panel-is =
-    let f = read.envelope.figures in
+-- the figures of an accepted record are within their limits
+pub known_read : (read : EnvelopeRead) (reference text : List ℕ) → read ≡ record_against total row_limit channel_types reference text → read.outcome ≡ Accepted
+    → figures_known total channel_types read.envelope.figures ≡ true
+known_read read reference text is accepted =
     let same : (record_against total row_limit channel_types reference text).outcome ≡ Accepted = ap (λ (r : EnvelopeRead). r.outcome) (sym is) ∙ accepted in
-    let within = ap (λ (r : EnvelopeRead). figures_known total channel_types r.envelope.figures) is
-    ∙ against-within total row_limit channel_types house_sound (omega arith) reference text same in
+    ap (λ (r : EnvelopeRead). figures_known total channel_types r.envelope.figures) is
+    ∙ against-within total row_limit channel_types house_sound (omega arith) reference text same
+
+pub shown : (f : Figures) → figures_known total channel_types f ≡ true → (panel : PanelShown) → panel ≡ panel_shown total channel_types f → Shown f panel.steps
+shown f within panel panel-is =
     let typed = (known_coded total channel_types f within).typed in
     let codes = take f.n f.codes in
     let count : length codes ≡ f.n = length-take-le f.n f.codes typed in

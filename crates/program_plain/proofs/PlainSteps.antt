@@ -2,18 +2,21 @@
 --     parsed_table     what is read of the text
 --     parsed_start     the labels of an accepted text stand where its rows start
 --     plain_put        where its labels are gathered, and what it lends is written, that is what plain prints
+--     plain_written    so it is always written
+--     printed_over     what is printed over a slice as it was
 use Prim.Native.Nat.{ℕ, ◌*◌, ◌≤◌, ◌<◌}
-use mathlib.Core.Path.{◌≡◌, sym, ap, ap₂, ◌∙◌}
+use mathlib.Core.Path.{◌≡◌, refl, sym, ap, ap₂, subst, ◌∙◌}
 use mathlib.Core.List.{List}
 use native.Mathlib.Omega.{arith}
 use lib.IntN.{ℤ}
 use lib.ListN.{length, get_or, take, take-append-drop}
-use Rattle.refusal.specs.Outcome.{number_of}
+use Rattle.refusal.specs.Outcome.{number_of, outcome_of, refusal_outcome, Accepted}
+use Rattle.refusal.specs.declared.Refusal.{Refusal}
+use Rattle.std.specs.Prelude.{Result, Ok, Err}
 use Rattle.limits.specs.Limits.{row_limit, place_limit}
 use Rattle.lent.specs.Filled.{filled}
-use Rattle.lent.specs.Clauses.{written}
+use Rattle.lent.specs.Clauses.{written, text_outcome, TextWritten}
 use Rattle.lent.specs.ContractLaws.{text_fits}
-use Rattle.lent.specs.declared.TextWritten.{TextWritten}
 use Rattle.printing.specs.Clauses.{Put}
 use Rattle.printing.specs.ContractLaws.{put_as}
 use Rattle.channel.specs.Channel.{channel_types}
@@ -21,10 +24,9 @@ use Rattle.channel.specs.ChannelLaws.{house_sound}
 use Rattle.channel.specs.ContractLaws.{house_short}
 use Rattle.reference_rows.specs.ReferenceText.{ReferenceText, row_count, labels_of}
 use Rattle.reference_rows.specs.Rows.{Content, sound, row_start}
-use Rattle.reference.specs.Clauses.{Parsed}
+use Rattle.reference.specs.Clauses.{Parsed, ReferenceOutcome}
 use Rattle.reference.specs.Printing.{print_text, Within}
 use Rattle.reference.specs.PrintedLaws.{text_most}
-use Rattle.reference.specs.declared.read.Reference.{Reference}
 use Rattle.reference.proofs.ReadSteps.{parsed_within, read_whole_lem, read-filled}
 use Rattle.reference_write.specs.Labels.{labels_joined, ends_from}
 use Rattle.reference_write.specs.Writing.{Lent, lent_text}
@@ -34,12 +36,12 @@ use Rattle.program_lines.proofs.LineSteps.{filled_put}
 use Rattle.program_record.proofs.ReadSteps.{TableRead, RowsRead, table-read}
 use Rattle.program_plain.specs.Output.{plain_output}
 use Rattle.program_plain.specs.OutputLaws.{plain_sound}
-use Rattle.program_plain.specs.Clauses.{plain_room, labels_at, LabelsStart, Gathered}
+use Rattle.program_plain.specs.Clauses.{plain_room, labels_at, LabelsStart, Gathered, PlainWritten}
 use Rattle.program_plain.specs.ContractLaws.{labels-start, labels-found}
 
 -- ---- the text as it is read
 
-module _ {text : List ℕ} {table : List ℤ} {starts : List ℕ} {r : Reference} (p : Parsed row_limit channel_types text table starts r) where
+module _ {text : List ℕ} {table : List ℤ} {starts : List ℕ} {r : ReferenceOutcome} (p : Parsed row_limit channel_types text table starts r) where
   own-filled : table ≡ filled 0 (r.m * r.n) table table
   unfolding filled
   own-filled = sym (take-append-drop (r.m * r.n) table)
@@ -57,10 +59,10 @@ lent_same : {rows rows' : List ℤ} {m m' n n' : ℕ} {codes codes' labels label
     (record { rows = rows'; m = m'; n = n'; codes = codes'; labels = labels'; ends = ends' })
 lent_same rows m n codes labels ends = cc
 
-module _ {text : List ℕ} {table : List ℤ} {starts : List ℕ} {r : Reference} (p : Parsed row_limit channel_types text table starts r)
+module _ {text : List ℕ} {table : List ℤ} {starts : List ℕ} {r : ReferenceOutcome} (p : Parsed row_limit channel_types text table starts r)
     (read : RowsRead text r table) where
   rows_are : r.m ≡ row_count read.found
-  rows_are = ap (λ (x : Reference). x.m) read.answer
+  rows_are = ap (λ (x : ReferenceOutcome). x.m) read.answer
 
   lines_are : (k : ℕ) → k < row_count read.found → get_or starts k 0 ≡ row_start read.found text k
   lines_are = p.lines read.found read.is
@@ -86,7 +88,7 @@ module _ {text : List ℕ} {table : List ℤ} {starts : List ℕ} {r : Reference
 
     handed_is : handed ≡ lent_of read.found
     handed_is =
-        lent_same read.first rows_are (ap (λ (x : Reference). x.n) read.answer) read.typed
+        lent_same read.first rows_are (ap (λ (x : ReferenceOutcome). x.n) read.answer) read.typed
         (g.all_bytes ∙ ap labels_joined parsed_labels) (g.all_ends ∙ ap (ends_from 0) parsed_labels)
 
     module _ (plain : ReferenceText) (text_is : lent_text row_limit channel_types (lent_of read.found) ≡ sound plain)
@@ -114,3 +116,19 @@ module _ {text : List ℕ} {table : List ℤ} {starts : List ℕ} {r : Reference
             let put : Put printed out 0 out' (length printed) = rw after (filled_put printed out plain_room_lem) in
             put_as put (sym (plain_sound row_limit channel_types text read.found read.is plain text_is))
             (ap (λ (x : TextWritten). x.length) (sym plain-written))
+
+        -- what is lent is always written
+        pub plain_written : (a : Result ℕ Refusal) {out' : List ℕ} → text_outcome a ≡ w
+            → out' ≡ filled (number_of (outcome_of a)) (text_outcome a).length (written_text channel_types (lent_text row_limit channel_types handed)) out
+            → PlainWritten text out out' a
+        plain_written (Ok bytes) {out'} is f =
+            let put = plain_put {out' = out'} (f ∙ ap (λ (x : TextWritten). filled (number_of x.outcome) x.length (written_text channel_types (lent_text row_limit channel_types handed)) out) is) in
+            rw (sym is) at put
+        plain_written (Err r) is f =
+            let accepted : refusal_outcome r ≡ Accepted = ap (λ (x : TextWritten). x.outcome) (is ∙ plain-written) in
+            let z : ◌≡◌ {A = ℕ} 0 1 = cc in
+            absurd (omega arith)
+
+-- what is printed over a slice as it was
+pub printed_over : {printed output out₀ out out' : List ℕ} {r : ℕ} → Put printed out 0 out' r → out ≡ out₀ → output ≡ printed → Put output out₀ 0 out' r
+printed_over {printed} {output} {out₀} {out} {out'} {r} f same is = put_as (subst (λ (o : List ℕ). Put printed o 0 out' r) same f) (sym is) refl

@@ -5,16 +5,13 @@
 --     unless_refused outcome output                  the refusal, or this output
 --     of_figures read output                         the refusal of a record, or what is printed of its figures
 use Rattle.std.specs.Prelude.{ℕ, List}
-use Rattle.refusal.specs.Outcome.{refused_at}
-use Rattle.refusal.specs.declared.Outcome.{Outcome}
-use Rattle.refusal.specs.declared.Outcome.TheVariants.{Accepted, Refused}
+use Rattle.refusal.specs.Outcome.{refused_at, Outcome, Accepted, Refused}
 use Rattle.channel.specs.Channel.{Types}
 use Rattle.reference_rows.specs.ReferenceText.{codes_of, channel_count, row_count, table_of}
 use Rattle.reference_rows.specs.Rows.{Content, faulty, sound}
 use Rattle.reference.specs.Reference.{content}
 use Rattle.envelope.specs.declared.Figures.{Figures}
-use Rattle.record_read.specs.Clauses.{not_read, record_read}
-use Rattle.record_read.specs.declared.EnvelopeRead.{EnvelopeRead}
+use Rattle.record_read.specs.Clauses.{not_read, record_read, EnvelopeRead}
 use Rattle.program_lines.specs.Lines.{print_refusal}
 
 abbrev pub content_against : ℕ → ℕ → Types → List ℕ → Content → EnvelopeRead

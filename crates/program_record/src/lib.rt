@@ -5,26 +5,26 @@
 ghost use Rattle.std.specs.Prelude.{◌≡◌};
 ghost use Rattle.limits.specs.Limits.{total, row_limit};
 ghost use Rattle.channel.specs.Channel.{channel_types};
+ghost use Rattle.record_read.specs.Clauses.{envelope_outcome};
 ghost use Rattle.program_record.specs.Against.{record_against};
 
+use envelope::Envelope;
 use limits::PLACES;
-use record_read::EnvelopeRead;
-use refusal::Outcome;
+use refusal::Refusal;
 
 // Reads a record against the rows and tags of a reference text. Refused: as the reference text is, then as the record is.
-pub fn record_against(reference: &[u8], record_text: &[u8]) -> EnvelopeRead
-    ensures { result ≡ record_against total row_limit channel_types reference.now record_text.now }
+pub fn record_against(reference: &[u8], record_text: &[u8]) -> Result<Envelope, Refusal>
+    ensures { envelope_outcome row_limit result ≡ record_against total row_limit channel_types reference.now record_text.now }
 {
     let mut table = [0i32; PLACES];
-    let read = reference::read::read(reference, &mut table);
-    let outcome = read.outcome;
-    let n = read.n;
-    let places = read.m * n;
+    let read = reference::read::read(reference, &mut table)?;
+    let places = read.m * read.n;
     let codes = read.codes;
-    match outcome {
-        Outcome::Accepted => {
-            record_read::read(&table[..places], read.m, n, &codes[..n], record_text)
-        }
-        Outcome::Refused(refusal) => record_read::not_read(refusal.number, refusal.line),
-    }
+    record_read::read(
+        &table[..places],
+        read.m,
+        read.n,
+        &codes[..read.n],
+        record_text,
+    )
 }

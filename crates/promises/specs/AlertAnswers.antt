@@ -15,14 +15,11 @@ use Rattle.std.proofs.Common.{zero-le, ◌∙◌, ap, ap₂, subst, sym, inl, in
 use Rattle.std.proofs.lemmas.Bool.{lt-leb}
 use Rattle.integers.specs.Tests.{range_in}
 use Rattle.refusal.specs.Number.{alert_settings, buffer_short, outside_limits, text_length}
-use Rattle.refusal.specs.Outcome.{line_of, number_of, refused, require}
+use Rattle.refusal.specs.Outcome.{line_of, number_of, refused, require, Refused, RefusalNumbers}
 use Rattle.refusal.specs.OutcomeLaws.{each_answer}
-use Rattle.refusal.specs.declared.Outcome.TheVariants.{Refused}
-use Rattle.refusal.specs.declared.Refusal.{Refusal}
 use Rattle.limits.specs.Limits.{run_limit, total}
 use Rattle.lent.specs.ContractLaws.{text_fits, text_most}
-use Rattle.lent.specs.Clauses.{not_written, text_written, written}
-use Rattle.lent.specs.declared.TextWritten.{TextWritten}
+use Rattle.lent.specs.Clauses.{not_written, text_written, written, TextWritten}
 use Rattle.text.specs.Lines.{print_lines}
 use Rattle.text.specs.Parts.{text_within}
 use Rattle.channel.specs.Channel.{channel_types}
@@ -79,7 +76,7 @@ TrialNumber number = EarlyNumber number ⊎ (number ≡ buffer_short)
 
 pub record TrialAnswered (w : TextWritten) : Type 0 where
   pub answered : TextAnswered w
-  pub numbers : (r : Refusal) → w.outcome ≡ Refused r → TrialNumber r.number × (r.line ≡ 0)
+  pub numbers : (r : RefusalNumbers) → w.outcome ≡ Refused r → TrialNumber r.number × (r.line ≡ 0)
   pub for_C_and_Rust : WrittenNumbers (written_in_numbers w)
 
 pub record TrialsListed : Type 0 where

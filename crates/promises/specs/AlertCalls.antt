@@ -4,9 +4,9 @@
 --     AlertCalls, alert_calls     the calls, each by the definition that gives its answer
 --     AlertWalk, alert_walk       no public call: the walk over the readings, which counts each verdict for all settings at once
 use Rattle.std.specs.Prelude.{◌≤◌, ◌≡◌, length}
-use Rattle.refusal.specs.Outcome.{number_of}
+use Rattle.refusal.specs.Outcome.{number_of, outcome_of}
 use Rattle.limits.specs.Limits.{row_limit, total}
-use Rattle.lent.specs.Clauses.{Part, text_written}
+use Rattle.lent.specs.Clauses.{Part, text_written, text_outcome}
 use Rattle.lent.specs.Filled.{filled}
 use Rattle.channel.specs.Channel.{channel_types}
 use Rattle.envelope.specs.Clauses.{lent_figures}
@@ -49,27 +49,27 @@ module _ {M : Type 1} {𝓤 : Ura M} (𝓛 : Logic 𝓤) (𝓜 : Model 𝓤 𝓛
         (λ κs a r e.
         let figures = a.0 in let settings = a.1.0.now in let readings = a.1.1.0.now in let output = a.1.1.1.0.now in
         let output-after = e.1.1.1.0.now in
-        ⌜ r ≡ trial_written (trial_of total channel_types figures settings readings) (length output) ⌝
-        ∗ ⌜ output-after ≡ filled (number_of r.outcome) r.length (trial_text (trial_of total channel_types figures settings readings)) output ⌝
-        ∗ ⌜ Part output-after r.length ⌝
+        ⌜ text_outcome r ≡ trial_written (trial_of total channel_types figures settings readings) (length output) ⌝
+        ∗ ⌜ output-after ≡ filled (number_of (outcome_of r)) (text_outcome r).length (trial_text (trial_of total channel_types figures settings readings)) output ⌝
+        ∗ ⌜ Part output-after (text_outcome r).length ⌝
         ∗ ⌜ length (trial_text (trial_of total channel_types figures settings readings)) ≤ trial_most ⌝)
     -- by a second form that is lent codes and X: try_settings_lent(scalars, codes, scaled_centre, settings, readings, output)
     pub tries_settings_lent : Answers 𝓛 𝓜 𝓡 trying-lent.ended trying-lent-code.code trying-lent-code.name
         (λ κs a r e.
         let figures = lent_figures a.0 a.1.0.now a.1.1.0.now in let settings = a.1.1.1.0.now in
         let readings = a.1.1.1.1.0.now in let output = a.1.1.1.1.1.0.now in let output-after = e.1.1.1.1.1.0.now in
-        ⌜ r ≡ trial_written (trial_of total channel_types figures settings readings) (length output) ⌝
-        ∗ ⌜ output-after ≡ filled (number_of r.outcome) r.length (trial_text (trial_of total channel_types figures settings readings)) output ⌝
-        ∗ ⌜ Part output-after r.length ⌝
+        ⌜ text_outcome r ≡ trial_written (trial_of total channel_types figures settings readings) (length output) ⌝
+        ∗ ⌜ output-after ≡ filled (number_of (outcome_of r)) (text_outcome r).length (trial_text (trial_of total channel_types figures settings readings)) output ⌝
+        ∗ ⌜ Part output-after (text_outcome r).length ⌝
         ∗ ⌜ length (trial_text (trial_of total channel_types figures settings readings)) ≤ trial_most ⌝)
     -- the program, from its texts to the whole output: alerts(reference, record_text, settings_text, readings, output)
     pub program_tries_settings : Answers 𝓛 𝓜 𝓡 program.ended program-code.code program-code.name
         (λ κs a r e.
         let reference = a.0.now in let text = a.1.0.now in let settings = a.1.1.0.now in let readings = a.1.1.1.0.now in
         let output = a.1.1.1.1.0.now in let output-after = e.1.1.1.1.0.now in
-        ⌜ r ≡ text_written (alerts_output total row_limit channel_types reference text settings readings) (length output) ⌝
-        ∗ ⌜ output-after ≡ filled (number_of r.outcome) r.length (alerts_output total row_limit channel_types reference text settings readings) output ⌝
-        ∗ ⌜ Part output-after r.length ⌝
+        ⌜ text_outcome r ≡ text_written (alerts_output total row_limit channel_types reference text settings readings) (length output) ⌝
+        ∗ ⌜ output-after ≡ filled (number_of (outcome_of r)) (text_outcome r).length (alerts_output total row_limit channel_types reference text settings readings) output ⌝
+        ∗ ⌜ Part output-after (text_outcome r).length ⌝
         ∗ ⌜ length (alerts_output total row_limit channel_types reference text settings readings) ≤ trial_most ⌝)
     -- for C and Rust: cundarivo_try_settings(figures, codes, scaled_centre, settings, readings, output)
     pub cundarivo_try_settings : Answers 𝓛 𝓜 𝓡 exported.ended exported-code.code exported-code.name
@@ -96,22 +96,20 @@ module _ {M : Type 1} {𝓤 : Ura M} (𝓛 : Logic 𝓤) (𝓜 : Model 𝓤 𝓛
         cundarivo_program_alerts = exported-program-proof.met 𝓤 𝓛 𝓜 𝓡;
       }
 
-  -- place j of ks and cs is setting j; at exit `standing`, `raised` and `passed` are what the definitions give of its k and c (`Tallied`),
+  -- place j of ks and cs is setting j; at exit `tally` is what the definitions give of its k and c (`Tallied`),
   -- and the result counts the verdicts of each kind
   pub record AlertWalk : Type 1 where
-    -- walk(scalars, codes, scaled_centre, readings, ks, cs, standing, raised, passed)
+    -- walk(scalars, codes, scaled_centre, readings, ks, cs, tally)
     pub walks : AnswersWhere 𝓛 𝓜 𝓡 walk.ended walk-code.code walk-code.name
         (λ κs a.
         let readings = a.1.1.1.0.now in let ks = a.1.1.1.1.0.now in let cs = a.1.1.1.1.1.0.now in
-        let standing = a.1.1.1.1.1.1.0.now in let raised = a.1.1.1.1.1.1.1.0.now in
-        let passed = a.1.1.1.1.1.1.1.1.0.now in
-        ⌜ WalkAsked readings ks cs standing raised passed ⌝)
+        let tally = a.1.1.1.1.1.1.0.now in
+        ⌜ WalkAsked readings ks cs tally.standing tally.raised tally.passed ⌝)
         (λ κs a r e.
         let figures = lent_figures a.0 a.1.0.now a.1.1.0.now in let readings = a.1.1.1.0.now in
         let ks = a.1.1.1.1.0.now in let cs = a.1.1.1.1.1.0.now in
-        let standing-after = e.1.1.1.1.1.1.0.now in let raised_after = e.1.1.1.1.1.1.1.0.now in
-        let passed_after = e.1.1.1.1.1.1.1.1.0.now in
-        ⌜ Walked (verdicts_on total channel_types figures readings) ks cs standing-after raised_after passed_after r ⌝)
+        let after = e.1.1.1.1.1.1.0.now in
+        ⌜ Walked (verdicts_on total channel_types figures readings) ks cs after.standing after.raised after.passed r ⌝)
 
   pub alert_walk : AlertWalk
   alert_walk = record { walks = walk-proof.met 𝓤 𝓛 𝓜 𝓡 }

@@ -5,8 +5,6 @@ use Rattle.std.specs.Prelude.{◌≤◌, ℕ, ◌≡◌, refl, false, true, List
 use Rattle.std.proofs.Common.{◌∙◌, ap, sym, arith}
 use Rattle.std.proofs.Math.Option.{none, some}
 use Rattle.refusal.specs.Number.{alert_settings, text_length}
-use Rattle.refusal.specs.declared.Outcome.TheVariants.{Accepted, Refused}
-use Rattle.refusal.specs.declared.Refusal.{Refusal}
 use Rattle.limits.specs.Limits.{row_limit, total}
 use Rattle.text.specs.Lines.{print_lines}
 use Rattle.text.specs.Parts.{comma, join, text_within}
@@ -22,6 +20,7 @@ use Rattle.program_lines.specs.Lines.{print_refusal}
 use Rattle.program_alerts.specs.Output.{alerts_output}
 use Rattle.program_alerts.specs.OutputLaws.{alerts_readings, alerts_refused, alerts_settings, alerts_tried}
 use Rattle.promises.specs.House.{against}
+use Rattle.refusal.specs.Outcome.{Accepted, Refused, RefusalNumbers}
 
 -- ---- settings
 
@@ -48,7 +47,7 @@ settings_texts =
 
 pub record AlertsPrinted (reference text settings readings : List ℕ) : Type 0 where
   -- the reference text and the record first, as in `judge`
-  pub texts_first : (r : Refusal) → (against reference text).outcome ≡ Refused r
+  pub texts_first : (r : RefusalNumbers) → (against reference text).outcome ≡ Refused r
       → alerts_output total row_limit channel_types reference text settings readings ≡ print_refusal r.number r.line
   -- then the settings text by 14, whatever its fault
   pub settings_14 : (against reference text).outcome ≡ Accepted → text_of_settings settings ≡ none

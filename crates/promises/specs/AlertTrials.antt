@@ -6,9 +6,7 @@
 use Rattle.std.specs.Prelude.{◌*◌, ◌+◌, ◌-◌, ◌/◌, ◌<◌, ◌≤◌, ℕ, ◌≡◌, refl, ◌&&◌, cond, false, not, true, List, [], ◌++◌, ◌∷◌, map, leb, get_or, length}
 use Rattle.std.proofs.Common.{◌∙◌, ap, sym, arith}
 use Rattle.refusal.specs.Number.{buffer_short, line_form}
-use Rattle.refusal.specs.Outcome.{number_of}
-use Rattle.refusal.specs.declared.Outcome.TheVariants.{Accepted}
-use Rattle.refusal.specs.declared.Refusal.{Refusal}
+use Rattle.refusal.specs.Outcome.{number_of, Accepted, RefusalNumbers}
 use Rattle.limits.specs.Limits.{row_limit, total}
 use Rattle.text.specs.EndedLines.{lines_with_ends}
 use Rattle.text.specs.LineCountLaws.{LastPiece, bytes_of, last_piece, unended}
@@ -16,9 +14,7 @@ use Rattle.text.specs.Lines.{ended, print_lines}
 use Rattle.text.specs.Parts.{cut, free, line_end}
 use Rattle.channel.specs.Channel.{channel_types}
 use Rattle.envelope.specs.declared.Figures.{Figures}
-use Rattle.reading.specs.Verdict.{judged, refused_verdict}
-use Rattle.reading.specs.declared.Verdict.{Verdict}
-use Rattle.reading.specs.declared.Verdict.TheVariants.{Refused}
+use Rattle.reading.specs.Verdict.{judged, refused_verdict, VerdictOutcome, Refused}
 use Rattle.alert.specs.Alert.{Finding, History, Setting, ◌then◌, alarm, counted, ends_in, passed, quiet, raised, stands, start}
 use Rattle.alert.specs.AlertLaws.{ends_one, found_all, raised_passed}
 use Rattle.alert.specs.Clauses.{Positive, Stepped, Tallied, run_of}
@@ -84,7 +80,7 @@ alerts_counted s =
 -- ---- the lines of a trial
 
 -- settings count from 0, each two numbers of the list; parts of the text are what stands between its bytes 10
-pub record SettingsTried (f : Figures) (settings readings text : List ℕ) (vs : List Verdict) : Type 0 where
+pub record SettingsTried (f : Figures) (settings readings text : List ℕ) (vs : List VerdictOutcome) : Type 0 where
   pub settings_count : length (settings_of settings) ≡ length settings / 2
   pub setting_is : (i : ℕ) → i < length (settings_of settings)
       → IsSetting settings i (record { k = get_or settings (2 * i) 0; c = get_or settings (2 * i + 1) 0 })
@@ -149,7 +145,7 @@ pub record LinesAlike (settings text settings' text' : List ℕ) (i j : ℕ) (s 
       → get_or (cut line_end text) i [] ≡ get_or (cut line_end text') j []
   -- so of readings with and without a line that is turned back
   pub line_turned_back : (before line after : List ℕ) → unended before ≡ 0 → free line_end line ≡ true
-      → (r : Refusal) → judged total channel_types f (line ++ (line_end ∷ [])) ≡ Refused r
+      → (r : RefusalNumbers) → judged total channel_types f (line ++ (line_end ∷ [])) ≡ Refused r
       → trial_of total channel_types f settings (before ++ ((line ++ (line_end ∷ [])) ++ after)) ≡ sound text
       → trial_of total channel_types f settings' (before ++ after) ≡ sound text'
       → get_or (cut line_end text) i [] ≡ get_or (cut line_end text') j []

@@ -26,8 +26,7 @@ use Rattle.std.proofs.Math.Option.{Option, none, some}
 use Rattle.std.specs.Int.Signed.{le_z}
 use Rattle.lists.specs.Each.{Each, each_head, each_tail}
 use Rattle.refusal.specs.Number.{alert_settings, disagreement, outside_limits, text_length}
-use Rattle.refusal.specs.Outcome.{refused, require}
-use Rattle.refusal.specs.declared.Outcome.TheVariants.{Accepted}
+use Rattle.refusal.specs.Outcome.{refused, require, Accepted}
 use Rattle.limits.specs.Limits.{row_limit, total}
 use Rattle.geometry.specs.Figures.{scaled_squared_distance}
 use Rattle.geometry.specs.Places.{centre_of}
@@ -51,15 +50,13 @@ use Rattle.envelope.specs.declared.Figures.{Figures}
 use Rattle.agreement.specs.Agreement.{agrees}
 use Rattle.reading.specs.Content as reading
 use Rattle.reading.specs.Content.{reading_content}
-use Rattle.reading.specs.Verdict.{judged, verdict_of, verdict_on}
-use Rattle.reading.specs.declared.Verdict.{Verdict}
+use Rattle.reading.specs.Verdict.{judged, verdict_of, verdict_on, VerdictOutcome}
 use Rattle.measured_reading.specs.Measured.{MeasuredReading, measured, measured_as}
 use Rattle.alert_settings.specs.Settings.{settings_of, settings_within}
 use Rattle.alert_trial.specs.Trial.{Trial, faulty, sound, trial_lines, trial_of, verdicts_on}
 use Rattle.settings_text.specs.SettingsText.{text_of_settings}
-use Rattle.record_read.specs.Clauses.{not_read, record_read}
+use Rattle.record_read.specs.Clauses.{not_read, record_read, EnvelopeRead}
 use Rattle.record_read.specs.ReadLaws.{read-otherwise}
-use Rattle.record_read.specs.declared.EnvelopeRead.{EnvelopeRead}
 use Rattle.program_lines.specs.Lines.{print_accepted, print_refusal, print_verdict, print_verdicts}
 use Rattle.program_record.specs.Against.{of_figures, unless_refused}
 use Rattle.program_record.specs.AgainstLaws.{against_sound}
@@ -184,7 +181,7 @@ abbrev pub content_as_zero : reading.Content → reading.Content
 content_as_zero (reading.faulty refusal line) = reading.faulty refusal line
 content_as_zero (reading.sound values) = reading.sound (map zeroed values)
 
-abbrev pub verdict_as_zero : Figures → List ℕ → Verdict
+abbrev pub verdict_as_zero : Figures → List ℕ → VerdictOutcome
 verdict_as_zero f text = verdict_on total f (content_as_zero (reading_content total channel_types f text))
 
 abbrev pub ReadingBelowOne : Figures → List ℕ → Type 0
@@ -198,7 +195,7 @@ pub record ReadingAsBefore (f : Figures) (text : List ℕ) : Type 0 where
 abbrev pub ReadingsBelowOne : Figures → List ℕ → Type 0
 ReadingsBelowOne f readings = Each (ReadingBelowOne f) [] (lines_with_ends readings)
 
-abbrev pub verdicts_as_zero : Figures → List ℕ → List Verdict
+abbrev pub verdicts_as_zero : Figures → List ℕ → List VerdictOutcome
 verdicts_as_zero f readings = map (verdict_as_zero f) (lines_with_ends readings)
 
 -- what is printed of readings, and of a trial of settings on them
@@ -255,7 +252,7 @@ module _ (f : Figures) where
   lines_as_zero (line ∷ lines) h =
       let first = judged_as_zero line (each_head (ReadingBelowOne f) [] line lines h) in
       let rest = lines_as_zero lines (each_tail (ReadingBelowOne f) [] line lines h) in
-      (ap₂ ◌∷◌ first rest.0, ap₂ (λ (v : Verdict) (l : List ℕ). print_verdict v ++ l) first rest.1)
+      (ap₂ ◌∷◌ first rest.0, ap₂ (λ (v : VerdictOutcome) (l : List ℕ). print_verdict v ++ l) first rest.1)
 
   readings_as_before : (readings : List ℕ) → ReadingsBelowOne f readings → ReadingsAsBefore f readings
   unfolding readings_output trial_of
@@ -265,7 +262,7 @@ module _ (f : Figures) where
         verdicts = lines.0;
         printed = ap (λ (l : List ℕ). require (text_within readings) (print_refusal text_length 0) (λ _. l)) lines.1;
         tried = λ settings.
-            ap (λ (vs : List Verdict).
+            ap (λ (vs : List VerdictOutcome).
             require (figures_known total channel_types f) (faulty outside_limits) (λ _.
             require (settings_within settings) (faulty alert_settings) (λ _.
             require (text_within readings) (faulty text_length) (λ _.

@@ -3,21 +3,20 @@
 --     promise_2_5     what the check accepts and gives (`CheckMade`)
 use Rattle.std.specs.Prelude.{◌<◌, ◌≤◌, suc, ℕ, ◌≡◌, refl, Bool, false, true, List, ℤ, length, replicate, set, take}
 use Rattle.std.proofs.Math.Path.{ap}
-use Rattle.refusal.specs.declared.Outcome.TheVariants.{Accepted}
 use Rattle.limits.specs.Limits.{budget_limit}
 use Rattle.geometry.specs.Figures.{scaled_centre, scaled_lower_bound, scaled_squared_radius}
 use Rattle.geometry.specs.Move.{moved, settled, weight_of}
 use Rattle.geometry.specs.Places.{centre_list, weights_total}
 use Rattle.geometry.specs.Table.{coordinate, rows_within}
 use Rattle.ball.specs.Ball.{ball_of, filled_ball}
-use Rattle.checking.specs.Check.{checking}
+use Rattle.checking.specs.Check.{checking, Checked}
 use Rattle.checking.specs.CheckLaws.{checking-checked}
 use Rattle.checking.specs.Demand.{checking-accepted, checking_accepts}
-use Rattle.checking.specs.declared.Checked.{Checked}
 use Rattle.drawing.specs.Demand.{drawing-accepted, drawing_accepts, drawing_is, drawing_spent, drawing-total, run-total}
 use Rattle.drawing.specs.Draw.{Run, drawing, drawn, run_from, start}
 use Rattle.drawing.specs.DrawnWeights.{drawing_checks}
 use Rattle.drawing.specs.RunLaws.{ended, run_step, run-stop, run_zero}
+use Rattle.refusal.specs.Outcome.{Accepted}
 
 -- ---- 2.4
 

@@ -10,8 +10,8 @@ use Rattle.reference_rows.specs.Rows.{Content}
 use Rattle.reference.specs.Reference.{content}
 use Rattle.reference_write.specs.Writing.{Lent, lent_text}
 use Rattle.record_form.specs.Record.{Form, Record, form}
-use Rattle.record_read.specs.declared.EnvelopeRead.{EnvelopeRead}
 use Rattle.program_record.specs.Against.{record_against}
+use Rattle.record_read.specs.Clauses.{EnvelopeRead}
 
 abbrev pub text_content : List ℕ → Content
 text_content = content row_limit channel_types

@@ -7,15 +7,13 @@ use Rattle.std.proofs.Common.{zero-le, le_of_suc-le-suc, not-suc-le-zero, arith,
 use Rattle.refusal.specs.OutcomeLaws.{each_answer}
 use Rattle.limits.specs.Limits.{row_limit, total}
 use Rattle.lent.specs.ContractLaws.{text_most}
-use Rattle.lent.specs.Clauses.{text_written}
+use Rattle.lent.specs.Clauses.{text_written, TextWritten}
 use Rattle.lent.specs.Filled.{filled, filled-length}
-use Rattle.lent.specs.declared.TextWritten.{TextWritten}
 use Rattle.channel.specs.Channel.{channel_types}
 use Rattle.reference_rows.specs.ReferenceText.{channel_count, row_count}
 use Rattle.reference_rows.specs.Rows.{Content, faulty, sound}
-use Rattle.reference.specs.Clauses.{answer_of, reference_read, values_in, with_table}
+use Rattle.reference.specs.Clauses.{answer_of, reference_read, values_in, with_table, ReferenceOutcome}
 use Rattle.reference.specs.TableLaws.{table_length}
-use Rattle.reference.specs.declared.read.Reference.{Reference}
 use Rattle.envelope.specs.declared.Envelope.{Envelope}
 use Rattle.record_print.specs.Printed.{record_text}
 use Rattle.record_write.specs.Clauses.{record_written}
@@ -76,11 +74,11 @@ reference_count text places = go (text_content text) refl
   where
     go : (c : Content) → text_content text ≡ c → let r = with_table places (answer_of c) in CountWithin (r.m * r.n) (values_in c) places
     go (faulty number line) is =
-        each_answer (λ (r : Reference). CountWithin (r.m * r.n) (values_in (faulty number line)) places) (leb 0 places)
+        each_answer (λ (r : ReferenceOutcome). CountWithin (r.m * r.n) (values_in (faulty number line)) places) (leb 0 places)
         (λ _. (zero-le, zero-le)) (λ _. (zero-le, zero-le))
     go (sound found) is =
         let count = row_count found * channel_count found in
-        each_answer (λ (r : Reference). CountWithin (r.m * r.n) (values_in (sound found)) places) (leb count places) (λ _. (zero-le, zero-le))
+        each_answer (λ (r : ReferenceOutcome). CountWithin (r.m * r.n) (values_in (sound found)) places) (leb count places) (λ _. (zero-le, zero-le))
         (λ room. (omega (arith, table_length row_limit channel_types text found is), leb-true count places room))
 
 writing-count : (rows : List ℤ) (m : ℕ) (e : Envelope) (places : ℕ)

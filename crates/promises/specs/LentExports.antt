@@ -8,29 +8,24 @@ use Rattle.std.proofs.lemmas.List.{length-replicate}
 use Rattle.integers.specs.Tests.{both, unlike}
 use Rattle.lists.specs.Padded.{padded-length}
 use Rattle.refusal.specs.OutcomeLaws.{each_answer}
-use Rattle.refusal.specs.declared.Outcome.TheVariants.{Accepted}
 use Rattle.limits.specs.Limits.{channel_limit, row_limit, total}
 use Rattle.lent.specs.ContractLaws.{room_accepted}
-use Rattle.lent.specs.declared.TextWritten.{TextWritten}
 use Rattle.geometry.specs.Places.{centre_of}
 use Rattle.geometry.specs.PlacesLaws.{length_centre_list}
 use Rattle.geometry.specs.TableLaws.{within-table}
 use Rattle.ball.specs.Ball.{ball_of, filled_ball}
 use Rattle.ball.specs.declared.Ball.{Ball}
-use Rattle.checking.specs.Check.{checking}
+use Rattle.checking.specs.Check.{checking, Checked}
 use Rattle.checking.specs.CheckLaws.{checking-checked}
 use Rattle.checking.specs.Demand.{checking-accepted, checking_zero}
-use Rattle.checking.specs.declared.Checked.{Checked}
 use Rattle.drawing.specs.Demand.{drawing-accepted, drawing_is, drawing_zero}
-use Rattle.drawing.specs.Draw.{drawing}
+use Rattle.drawing.specs.Draw.{drawing, DrawingOutcome}
 use Rattle.drawing.specs.DrawnWeights.{drawing-length}
-use Rattle.drawing.specs.declared.Drawing.{Drawing}
 use Rattle.channel.specs.Channel.{channel_types}
 use Rattle.reference_rows.specs.ReferenceText.{channel_count, codes_of, row_count}
 use Rattle.reference_rows.specs.Rows.{Content, faulty, sound}
-use Rattle.reference.specs.Clauses.{answer_of, reference_read, values_in, with_table}
+use Rattle.reference.specs.Clauses.{answer_of, reference_read, values_in, with_table, ReferenceOutcome}
 use Rattle.reference.specs.ReferenceLaws.{accepted-rows}
-use Rattle.reference.specs.declared.read.Reference.{Reference}
 use Rattle.envelope.specs.Figures.{figures_known}
 use Rattle.envelope.specs.declared.Envelope.{Envelope}
 use Rattle.record_form.specs.WeightsLaws.{weights-length}
@@ -38,8 +33,7 @@ use Rattle.record_print.specs.Printed.{record_text}
 use Rattle.record_read.specs.Clauses.{record_read, stated_ball}
 use Rattle.record_read.specs.ReadLaws.{accepted-read, read_zero}
 use Rattle.typed_rows.specs.GivenLaws.{given-within}
-use Rattle.panel_steps.specs.Panel.{panel_shown}
-use Rattle.panel_steps.specs.declared.PanelShown.{PanelShown}
+use Rattle.panel_steps.specs.Panel.{panel_shown, PanelShown}
 use Rattle.export_figures.specs.Clauses.{ending_known, figures_given}
 use Rattle.export_figures.specs.declared.FiguresGiven.{FiguresGiven}
 use Rattle.export_ball.specs.Clauses.{check_answer, draw_answer}
@@ -49,6 +43,8 @@ use Rattle.export_chart.specs.Clauses.{panel_answer, panel_given}
 use Rattle.export_chart.proofs.PanelLaws.{panel_accepted}
 use Rattle.promises.specs.House.{text_content}
 use Rattle.promises.specs.Lent.{CountWithin, counts_within}
+use Rattle.refusal.specs.Outcome.{Accepted}
+use Rattle.lent.specs.Clauses.{TextWritten}
 
 pub record ExportCounts : Type 0 where
   -- X, and the weights
@@ -88,7 +84,7 @@ drawing_sources rows m n budget is =
     let d = drawing total row_limit rows m n budget in
     let table = within-table rows m n (drawing-accepted total row_limit rows m n budget is).0 in
     let eight : length d.ball.scaled_centre ≡ channel_limit =
-    ap (λ (x : Drawing). length x.ball.scaled_centre) (drawing_is total row_limit rows m n budget is) ∙ length_centre_list n _ in
+    ap (λ (x : DrawingOutcome). length x.ball.scaled_centre) (drawing_is total row_limit rows m n budget is) ∙ length_centre_list n _ in
     (omega (arith, eight, table.channels), omega (arith, drawing-length total row_limit rows m n budget, table.rows_most))
 
 check_sources : (rows : List ℤ) (m n : ℕ) (ws : List ℕ) → let c = checking total row_limit rows m n ws in
@@ -109,9 +105,9 @@ unfolding reference_read
 reference_codes text places = go (text_content text) refl
   where
     go : (c : Content) → text_content text ≡ c → let a = with_table places (answer_of c) in a.n ≤ length a.codes
-    go (faulty number line) is = each_answer (λ (a : Reference). a.n ≤ length a.codes) (leb 0 places) (λ _. zero-le) (λ _. zero-le)
+    go (faulty number line) is = each_answer (λ (a : ReferenceOutcome). a.n ≤ length a.codes) (leb 0 places) (λ _. zero-le) (λ _. zero-le)
     go (sound found) is =
-        each_answer (λ (a : Reference). a.n ≤ length a.codes) (leb (row_count found * channel_count found) places) (λ _. zero-le)
+        each_answer (λ (a : ReferenceOutcome). a.n ≤ length a.codes) (leb (row_count found * channel_count found) places) (λ _. zero-le)
         (λ _. omega (arith, padded-length channel_limit (codes_of found), (accepted-rows row_limit channel_types text found is).3))
 
 -- ---- a record
@@ -173,7 +169,7 @@ export_counts =
           (centre, leb-true n centre-places room);
       of_reference = λ text table_places code-places.
           let a = reference_read row_limit channel_types text table_places in
-          each_answer (λ (r : Reference). CountWithin (r.m * r.n) (values_in (text_content text)) table_places × CountWithin r.n a.codes code-places)
+          each_answer (λ (r : ReferenceOutcome). CountWithin (r.m * r.n) (values_in (text_content text)) table_places × CountWithin r.n a.codes code-places)
           (leb a.n code-places) (λ _. ((zero-le, zero-le), (zero-le, zero-le)))
           (λ room. (counts_within.of_reference text table_places, (reference_codes text table_places, leb-true a.n code-places room)));
       of_record = λ rows m n codes text centre-places weight-places z.

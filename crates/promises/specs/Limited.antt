@@ -7,7 +7,6 @@ use Rattle.std.specs.Prelude.{◌*◌, ◌<◌, ◌≤◌, ℕ, ◌≡◌, refl,
 use Rattle.std.proofs.Common.{le_refl, le_trans, mul_assoc, mul-le-mul_right, arith}
 use Rattle.integers.specs.Sum.{sumℕ}
 use Rattle.refusal.specs.Number.{outside_limits}
-use Rattle.refusal.specs.declared.Outcome.TheVariants.{Accepted}
 use Rattle.limits.specs.Limits.{budget_limit, centre_limit, channel_limit, coordinate_limit, distance_limit, row_limit, total}
 use Rattle.geometry.proofs.Demand.{ball_most, floor_most}
 use Rattle.geometry.proofs.FigureLaws.{centre_most_lem}
@@ -37,6 +36,7 @@ use Rattle.panel_steps.specs.Panel.{panel_shown}
 use Rattle.program_verdicts.specs.SizeLaws.{excess_most}
 use Rattle.program_laws.specs.QuietLaws.{reference_checked_not_8, reference_drawn_not_8}
 use Rattle.promises.specs.House.{text_content}
+use Rattle.refusal.specs.Outcome.{Accepted}
 
 -- figures that no call refuses by 8: within their limits, with known codes
 pub record NeverMetBy8 (f : Figures) : Type 0 where

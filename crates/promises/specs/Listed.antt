@@ -13,10 +13,7 @@ use Rattle.std.specs.Prelude.{◌<◌, ◌≤◌, suc, zero, ℕ, ◌≡◌, ref
 use Rattle.std.proofs.Common.{◌∙◌, ap, subst, sym, arith, le-leb}
 use Rattle.integers.specs.Tests.{clash, impossible}
 use Rattle.refusal.specs.Number.{alert_settings, budget_too_large, buffer_short, disagreement, heading, label_repeated, line_form, outside_limits, record_form, row_count_number, table_short, tag_differs, text_length, value_range}
-use Rattle.refusal.specs.Outcome.{number_of}
-use Rattle.refusal.specs.declared.Outcome.{Outcome}
-use Rattle.refusal.specs.declared.Outcome.TheVariants.{Accepted, Refused}
-use Rattle.refusal.specs.declared.Refusal.{Refusal}
+use Rattle.refusal.specs.Outcome.{number_of, Outcome, Accepted, Refused, RefusalNumbers}
 use Rattle.lent.specs.Clauses.{with_room}
 use Rattle.lent.specs.Filled.{filled, filled-refused}
 
@@ -39,23 +36,23 @@ abbrev pub Listed : Outcome → Type 0
 Listed Accepted = Unit {0}
 Listed (Refused r) = is_refusal_at r.number r.line ≡ true
 
-pub record Answered {A : Type 0} (outcome : A → Outcome) (refusal : Refusal → A) (answer : A) : Type 0 where
+pub record Answered {A : Type 0} (outcome : A → Outcome) (refusal : RefusalNumbers → A) (answer : A) : Type 0 where
   pub listed : Listed (outcome answer)
   -- the number is 0 exactly where accepted
   pub accepted_zero : outcome answer ≡ Accepted → number_of (outcome answer) ≡ 0
   pub zero_accepted : number_of (outcome answer) ≡ 0 → outcome answer ≡ Accepted
   -- a refusal's number and line make the whole answer
-  pub whole : (r : Refusal) → outcome answer ≡ Refused r → answer ≡ refusal r
+  pub whole : (r : RefusalNumbers) → outcome answer ≡ Refused r → answer ≡ refusal r
 
 -- 0 is none of the fourteen
 pub listed_zero : (o : Outcome) → Listed o → number_of o ≡ 0 → o ≡ Accepted
 listed_zero Accepted listed z = refl
 listed_zero (Refused r) listed z = clash listed (ap (λ (number : ℕ). is_refusal_at number r.line) z)
 
-pub apart : {P : Type 0} {r : Refusal} → Accepted ≡ Refused r → P
+pub apart : {P : Type 0} {r : RefusalNumbers} → Accepted ≡ Refused r → P
 apart e = let z : ◌≡◌ {A = ℕ} 0 1 = cc in impossible z
 
-module _ {A : Type 0} (outcome : A → Outcome) (refusal : Refusal → A) where
+module _ {A : Type 0} (outcome : A → Outcome) (refusal : RefusalNumbers → A) where
   pub accepted-answer : (answer : A) → outcome answer ≡ Accepted → Answered outcome refusal answer
   accepted-answer answer is =
       record {
@@ -65,7 +62,7 @@ module _ {A : Type 0} (outcome : A → Outcome) (refusal : Refusal → A) where
         whole = λ r other. apart (sym is ∙ other);
       }
 
-  pub refused-answer : (r : Refusal) → outcome (refusal r) ≡ Refused r → is_refusal_at r.number r.line ≡ true → Answered outcome refusal (refusal r)
+  pub refused-answer : (r : RefusalNumbers) → outcome (refusal r) ≡ Refused r → is_refusal_at r.number r.line ≡ true → Answered outcome refusal (refusal r)
   refused-answer r is listed =
       let of-outcome = subst Listed (sym is) listed in
       record {
@@ -75,7 +72,7 @@ module _ {A : Type 0} (outcome : A → Outcome) (refusal : Refusal → A) where
         whole = λ other same. ap refusal (alike (sym is ∙ same));
       }
     where
-      alike : {r other : Refusal} → Refused r ≡ Refused other → r ≡ other
+      alike : {r other : RefusalNumbers} → Refused r ≡ Refused other → r ≡ other
       alike e = cc
 
 -- the numbers of a row's line, which is past the heading's
@@ -95,7 +92,7 @@ room_listed false Accepted listed = refl
 room_listed room (Refused r) listed = listed
 
 abbrev pub KeptWhereRefused : Outcome → Type 1
-KeptWhereRefused o = (A : Type 0) (r : Refusal) → o ≡ Refused r → (count : ℕ) (source lent : List A) → filled (number_of o) count source lent ≡ lent
+KeptWhereRefused o = (A : Type 0) (r : RefusalNumbers) → o ≡ Refused r → (count : ℕ) (source lent : List A) → filled (number_of o) count source lent ≡ lent
 
 pub refused_keeps : (o : Outcome) → Listed o → KeptWhereRefused o
 refused_keeps o listed A r is count source lent =

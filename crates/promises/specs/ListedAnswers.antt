@@ -6,50 +6,43 @@ use Rattle.std.specs.Prelude.{◌*◌, ℕ, ◌≡◌, refl, ◌&&◌, true, Lis
 use Rattle.std.proofs.Common.{le-leb}
 use Rattle.refusal.specs.Number.{budget_too_large, buffer_short, disagreement, outside_limits, record_form, table_short, text_length}
 use Rattle.refusal.specs.OutcomeLaws.{each_answer}
-use Rattle.refusal.specs.declared.Outcome.TheVariants.{Accepted, Refused}
-use Rattle.refusal.specs.declared.Refusal.{Refusal}
 use Rattle.limits.specs.Limits.{budget_limit, row_limit, total}
-use Rattle.lent.specs.Clauses.{not_written, text_written, written}
-use Rattle.lent.specs.declared.TextWritten.{TextWritten}
+use Rattle.lent.specs.Clauses.{not_written, text_written, written, TextWritten}
 use Rattle.geometry.specs.Move.{weight_of}
 use Rattle.geometry.specs.Places.{weights_total}
 use Rattle.geometry.specs.Table.{coordinate, rows_within}
 use Rattle.ball.specs.Ball.{ball_of}
-use Rattle.checking.specs.Check.{checking, not_checked}
-use Rattle.checking.specs.declared.Checked.{Checked}
-use Rattle.drawing.specs.Draw.{drawing, drawn, not_drawn, run_from, start}
-use Rattle.drawing.specs.declared.Drawing.{Drawing}
+use Rattle.checking.specs.Check.{checking, not_checked, Checked}
+use Rattle.drawing.specs.Draw.{drawing, drawn, not_drawn, run_from, start, DrawingOutcome}
 use Rattle.channel.specs.Channel.{channel_types}
 use Rattle.reference_rows.specs.Rows.{Content, faulty, sound}
-use Rattle.reference.specs.Clauses.{answer_of, reference_read, refused_reference, with_table}
+use Rattle.reference.specs.Clauses.{answer_of, reference_read, refused_reference, with_table, ReferenceOutcome}
 use Rattle.reference.specs.RefusalLaws.{each_refusal}
-use Rattle.reference.specs.declared.read.Reference.{Reference}
 use Rattle.envelope.specs.Figures.{figures_known}
 use Rattle.envelope.specs.declared.Envelope.{Envelope}
 use Rattle.envelope.specs.declared.Figures.{Figures}
 use Rattle.reading.specs.Verdict.{judged}
 use Rattle.record_form.specs.RecordLaws.{form_faults}
 use Rattle.record_print.specs.Printed.{record_text}
-use Rattle.record_read.specs.Clauses.{not_read, record_read}
+use Rattle.record_read.specs.Clauses.{not_read, record_read, EnvelopeRead}
 use Rattle.record_read.specs.ReadLaws.{accepting, each_read}
-use Rattle.record_read.specs.declared.EnvelopeRead.{EnvelopeRead}
 use Rattle.record_write.specs.Clauses.{record_written}
 use Rattle.record_write.specs.WriteLaws.{each_written}
 use Rattle.chart.specs.Mark.{chart_mark}
-use Rattle.panel_steps.specs.Panel.{panel_of, panel_shown, refused_panel}
-use Rattle.panel_steps.specs.declared.PanelShown.{PanelShown}
+use Rattle.panel_steps.specs.Panel.{panel_of, panel_shown, refused_panel, PanelShown}
 use Rattle.promises.specs.House.{text_content}
 use Rattle.promises.specs.Listed.{Answered, accepted-answer, is_refusal_at, refused-answer, row_listed}
 use Rattle.promises.specs.ListedVerdicts.{MarkAnswered, VerdictAnswered, chart_answered, reading_answered}
+use Rattle.refusal.specs.Outcome.{Accepted, Refused, RefusalNumbers}
 
 -- an answer is accepted, or this refusal
-abbrev pub DrawingAnswered : Drawing → Type 0
+abbrev pub DrawingAnswered : DrawingOutcome → Type 0
 DrawingAnswered = Answered (λ d. d.outcome) (λ r. not_drawn row_limit (Refused r))
 
 abbrev pub CheckAnswered : Checked → Type 0
 CheckAnswered = Answered (λ c. c.outcome) (λ r. not_checked (Refused r))
 
-abbrev pub ReferenceAnswered : Reference → Type 0
+abbrev pub ReferenceAnswered : ReferenceOutcome → Type 0
 ReferenceAnswered = Answered (λ a. a.outcome) (λ r. refused_reference (Refused r))
 
 abbrev pub RecordAnswered : EnvelopeRead → Type 0
@@ -74,16 +67,16 @@ pub record AnswersListed : Type 0 where
   -- what a program's call answers of its output
   pub of_output : (output : List ℕ) (places : ℕ) → TextAnswered (text_written output places)
 
-abbrev at : ℕ → ℕ → Refusal
+abbrev at : ℕ → ℕ → RefusalNumbers
 at number line = record { number = number; line = line }
 
 drawing_answered : (rows : List ℤ) (m n budget : ℕ) → DrawingAnswered (drawing total row_limit rows m n budget)
 unfolding drawing
 drawing_answered rows m n budget =
-    let turned = refused-answer (λ (d : Drawing). d.outcome) (λ r. not_drawn row_limit (Refused r)) in
+    let turned = refused-answer (λ (d : DrawingOutcome). d.outcome) (λ r. not_drawn row_limit (Refused r)) in
     each_answer DrawingAnswered (rows_within row_limit rows m n) (λ _. turned (at outside_limits 0) refl refl) (λ _.
     each_answer DrawingAnswered (leb budget budget_limit) (λ _. turned (at budget_too_large 0) refl refl) (λ _.
-    accepted-answer (λ (d : Drawing). d.outcome) (λ r. not_drawn row_limit (Refused r))
+    accepted-answer (λ (d : DrawingOutcome). d.outcome) (λ r. not_drawn row_limit (Refused r))
     (drawn total m n (coordinate rows n) (run_from total m n (coordinate rows n) budget 0 (start row_limit total))) refl))
 
 check_answered : (rows : List ℤ) (m n : ℕ) (ws : List ℕ) → CheckAnswered (checking total row_limit rows m n ws)
@@ -99,10 +92,10 @@ reference_answered : (text : List ℕ) (places : ℕ) → ReferenceAnswered (ref
 unfolding reference_read
 reference_answered text places = go (text_content text) refl
   where
-    turned : (r : Refusal) → is_refusal_at r.number r.line ≡ true → ReferenceAnswered (refused_reference (Refused r))
-    turned r = refused-answer (λ (a : Reference). a.outcome) (λ r. refused_reference (Refused r)) r refl
+    turned : (r : RefusalNumbers) → is_refusal_at r.number r.line ≡ true → ReferenceAnswered (refused_reference (Refused r))
+    turned r = refused-answer (λ (a : ReferenceOutcome). a.outcome) (λ r. refused_reference (Refused r)) r refl
 
-    tabled : (a : Reference) → ReferenceAnswered a → ReferenceAnswered (with_table places a)
+    tabled : (a : ReferenceOutcome) → ReferenceAnswered a → ReferenceAnswered (with_table places a)
     tabled a answered = each_answer ReferenceAnswered (leb (a.m * a.n) places) (λ _. turned (at table_short 0) refl) (λ _. answered)
 
     go : (c : Content) → text_content text ≡ c → ReferenceAnswered (with_table places (answer_of c))
@@ -110,7 +103,7 @@ reference_answered text places = go (text_content text) refl
         tabled (refused_reference (Refused (at number line))) (turned (at number line)
         (each_refusal row_limit channel_types (λ k l. is_refusal_at k l ≡ true) refl refl row_listed text number line is))
     go (sound found) is =
-        tabled (answer_of (sound found)) (accepted-answer (λ (a : Reference). a.outcome) (λ r. refused_reference (Refused r)) (answer_of (sound found)) refl)
+        tabled (answer_of (sound found)) (accepted-answer (λ (a : ReferenceOutcome). a.outcome) (λ r. refused_reference (Refused r)) (answer_of (sound found)) refl)
 
 record_answered : (rows : List ℤ) (m n : ℕ) (codes text : List ℕ) → RecordAnswered (record_read total row_limit channel_types rows m n codes text)
 record_answered rows m n codes text =
@@ -121,7 +114,7 @@ record_answered rows m n codes text =
     (turned (at disagreement 0) refl refl)
     (λ e _. accepted-answer (λ (e : EnvelopeRead). e.outcome) (λ r. not_read row_limit (Refused r)) (accepting e) refl)
 
-text_refused : (r : Refusal) → is_refusal_at r.number r.line ≡ true → TextAnswered (not_written (Refused r))
+text_refused : (r : RefusalNumbers) → is_refusal_at r.number r.line ≡ true → TextAnswered (not_written (Refused r))
 text_refused r = refused-answer (λ (w : TextWritten). w.outcome) (λ r. not_written (Refused r)) r refl
 
 text-written : (bytes : ℕ) → TextAnswered (written bytes)

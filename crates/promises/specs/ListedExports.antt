@@ -7,20 +7,15 @@ use Rattle.integers.specs.Tests.{clash}
 use Rattle.refusal.specs.Number.{outside_limits}
 use Rattle.refusal.specs.OutcomeLaws.{each_answer}
 use Rattle.limits.specs.Limits.{row_limit, total}
-use Rattle.lent.specs.Clauses.{text_written, with_room}
-use Rattle.lent.specs.declared.TextWritten.{TextWritten}
+use Rattle.lent.specs.Clauses.{text_written, with_room, TextWritten}
 use Rattle.checking.specs.Check.{checking}
 use Rattle.drawing.specs.Draw.{drawing}
 use Rattle.channel.specs.Channel.{channel_types}
-use Rattle.reference.specs.Clauses.{reference_read}
-use Rattle.reference.specs.declared.read.Reference.{Reference}
-use Rattle.reading.specs.Verdict.{judged, refused_verdict}
-use Rattle.reading.specs.declared.Verdict.{Verdict}
+use Rattle.reference.specs.Clauses.{reference_read, ReferenceOutcome}
+use Rattle.reading.specs.Verdict.{judged, refused_verdict, VerdictOutcome}
 use Rattle.record_read.specs.Clauses.{record_read}
 use Rattle.record_write.specs.Clauses.{record_written}
-use Rattle.chart.specs.Mark.{chart_mark, refused_mark}
-use Rattle.chart.specs.declared.Mark.{Mark}
-use Rattle.panel_steps.specs.declared.PanelShown.{PanelShown}
+use Rattle.chart.specs.Mark.{chart_mark, refused_mark, MarkOutcome}
 use Rattle.export_answers.specs.Clauses.{written_in_numbers}
 use Rattle.export_figures.specs.Clauses.{ending_known, figures_given}
 use Rattle.export_figures.specs.declared.FiguresGiven.{FiguresGiven}
@@ -33,6 +28,7 @@ use Rattle.promises.specs.Listed.{Listed, room_listed}
 use Rattle.promises.specs.ListedAnswers.{ReferenceAnswered, answers_listed}
 use Rattle.promises.specs.ListedNumbers.{CheckNumbers, EnvelopeNumbers, ListedNumber, MarkNumbers, ReferenceNumbers, VerdictNumbers, WrittenNumbers, check_numbers, envelope_numbers, listed_number, mark_numbers, reference_numbers, verdict_numbers, written-numbers}
 use Rattle.promises.specs.ListedVerdicts.{mark_answered, verdict_answered}
+use Rattle.panel_steps.specs.Panel.{PanelShown}
 
 pub record ExportsListed : Type 0 where
   pub of_drawing : (rows : List ℤ) (m n budget centre-places weight-places : ℕ)
@@ -56,14 +52,14 @@ pub record ExportsListed : Type 0 where
 reading-given : (given : FiguresGiven) (codes : List ℕ) (X : List ℤ) (text : List ℕ) → VerdictNumbers (judge_answer total channel_types given codes X text)
 unfolding judge_answer
 reading-given given codes X text =
-    each_answer (λ (v : Verdict). VerdictNumbers (verdict_in_numbers v)) (ending_known given)
+    each_answer (λ (v : VerdictOutcome). VerdictNumbers (verdict_in_numbers v)) (ending_known given)
     (λ _. verdict_numbers (refused_verdict outside_limits 0) (verdict_answered (refused_verdict outside_limits 0) (refl, λ h. clash h refl)))
     (λ _. verdict_numbers (judged total channel_types (figures_given given codes X) text) (answers_listed.of_reading (figures_given given codes X) text))
 
 chart_given : (given : FiguresGiven) (codes : List ℕ) (X : List ℤ) (h v : ℕ) → MarkNumbers (chart_answer total channel_types given codes X h v)
 unfolding chart_answer
 chart_given given codes X h v =
-    each_answer (λ (mark : Mark). MarkNumbers (mark_in_numbers mark)) (ending_known given)
+    each_answer (λ (mark : MarkOutcome). MarkNumbers (mark_in_numbers mark)) (ending_known given)
     (λ _. mark_numbers (refused_mark outside_limits) (mark_answered (refused_mark outside_limits) refl))
     (λ _. mark_numbers (chart_mark total channel_types (figures_given given codes X) h v) (answers_listed.of_chart (figures_given given codes X) h v))
 
@@ -82,9 +78,9 @@ writing-given given codes X ws rows m places =
     (λ _. written-numbers (record_written total row_limit channel_types rows m e places) (answers_listed.of_writing rows m e places))
 
 -- 13 for the codes comes after
-reference_given : (a : Reference) (code-places : ℕ) → ReferenceAnswered a → ReferenceNumbers (reference_answer a code-places)
+reference_given : (a : ReferenceOutcome) (code-places : ℕ) → ReferenceAnswered a → ReferenceNumbers (reference_answer a code-places)
 reference_given a code-places answered =
-    each_answer (λ (r : Reference). ReferenceNumbers (reference_in_numbers r)) (leb a.n code-places) (λ _. (inr refl, λ _. (refl, refl)))
+    each_answer (λ (r : ReferenceOutcome). ReferenceNumbers (reference_in_numbers r)) (leb a.n code-places) (λ _. (inr refl, λ _. (refl, refl)))
     (λ _. reference_numbers a answered)
 
 pub exports_listed : ExportsListed

@@ -9,18 +9,9 @@
 use Rattle.std.specs.Prelude.{ℕ, ◌≡◌, refl, true, ◌⊎◌}
 use Rattle.std.proofs.Common.{ap, inl, inr}
 use Rattle.integers.specs.Tests.{clash}
-use Rattle.refusal.specs.Outcome.{line_of, number_of}
-use Rattle.refusal.specs.declared.Outcome.{Outcome}
-use Rattle.refusal.specs.declared.Outcome.TheVariants.{Accepted, Refused}
-use Rattle.lent.specs.declared.TextWritten.{TextWritten}
+use Rattle.refusal.specs.Outcome.{line_of, number_of, Outcome, Accepted, Refused}
 use Rattle.ball.specs.declared.Ball.{Ball}
-use Rattle.checking.specs.declared.Checked.{Checked}
-use Rattle.reference.specs.declared.read.Reference.{Reference}
-use Rattle.reading.specs.declared.Verdict.{Verdict}
-use Rattle.reading.specs.declared.Verdict.TheVariants.{Alarm, Quiet, Refused as RefusedReading}
 use Rattle.chart.specs.Fraction.{positive_zero}
-use Rattle.chart.specs.declared.Mark.{Mark}
-use Rattle.chart.specs.declared.Mark.TheVariants.{Disc, Dot, Refused as RefusedMark}
 use Rattle.export_answers.specs.Clauses.{envelope_in_numbers, written_in_numbers}
 use Rattle.export_answers.specs.declared.EnvelopeAnswer.{EnvelopeAnswer}
 use Rattle.export_answers.specs.declared.WrittenAnswer.{WrittenAnswer}
@@ -35,6 +26,11 @@ use Rattle.export_chart.specs.declared.MarkAnswer.{MarkAnswer}
 use Rattle.promises.specs.Listed.{Listed, is_refusal_at, with_line}
 use Rattle.promises.specs.ListedAnswers.{ReferenceAnswered, TextAnswered}
 use Rattle.promises.specs.ListedVerdicts.{MarkAnswered, VerdictAnswered}
+use Rattle.lent.specs.Clauses.{TextWritten}
+use Rattle.checking.specs.Check.{Checked}
+use Rattle.reference.specs.Clauses.{ReferenceOutcome}
+use Rattle.reading.specs.Verdict.{VerdictOutcome, Alarm, Quiet, Refused as RefusedReading}
+use Rattle.chart.specs.Mark.{MarkOutcome, Disc, Dot, Refused as RefusedMark}
 
 abbrev pub ListedNumber : ℕ → ℕ → Type 0
 ListedNumber number line = ((number ≡ 0) × (line ≡ 0)) ⊎ (is_refusal_at number line ≡ true)
@@ -77,12 +73,12 @@ pub check_numbers : (o : Outcome) (c : Checked) → Listed o → CheckNumbers (c
 check_numbers Accepted c listed = (inl (refl, refl), λ some. absurd (some refl))
 check_numbers (Refused r) c listed = (inr listed, λ _. (refl, refl, refl))
 
-pub reference_numbers : (a : Reference) → ReferenceAnswered a → ReferenceNumbers (reference_in_numbers a)
+pub reference_numbers : (a : ReferenceOutcome) → ReferenceAnswered a → ReferenceNumbers (reference_in_numbers a)
 reference_numbers a answered = (listed_number a.outcome answered.listed, go a.outcome refl)
   where
     go : (o : Outcome) → a.outcome ≡ o → (number_of a.outcome ≡ 0 → ⊥) → (a.m ≡ 0) × (a.n ≡ 0)
     go Accepted is some = absurd (some (ap number_of is))
-    go (Refused r) is some = (ap (λ (x : Reference). x.m) (answered.whole r is), ap (λ (x : Reference). x.n) (answered.whole r is))
+    go (Refused r) is some = (ap (λ (x : ReferenceOutcome). x.m) (answered.whole r is), ap (λ (x : ReferenceOutcome). x.n) (answered.whole r is))
 
 pub written-numbers : (w : TextWritten) → TextAnswered w → WrittenNumbers (written_in_numbers w)
 written-numbers w answered = (listed_number w.outcome answered.listed, go w.outcome refl)
@@ -91,12 +87,12 @@ written-numbers w answered = (listed_number w.outcome answered.listed, go w.outc
     go Accepted is some = absurd (some (ap number_of is))
     go (Refused r) is some = ap (λ (x : TextWritten). x.length) (answered.whole r is)
 
-pub verdict_numbers : (v : Verdict) → VerdictAnswered v → VerdictNumbers (verdict_in_numbers v)
+pub verdict_numbers : (v : VerdictOutcome) → VerdictAnswered v → VerdictNumbers (verdict_in_numbers v)
 verdict_numbers Quiet answered = (inl (refl, refl), λ h. clash h refl, λ some. absurd (some refl))
 verdict_numbers (Alarm excess) answered = (inl (refl, refl), λ h. clash h refl, λ some. absurd (some refl))
 verdict_numbers (RefusedReading r) answered = (inr (answered.refused r refl).0, (answered.refused r refl).1, λ _. (refl, refl))
 
-pub mark_numbers : (mark : Mark) → MarkAnswered mark → MarkNumbers (mark_in_numbers mark)
+pub mark_numbers : (mark : MarkOutcome) → MarkAnswered mark → MarkNumbers (mark_in_numbers mark)
 mark_numbers (Dot p) answered = (inl (refl, refl), λ some. absurd (some refl))
 mark_numbers (Disc p x) answered = (inl (refl, refl), λ some. absurd (some refl))
 mark_numbers (RefusedMark r) answered = (inr (answered.refused r refl).0, λ _. (refl, refl, refl, refl))

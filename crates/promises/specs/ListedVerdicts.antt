@@ -9,42 +9,38 @@ use Rattle.std.proofs.Common.{ap, inl, inr}
 use Rattle.integers.specs.Tests.{clash, impossible}
 use Rattle.refusal.specs.Number.{line_form, outside_limits, tag_differs, text_length, value_range}
 use Rattle.refusal.specs.OutcomeLaws.{each_answer}
-use Rattle.refusal.specs.declared.Refusal.{Refusal}
 use Rattle.limits.specs.Limits.{total}
 use Rattle.channel.specs.Channel.{channel_types}
 use Rattle.envelope.specs.Figures.{figures_known}
 use Rattle.envelope.specs.declared.Figures.{Figures}
 use Rattle.reading.specs.Content.{distance_of}
-use Rattle.reading.specs.Verdict.{judged, refused_verdict, verdict_excess, verdict_line, verdict_number}
+use Rattle.reading.specs.Verdict.{judged, refused_verdict, verdict_excess, verdict_line, verdict_number, VerdictOutcome, Alarm, Quiet, Refused as RefusedReading}
 use Rattle.reading.specs.VerdictLaws.{each_verdict, quiet_or_alarm}
-use Rattle.reading.specs.declared.Verdict.{Verdict}
-use Rattle.reading.specs.declared.Verdict.TheVariants.{Alarm, Quiet, Refused as RefusedReading}
 use Rattle.chart.specs.Fraction.{fraction_of, positive_zero}
-use Rattle.chart.specs.Mark.{channel_within, chart_mark, mark_line, mark_number, mark_of, mark_point, mark_radius, projected_centre, refused_mark}
+use Rattle.chart.specs.Mark.{channel_within, chart_mark, mark_line, mark_number, mark_of, mark_point, mark_radius, projected_centre, refused_mark, MarkOutcome, Disc, Dot, Refused as RefusedMark}
 use Rattle.chart.specs.Root.{ceiling_root}
-use Rattle.chart.specs.declared.Mark.{Mark}
-use Rattle.chart.specs.declared.Mark.TheVariants.{Disc, Dot, Refused as RefusedMark}
 use Rattle.chart.specs.declared.Point.{Point}
 use Rattle.promises.specs.Listed.{is_refusal_at, with_line}
+use Rattle.refusal.specs.Outcome.{RefusalNumbers}
 
 -- ---- verdicts
 
-pub record VerdictAnswered (v : Verdict) : Type 0 where
+pub record VerdictAnswered (v : VerdictOutcome) : Type 0 where
   -- the number is 0 exactly where the verdict is Quiet or Alarm
   pub zero : verdict_number v ≡ 0 → (v ≡ Quiet) ⊎ ((excess : ℕ) × (v ≡ Alarm excess))
   pub quiet : v ≡ Quiet → verdict_number v ≡ 0
   pub alarm : (excess : ℕ) → v ≡ Alarm excess → verdict_number v ≡ 0
   -- else it is one of the fourteen with its line, the line at fault is 1, and the excess is 0
-  pub refused : (r : Refusal) → v ≡ RefusedReading r
+  pub refused : (r : RefusalNumbers) → v ≡ RefusedReading r
       → (is_refusal_at (verdict_number v) (verdict_line v) ≡ true) × (with_line (verdict_number v) ≡ true → verdict_line v ≡ 1) × (verdict_excess v ≡ 0)
 
 -- a verdict that is no refusal, or a listed one
-abbrev pub ListedVerdict : Verdict → Type 0
+abbrev pub ListedVerdict : VerdictOutcome → Type 0
 ListedVerdict Quiet = Unit {0}
 ListedVerdict (Alarm excess) = Unit {0}
 ListedVerdict (RefusedReading r) = (is_refusal_at r.number r.line ≡ true) × (with_line r.number ≡ true → r.line ≡ 1)
 
-pub verdict_answered : (v : Verdict) → ListedVerdict v → VerdictAnswered v
+pub verdict_answered : (v : VerdictOutcome) → ListedVerdict v → VerdictAnswered v
 verdict_answered Quiet listed =
     record { zero = λ _. inl refl; quiet = λ _. refl; alarm = λ _ _. refl; refused = λ r e. impossible (cc) }
 verdict_answered (Alarm excess) listed =
@@ -71,23 +67,23 @@ reading_answered f text =
 
 -- ---- marks
 
-pub record MarkAnswered (mark : Mark) : Type 0 where
+pub record MarkAnswered (mark : MarkOutcome) : Type 0 where
   -- the number is 0 exactly where the mark is a dot or a disc
   pub zero : mark_number mark ≡ 0 → ((p : Point) × (mark ≡ Dot p)) ⊎ ((p : Point) × (x : Float) × (mark ≡ Disc p x))
   pub dot : (p : Point) → mark ≡ Dot p → mark_number mark ≡ 0
   pub disc : (p : Point) (x : Float) → mark ≡ Disc p x → mark_number mark ≡ 0
   -- else it is one of the fourteen with its line, and the coordinates and the radius are 0
-  pub refused : (r : Refusal) → mark ≡ RefusedMark r
+  pub refused : (r : RefusalNumbers) → mark ≡ RefusedMark r
       → (is_refusal_at (mark_number mark) (mark_line mark) ≡ true) × (mark_point mark ≡ record { horizontal = positive_zero; vertical = positive_zero })
       × (mark_radius mark ≡ positive_zero)
 
 -- a mark that is no refusal, or a listed one
-abbrev pub ListedMark : Mark → Type 0
+abbrev pub ListedMark : MarkOutcome → Type 0
 ListedMark (Dot p) = Unit {0}
 ListedMark (Disc p x) = Unit {0}
 ListedMark (RefusedMark r) = is_refusal_at r.number r.line ≡ true
 
-pub mark_answered : (mark : Mark) → ListedMark mark → MarkAnswered mark
+pub mark_answered : (mark : MarkOutcome) → ListedMark mark → MarkAnswered mark
 mark_answered (Dot p) listed =
     record { zero = λ _. inl (p, refl); dot = λ _ _. refl; disc = λ _ _ _. refl; refused = λ r e. impossible (cc) }
 mark_answered (Disc p x) listed =

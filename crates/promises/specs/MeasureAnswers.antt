@@ -10,18 +10,14 @@ use Rattle.std.proofs.Common.{◌∙◌, ap, subst, sym, arith, le-leb}
 use Rattle.std.proofs.lemmas.Bool.{lt-leb}
 use Rattle.integers.specs.Tests.{clash, nonzero}
 use Rattle.refusal.specs.Number.{buffer_short, outside_limits}
-use Rattle.refusal.specs.Outcome.{require}
+use Rattle.refusal.specs.Outcome.{require, RefusalNumbers}
 use Rattle.refusal.specs.OutcomeLaws.{each_answer}
-use Rattle.refusal.specs.declared.Refusal.{Refusal}
 use Rattle.limits.specs.Limits.{total}
 use Rattle.channel.specs.Channel.{channel_types}
 use Rattle.envelope.specs.declared.Figures.{Figures}
-use Rattle.reading.specs.Verdict.{judged, refused_verdict, verdict_number}
-use Rattle.reading.specs.declared.Verdict.{Verdict}
-use Rattle.reading.specs.declared.Verdict.TheVariants.{Alarm, Quiet, Refused}
-use Rattle.measured_reading.specs.Measured.{MeasuredReading, measure_answer, measured, not_measured, refused_measure}
+use Rattle.reading.specs.Verdict.{judged, refused_verdict, verdict_number, VerdictOutcome, Alarm, Quiet, Refused}
+use Rattle.measured_reading.specs.Measured.{MeasuredReading, measure_answer, measured, not_measured, refused_measure, MeasuredOutcome}
 use Rattle.measured_reading.specs.MeasuredLaws.{answer-accepted, answer_fits, answer_none, answer_short, measured-accepted, measured-judged, measured-refused, refusal_before_room}
-use Rattle.measured_reading.specs.declared.Measured.{Measured}
 use Rattle.export_figures.specs.Clauses.{ending_known, figures_given}
 use Rattle.export_figures.specs.declared.FiguresGiven.{FiguresGiven}
 use Rattle.export_reading.specs.Clauses.{measured_given, measured_in_numbers}
@@ -32,10 +28,10 @@ use Rattle.promises.specs.ListedAnswers.{answers_listed}
 use Rattle.promises.specs.ListedNumbers.{ListedNumber, verdict_numbers}
 use Rattle.promises.specs.ListedVerdicts.{ListedVerdict, VerdictAnswered, verdict_answered}
 
-abbrev pub measuring : Figures → List ℕ → ℕ → Measured
+abbrev pub measuring : Figures → List ℕ → ℕ → MeasuredOutcome
 measuring f text places = measure_answer (measured total channel_types f text) places
 
-abbrev pub measuring_given : FiguresGiven → List ℕ → List ℤ → List ℕ → ℕ → Measured
+abbrev pub measuring_given : FiguresGiven → List ℕ → List ℤ → List ℕ → ℕ → MeasuredOutcome
 measuring_given given codes X text places = measure_answer (measured_given total channel_types given codes X text) places
 
 -- ---- 1.2
@@ -59,7 +55,7 @@ given-count : (given : FiguresGiven) (codes : List ℕ) (X : List ℤ) (text : L
 unfolding measured_given
 given-count given codes X text places =
     each_answer (λ (m : MeasuredReading). verdict_number (measure_answer m places).verdict ≡ 0 → CountWithin given.n m.values places) (ending_known given)
-    (λ _ zero_number. nonzero (sym (ap (λ (m : Measured). verdict_number m.verdict) (answer_none outside_limits 0 places)) ∙ zero_number))
+    (λ _ zero_number. nonzero (sym (ap (λ (m : MeasuredOutcome). verdict_number m.verdict) (answer_none outside_limits 0 places)) ∙ zero_number))
     (λ _. measure_count (figures_given given codes X) text places)
 
 pub measure_counts : MeasureCounts
@@ -67,7 +63,7 @@ measure_counts = record { of_measure = measure_count; for_C_and_Rust = given-cou
 
 -- ---- 1.3
 
-pub record MeasureAnswered (m : Measured) : Type 0 where
+pub record MeasureAnswered (m : MeasuredOutcome) : Type 0 where
   pub verdict : VerdictAnswered m.verdict
   -- in a refusal s is 0
   pub distance : (verdict_number m.verdict ≡ 0 → ⊥) → m.scaled_squared_distance ≡ 0
@@ -96,7 +92,7 @@ measured_answered f text =
     same : (measured total channel_types f text).answer.verdict ≡ judged total channel_types f text
     same = measured-judged total channel_types f text
 
-    go : (v : Verdict) → judged total channel_types f text ≡ v → (verdict_number (judged total channel_types f text) ≡ 0 → ⊥)
+    go : (v : VerdictOutcome) → judged total channel_types f text ≡ v → (verdict_number (judged total channel_types f text) ≡ 0 → ⊥)
         → (measured total channel_types f text).answer.scaled_squared_distance ≡ 0
     go Quiet is refusal = absurd (refusal (ap verdict_number is))
     go (Alarm excess) is refusal = absurd (refusal (ap verdict_number is))
@@ -132,7 +128,7 @@ measures_listed =
 pub record MeasureRefused (f : Figures) (text : List ℕ) (places : ℕ) : Type 0 where
   -- the verdict is that of the reading judged, and so is each refusal, however short the lent slice is
   pub same_verdict : (measured total channel_types f text).answer.verdict ≡ judged total channel_types f text
-  pub refused_first : (r : Refusal) → judged total channel_types f text ≡ Refused r → measuring f text places ≡ refused_measure r.number r.line
+  pub refused_first : (r : RefusalNumbers) → judged total channel_types f text ≡ Refused r → measuring f text places ≡ refused_measure r.number r.line
   pub short_13 : verdict_number (judged total channel_types f text) ≡ 0 → places < f.n → measuring f text places ≡ refused_measure buffer_short 0
   pub else_measured : verdict_number (judged total channel_types f text) ≡ 0 → f.n ≤ places
       → measuring f text places ≡ (measured total channel_types f text).answer
@@ -157,7 +153,7 @@ pub record GivenMeasured (given : FiguresGiven) (codes : List ℕ) (X : List ℤ
 pub given-measured : (given : FiguresGiven) (codes : List ℕ) (X : List ℤ) (text : List ℕ) (places : ℕ) → GivenMeasured given codes X text places
 unfolding measured_given
 given-measured given codes X text places =
-    let chosen : (b : Bool) → Measured =
+    let chosen : (b : Bool) → MeasuredOutcome =
     λ b. measure_answer (require b (not_measured outside_limits 0) (λ _. measured total channel_types (figures_given given codes X) text)) places in
     record {
       measure_8 = λ h. ap chosen (lt-leb given.settled 1 h) ∙ answer_none outside_limits 0 places;

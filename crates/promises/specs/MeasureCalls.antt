@@ -7,7 +7,7 @@ use Rattle.lent.specs.Filled.{filled}
 use Rattle.channel.specs.Channel.{channel_types}
 use Rattle.envelope.specs.Clauses.{lent_figures}
 use Rattle.reading.specs.Verdict.{verdict_number}
-use Rattle.measured_reading.specs.Measured.{measure_answer, measured}
+use Rattle.measured_reading.specs.Measured.{measure_answer, measured, measured_outcome}
 use Rattle.export_reading.specs.Clauses.{measured_given, measured_in_numbers}
 use Rattle.promises.specs.Answering.{Answers}
 use seplogic.Ra.Ura.{Ura}
@@ -33,15 +33,15 @@ module _ {M : Type 1} {𝓤 : Ura M} (𝓛 : Logic 𝓤) (𝓜 : Model 𝓤 𝓛
     pub measures : Answers 𝓛 𝓜 𝓡 measure.ended measure-code.code measure-code.name
         (λ κs a r e.
         let figures = a.0 in let text = a.1.0.now in let values = a.1.1.0.now in let values-after = e.1.1.0.now in
-        ⌜ r ≡ measure_answer (measured total channel_types figures text) (length values) ⌝
-        ∗ ⌜ values-after ≡ filled (verdict_number r.verdict) figures.n (measured total channel_types figures text).values values ⌝)
+        ⌜ measured_outcome r ≡ measure_answer (measured total channel_types figures text) (length values) ⌝
+        ∗ ⌜ values-after ≡ filled (verdict_number (measured_outcome r).verdict) figures.n (measured total channel_types figures text).values values ⌝)
     -- by a second form that is lent codes and X: measure_lent(scalars, codes, scaled_centre, text, values)
     pub measures_lent : Answers 𝓛 𝓜 𝓡 measure-lent.ended measure-lent-code.code measure-lent-code.name
         (λ κs a r e.
         let figures = lent_figures a.0 a.1.0.now a.1.1.0.now in let text = a.1.1.1.0.now in
         let values = a.1.1.1.1.0.now in let values-after = e.1.1.1.1.0.now in
-        ⌜ r ≡ measure_answer (measured total channel_types figures text) (length values) ⌝
-        ∗ ⌜ values-after ≡ filled (verdict_number r.verdict) a.0.n (measured total channel_types figures text).values values ⌝)
+        ⌜ measured_outcome r ≡ measure_answer (measured total channel_types figures text) (length values) ⌝
+        ∗ ⌜ values-after ≡ filled (verdict_number (measured_outcome r).verdict) a.0.n (measured total channel_types figures text).values values ⌝)
     -- for C and Rust: cundarivo_measure(figures, codes, scaled_centre, text, values)
     pub cundarivo_measure : Answers 𝓛 𝓜 𝓡 exported.ended exported-code.code exported-code.name
         (λ κs a r e.

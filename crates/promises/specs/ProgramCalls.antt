@@ -3,9 +3,9 @@
 --     ProgramReaders, program_readers     what the programs' readers ask of a program and give it
 -- Before each field stands the signature by which its arguments are counted.
 use Rattle.std.specs.Prelude.{◌<◌, ◌≤◌, ◌≡◌, length}
-use Rattle.refusal.specs.Outcome.{number_of}
+use Rattle.refusal.specs.Outcome.{number_of, outcome_of}
 use Rattle.limits.specs.Limits.{row_limit, text_limit, total}
-use Rattle.lent.specs.Clauses.{Part, text_written}
+use Rattle.lent.specs.Clauses.{Part, text_written, text_outcome}
 use Rattle.lent.specs.Filled.{filled}
 use Rattle.channel.specs.Channel.{channel_types}
 use Rattle.program_lines.specs.Clauses.{answer_room}
@@ -16,7 +16,7 @@ use Rattle.program_panel.specs.Clauses.{panel_room}
 use Rattle.program_panel.specs.Output.{panel_output}
 use Rattle.program_verdicts.specs.Clauses.{readings_room, verdicts_room}
 use Rattle.program_judge.specs.Output.{judge_output}
-use Rattle.program_io.specs.Clauses.{Read}
+use Rattle.program_io.specs.Clauses.{Read, text_of_option}
 use Rattle.promises.specs.Answering.{Answers, AnswersWhere}
 use seplogic.Ra.Ura.{Ura}
 use contract.Notation
@@ -50,27 +50,27 @@ module _ {M : Type 1} {𝓤 : Ura M} (𝓛 : Logic 𝓤) (𝓜 : Model 𝓤 𝓛
     pub program_draws : Answers 𝓛 𝓜 𝓡 program-draw.ended program-draw-code.code program-draw-code.name
         (λ κs a r e.
         let reference = a.0.now in let output = a.1.0.now in let output-after = e.1.0.now in
-        ⌜ r ≡ text_written (draw_output total row_limit channel_types reference) (length output) ⌝
-        ∗ ⌜ output-after ≡ filled (number_of r.outcome) r.length (draw_output total row_limit channel_types reference) output ⌝
-        ∗ ⌜ Part output-after r.length ⌝
+        ⌜ text_outcome r ≡ text_written (draw_output total row_limit channel_types reference) (length output) ⌝
+        ∗ ⌜ output-after ≡ filled (number_of (outcome_of r)) (text_outcome r).length (draw_output total row_limit channel_types reference) output ⌝
+        ∗ ⌜ Part output-after (text_outcome r).length ⌝
         ∗ ⌜ length (draw_output total row_limit channel_types reference) ≤ draw_room ⌝)
     -- verify(reference, record_text, output)
     pub program_verifies : Answers 𝓛 𝓜 𝓡 program-verify.ended program-verify-code.code program-verify-code.name
         (λ κs a r e.
         let reference = a.0.now in let text = a.1.0.now in let output = a.1.1.0.now in
         let output-after = e.1.1.0.now in
-        ⌜ r ≡ text_written (verify_output total row_limit channel_types reference text) (length output) ⌝
-        ∗ ⌜ output-after ≡ filled (number_of r.outcome) r.length (verify_output total row_limit channel_types reference text) output ⌝
-        ∗ ⌜ Part output-after r.length ⌝
+        ⌜ text_outcome r ≡ text_written (verify_output total row_limit channel_types reference text) (length output) ⌝
+        ∗ ⌜ output-after ≡ filled (number_of (outcome_of r)) (text_outcome r).length (verify_output total row_limit channel_types reference text) output ⌝
+        ∗ ⌜ Part output-after (text_outcome r).length ⌝
         ∗ ⌜ length (verify_output total row_limit channel_types reference text) ≤ answer_room ⌝)
     -- judge(reference, record_text, readings, output)
     pub program_judges : Answers 𝓛 𝓜 𝓡 program-judge.ended program-judge-code.code program-judge-code.name
         (λ κs a r e.
         let reference = a.0.now in let text = a.1.0.now in let readings = a.1.1.0.now in
         let output = a.1.1.1.0.now in let output-after = e.1.1.1.0.now in
-        ⌜ r ≡ text_written (judge_output total row_limit channel_types reference text readings) (length output) ⌝
-        ∗ ⌜ output-after ≡ filled (number_of r.outcome) r.length (judge_output total row_limit channel_types reference text readings) output ⌝
-        ∗ ⌜ Part output-after r.length ⌝
+        ⌜ text_outcome r ≡ text_written (judge_output total row_limit channel_types reference text readings) (length output) ⌝
+        ∗ ⌜ output-after ≡ filled (number_of (outcome_of r)) (text_outcome r).length (judge_output total row_limit channel_types reference text readings) output ⌝
+        ∗ ⌜ Part output-after (text_outcome r).length ⌝
         ∗ ⌜ length (judge_output total row_limit channel_types reference text readings) ≤ verdicts_room ⌝
         ∗ ⌜ length (judge_output total row_limit channel_types reference text readings) ≤ readings_room readings ⌝)
     -- panel(reference, record_text, output)
@@ -78,9 +78,9 @@ module _ {M : Type 1} {𝓤 : Ura M} (𝓛 : Logic 𝓤) (𝓜 : Model 𝓤 𝓛
         (λ κs a r e.
         let reference = a.0.now in let text = a.1.0.now in let output = a.1.1.0.now in
         let output-after = e.1.1.0.now in
-        ⌜ r ≡ text_written (panel_output total row_limit channel_types reference text) (length output) ⌝
-        ∗ ⌜ output-after ≡ filled (number_of r.outcome) r.length (panel_output total row_limit channel_types reference text) output ⌝
-        ∗ ⌜ Part output-after r.length ⌝
+        ⌜ text_outcome r ≡ text_written (panel_output total row_limit channel_types reference text) (length output) ⌝
+        ∗ ⌜ output-after ≡ filled (number_of (outcome_of r)) (text_outcome r).length (panel_output total row_limit channel_types reference text) output ⌝
+        ∗ ⌜ Part output-after (text_outcome r).length ⌝
         ∗ ⌜ length (panel_output total row_limit channel_types reference text) ≤ panel_room ⌝)
 
   pub program_calls : ProgramCalls
@@ -99,12 +99,12 @@ module _ {M : Type 1} {𝓤 : Ura M} (𝓛 : Logic 𝓤) (𝓜 : Model 𝓤 𝓛
     pub reads_file : AnswersWhere 𝓛 𝓜 𝓡 read-file.ended read-file-code.code read-file-code.name (λ κs a. ⌜ text_limit < length a.1.1.1.0.now ⌝)
         (λ κs a r e.
         let text-after = e.1.1.1.0.now in
-        ⌜ Read r text-after ⌝)
+        ⌜ Read (text_of_option r) text-after ⌝)
     -- read_standard_input(rt, program, text)
     pub reads_standard_input : AnswersWhere 𝓛 𝓜 𝓡 read-input.ended read-input-code.code read-input-code.name (λ κs a. ⌜ text_limit < length a.1.1.0.now ⌝)
         (λ κs a r e.
         let text-after = e.1.1.0.now in
-        ⌜ Read r text-after ⌝)
+        ⌜ Read (text_of_option r) text-after ⌝)
 
   pub program_readers : ProgramReaders
   program_readers = record { reads_file = read-file-proof.met 𝓤 𝓛 𝓜 𝓡; reads_standard_input = read-input-proof.met 𝓤 𝓛 𝓜 𝓡 }

@@ -17,8 +17,7 @@ use Rattle.program_laws.proofs.LongLaws.{alerts_long, draw_long, judge_long, pan
 use Rattle.text.specs.Ascii.{ascii, byte}
 use Rattle.file_name.specs.Name.{escaped, escaped_byte, escaped_name, escaped_start}
 use Rattle.message.specs.Message.{excess_message, file_message, missing_message, named_argument, stream_message}
-use Rattle.program_io.specs.Reading.{after_read, text_read}
-use Rattle.program_io.specs.declared.descriptor.AfterRead.TheVariants.{Done, More}
+use Rattle.program_io.specs.Reading.{after_read, text_read, Done, More}
 
 pub record ProgramTexts : Type 0 where
   -- the first 65,537 bytes of each text give the output of the whole

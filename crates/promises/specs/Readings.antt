@@ -6,7 +6,6 @@
 use Rattle.std.specs.Prelude.{◌+◌, ◌<◌, ◌≤◌, ℕ, ◌≡◌, true, List, ◌++◌, map, ℤ, length, take}
 use Rattle.std.proofs.Common.{◌∙◌, ap, arith}
 use Rattle.std.proofs.Math.Option.{some}
-use Rattle.refusal.specs.declared.Outcome.TheVariants.{Accepted}
 use Rattle.limits.specs.Limits.{budget_limit, row_limit, total}
 use Rattle.geometry.specs.Figures.{scaled_squared_distance}
 use Rattle.geometry.specs.Places.{centre_of}
@@ -27,13 +26,13 @@ use Rattle.envelope.specs.declared.Figures.{Figures}
 use Rattle.reading.specs.QuietLaws.{checked_row_quiet, drawn_row_quiet}
 use Rattle.reading.specs.Content.{point_of}
 use Rattle.reading.specs.ContentLaws.{Accepted as Accepting}
-use Rattle.reading.specs.Verdict.{judged, verdict_number}
+use Rattle.reading.specs.Verdict.{judged, verdict_number, Alarm, Quiet}
 use Rattle.reading.specs.VerdictLaws.{accepted_number, accepted-printed, alarm_off_ball, printed-accepted, quiet_in_ball}
-use Rattle.reading.specs.declared.Verdict.TheVariants.{Alarm, Quiet}
 use Rattle.measured_reading.specs.Measured.{measured}
 use Rattle.measured_reading.specs.MeasuredLaws.{alarm_measured, measured-accepted, measured-judged, quiet_measured}
 use Rattle.program_laws.specs.QuietLaws.{reference_checked_quiet, reference_drawn_quiet}
 use Rattle.promises.specs.House.{text_content}
+use Rattle.refusal.specs.Outcome.{Accepted}
 
 -- the values are those of row i of m rows, within the ranges of the n codes, under any label
 pub record RowAsReading (n : ℕ) (codes label : List ℕ) (values : List Written) (rows : List ℤ) (m i : ℕ) : Type 0 where

@@ -8,8 +8,7 @@ use Rattle.std.proofs.Math.Path.{refl}
 use Rattle.std.proofs.Math.Option.{some}
 use Rattle.std.proofs.Common.{arith}
 use Rattle.refusal.specs.Number.{record_form}
-use Rattle.refusal.specs.Outcome.{number_of, refused_at}
-use Rattle.refusal.specs.declared.Outcome.TheVariants.{Accepted}
+use Rattle.refusal.specs.Outcome.{number_of, refused_at, Accepted}
 use Rattle.limits.specs.Limits.{channel_limit, row_limit, total}
 use Rattle.ball.specs.declared.Ball.{Ball}
 use Rattle.checking.specs.Check.{checking}
@@ -28,10 +27,9 @@ use Rattle.record_form.specs.FaultLaws.{AfterCentre, AfterHeading, AfterResult, 
 use Rattle.record_form.specs.Record.{Record, Within, faulty, print_record, sound}
 use Rattle.record_form.specs.RecordLaws.{form_printed, printed_form}
 use Rattle.record_form.specs.Weights.{weights_of}
-use Rattle.record_read.specs.Clauses.{ball_of_record, not_read, record_read, stated_envelope}
+use Rattle.record_read.specs.Clauses.{ball_of_record, not_read, record_read, stated_envelope, EnvelopeRead}
 use Rattle.typed_rows.specs.Given.{given_within}
 use Rattle.record_read.specs.ReadLaws.{accepted-read, accepting, not_11_printed, printed_not_11, read-accepted, read_faulty}
-use Rattle.record_read.specs.declared.EnvelopeRead.{EnvelopeRead}
 use Rattle.promises.specs.House.{text_form}
 use Rattle.record_form.specs.FaultLaws as fault-laws
 

@@ -3,9 +3,7 @@
 use Rattle.std.specs.Prelude.{ℕ, ◌≡◌, refl, false, [], ◌∷◌, Float, pos, replicate}
 use Rattle.lists.specs.Padded.{padded}
 use Rattle.refusal.specs.Number.{alert_settings, budget_too_large, buffer_short, disagreement, heading, label_repeated, line_form, outside_limits, record_form, row_count_number, table_short, tag_differs, text_length, value_range}
-use Rattle.refusal.specs.Outcome.{line_of, number_of, refused, refused_at}
-use Rattle.refusal.specs.declared.Outcome.{Outcome}
-use Rattle.refusal.specs.declared.Outcome.TheVariants.{Accepted}
+use Rattle.refusal.specs.Outcome.{line_of, number_of, refused, refused_at, Outcome, Accepted}
 use Rattle.limits.specs.Limits.{channel_limit, row_limit}
 use Rattle.lent.specs.Clauses.{not_written, written}
 use Rattle.ball.specs.Ball.{empty_ball, filled_ball}
@@ -16,19 +14,14 @@ use Rattle.reference.specs.Clauses.{refused_reference}
 use Rattle.reference_label.specs.Clauses.{no_part}
 use Rattle.reference_write.specs.Writing.{Lent}
 use Rattle.envelope.specs.Figures.{empty_envelope, empty_figures, envelope_of, figures_of}
-use Rattle.reading.specs.Verdict.{refused_verdict, verdict_excess, verdict_line, verdict_number}
-use Rattle.reading.specs.declared.Verdict.{Verdict}
-use Rattle.reading.specs.declared.Verdict.TheVariants.{Alarm, Quiet}
+use Rattle.reading.specs.Verdict.{refused_verdict, verdict_excess, verdict_line, verdict_number, VerdictOutcome, Alarm, Quiet}
 use Rattle.record_read.specs.Clauses.{not_read}
 use Rattle.chart.specs.Fraction.{positive_zero}
-use Rattle.chart.specs.Mark.{mark_line, mark_number, mark_point, mark_radius, refused_mark}
-use Rattle.chart.specs.declared.Mark.{Mark}
-use Rattle.chart.specs.declared.Mark.TheVariants.{Disc, Dot}
+use Rattle.chart.specs.Mark.{mark_line, mark_number, mark_point, mark_radius, refused_mark, MarkOutcome, Disc, Dot}
 use Rattle.chart.specs.declared.Point.{Point}
 use Rattle.panel_steps.specs.Panel.{refused_panel}
 use Rattle.program_lines.specs.Lines.{print_refusal, refusal_word}
-use Rattle.measured_reading.specs.Measured.{not_measured}
-use Rattle.measured_reading.specs.declared.Measured.{Measured}
+use Rattle.measured_reading.specs.Measured.{not_measured, MeasuredOutcome}
 use Rattle.export_reading.specs.Clauses.{measured_in_numbers, verdict_code, verdict_in_numbers}
 use Rattle.export_chart.specs.Clauses.{mark_code, mark_in_numbers}
 use Rattle.promises.specs.AlertAnswers.{TrialsListed, trials_listed}
@@ -84,9 +77,9 @@ pub record RefusalValues : Type 0 where
       (mark_number mark ≡ number) × (mark_line mark ≡ 0) × (mark_point mark ≡ record { horizontal = positive_zero; vertical = positive_zero })
       × (mark_radius mark ≡ positive_zero)
   -- by which the calls for C and Rust answer
-  pub verdict_in_numbers : (v : Verdict)
+  pub verdict_in_numbers : (v : VerdictOutcome)
       → verdict_in_numbers v ≡ record { number = verdict_number v; line = verdict_line v; verdict = verdict_code v; excess = verdict_excess v }
-  pub measured_in_numbers : (m : Measured)
+  pub measured_in_numbers : (m : MeasuredOutcome)
       → measured_in_numbers m
       ≡ record {
         number = verdict_number m.verdict;
@@ -95,7 +88,7 @@ pub record RefusalValues : Type 0 where
         excess = verdict_excess m.verdict;
         scaled_squared_distance = m.scaled_squared_distance;
       }
-  pub mark_in_numbers : (mark : Mark)
+  pub mark_in_numbers : (mark : MarkOutcome)
       → mark_in_numbers mark
       ≡ record {
         number = mark_number mark;

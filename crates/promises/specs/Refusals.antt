@@ -6,8 +6,7 @@ use Rattle.std.specs.Prelude.{◌<◌, ◌≤◌, ℕ, ◌≡◌, ◌&&◌, fals
 use Rattle.std.proofs.Common.{◌∙◌}
 use Rattle.std.proofs.Math.Option.{none, some}
 use Rattle.refusal.specs.Number.{budget_too_large, buffer_short, disagreement, outside_limits, record_form, text_length}
-use Rattle.refusal.specs.Outcome.{refused, refused_at}
-use Rattle.refusal.specs.declared.Outcome.TheVariants.{Accepted}
+use Rattle.refusal.specs.Outcome.{refused, refused_at, Accepted}
 use Rattle.limits.specs.Limits.{budget_limit, row_limit, total}
 use Rattle.lent.specs.Clauses.{not_written, written}
 use Rattle.geometry.specs.Move.{weight_of}

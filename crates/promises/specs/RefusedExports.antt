@@ -8,17 +8,13 @@ use Rattle.std.specs.Prelude.{◌<◌, ◌≤◌, ℕ, ◌≡◌, refl, Bool, �
 use Rattle.std.proofs.Common.{zero-le, ◌∙◌, ap, le-leb}
 use Rattle.std.proofs.lemmas.Bool.{lt-leb}
 use Rattle.refusal.specs.Number.{buffer_short, outside_limits}
-use Rattle.refusal.specs.Outcome.{line_of, number_of, refused, require}
-use Rattle.refusal.specs.declared.Outcome.{Outcome}
-use Rattle.refusal.specs.declared.Outcome.TheVariants.{Accepted, Refused}
-use Rattle.refusal.specs.declared.Refusal.{Refusal}
+use Rattle.refusal.specs.Outcome.{line_of, number_of, refused, require, Outcome, Accepted, Refused, RefusalNumbers}
 use Rattle.limits.specs.Limits.{channel_limit, row_limit, total}
 use Rattle.lent.specs.Clauses.{not_written, with_room}
 use Rattle.checking.specs.Check.{checking}
 use Rattle.drawing.specs.Draw.{drawing}
 use Rattle.channel.specs.Channel.{channel_types}
-use Rattle.reference.specs.Clauses.{reference_read, refused_reference}
-use Rattle.reference.specs.declared.read.Reference.{Reference}
+use Rattle.reference.specs.Clauses.{reference_read, refused_reference, ReferenceOutcome}
 use Rattle.reading.specs.Verdict.{judged, refused_verdict}
 use Rattle.record_read.specs.Clauses.{record_read}
 use Rattle.record_write.specs.Clauses.{record_written}
@@ -80,7 +76,7 @@ given-refused given codes X =
 
 -- the outcome is that of the call, and `answer_with` what is answered with another
 pub record RoomLast {A : Type 0} (outcome : Outcome) (room : Bool) (answer_with : Outcome → A) (answer : A) : Type 0 where
-  pub refused_first : (r : Refusal) → outcome ≡ Refused r → answer ≡ answer_with (Refused r)
+  pub refused_first : (r : RefusalNumbers) → outcome ≡ Refused r → answer ≡ answer_with (Refused r)
   pub short_13 : outcome ≡ Accepted → room ≡ false → answer ≡ answer_with (refused buffer_short)
   pub else_accepted : outcome ≡ Accepted → room ≡ true → answer ≡ answer_with Accepted
 
@@ -93,7 +89,7 @@ room_last outcome room answer_with =
     }
 
 pub record ReferenceRoom (text : List ℕ) (table_places code-places : ℕ) : Type 0 where
-  pub refused_first : (r : Refusal) → (reference_read row_limit channel_types text table_places).outcome ≡ Refused r
+  pub refused_first : (r : RefusalNumbers) → (reference_read row_limit channel_types text table_places).outcome ≡ Refused r
       → reference_answer (reference_read row_limit channel_types text table_places) code-places ≡ reference_in_numbers (refused_reference (Refused r))
   pub short_13 : code-places < (reference_read row_limit channel_types text table_places).n
       → reference_answer (reference_read row_limit channel_types text table_places) code-places ≡ reference_in_numbers (refused_reference (refused buffer_short))
@@ -109,7 +105,7 @@ reference_room text table_places code-places =
     λ b. ap (λ (b : Bool). reference_in_numbers (require b (refused_reference (refused buffer_short)) (λ _. read))) in
     record {
       refused_first = λ r is.
-          ap (λ (a : Reference). reference_answer a code-places) ((answers_listed.of_reference text table_places).whole r is)
+          ap (λ (a : ReferenceOutcome). reference_answer a code-places) ((answers_listed.of_reference text table_places).whole r is)
           ∙ ap (λ (b : Bool). reference_in_numbers (require b (refused_reference (refused buffer_short)) (λ _. refused_reference (Refused r)))) (le-leb 0 code-places zero-le);
       short_13 = λ h. chosen false (lt-leb read.n code-places h);
       else_read = λ h. chosen true (le-leb read.n code-places h);

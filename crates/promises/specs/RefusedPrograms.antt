@@ -6,9 +6,7 @@ use Rattle.std.specs.Prelude.{◌<◌, ◌≤◌, ℕ, ◌≡◌, refl, false, t
 use Rattle.std.proofs.Common.{◌∙◌, sym, arith}
 use Rattle.lists.specs.Padded.{padded}
 use Rattle.refusal.specs.Number.{buffer_short, text_length}
-use Rattle.refusal.specs.Outcome.{refused, refused_at}
-use Rattle.refusal.specs.declared.Outcome.TheVariants.{Accepted, Refused}
-use Rattle.refusal.specs.declared.Refusal.{Refusal}
+use Rattle.refusal.specs.Outcome.{refused, refused_at, Accepted, Refused, RefusalNumbers}
 use Rattle.limits.specs.Limits.{channel_limit, row_limit, total}
 use Rattle.lent.specs.ContractLaws.{text_fits, text_short}
 use Rattle.lent.specs.Clauses.{not_written, text_written, written}
@@ -70,7 +68,7 @@ pub record ProgramsRefused (reference : List ℕ) : Type 0 where
       (drawing total row_limit (table_of found) (row_count found) (channel_count found) draw_budget))
   pub plain_else : (found : ReferenceText) → text_content reference ≡ sound found
       → (plain : ReferenceText) × (lent_content (lent_of found) ≡ sound plain) × (plain_output row_limit channel_types reference ≡ print_text channel_types plain)
-  pub others_refused : (text : List ℕ) (r : Refusal) → (against reference text).outcome ≡ Refused r
+  pub others_refused : (text : List ℕ) (r : RefusalNumbers) → (against reference text).outcome ≡ Refused r
       → (verify_output total row_limit channel_types reference text ≡ print_refusal r.number r.line)
       × (panel_output total row_limit channel_types reference text ≡ print_refusal r.number r.line)
       × ((readings : List ℕ) → judge_output total row_limit channel_types reference text readings ≡ print_refusal r.number r.line)

@@ -10,11 +10,9 @@ use Rattle.std.proofs.Common.{arith}
 use Rattle.lists.specs.Each.{Each}
 use Rattle.lists.specs.Padded.{padded}
 use Rattle.refusal.specs.Number.{buffer_short, disagreement}
-use Rattle.refusal.specs.Outcome.{number_of, refused}
-use Rattle.refusal.specs.declared.Outcome.TheVariants.{Accepted}
+use Rattle.refusal.specs.Outcome.{number_of, refused, Accepted}
 use Rattle.limits.specs.Limits.{budget_limit, channel_limit, row_limit, total}
-use Rattle.lent.specs.Clauses.{not_written, written}
-use Rattle.lent.specs.declared.TextWritten.{TextWritten}
+use Rattle.lent.specs.Clauses.{not_written, written, TextWritten}
 use Rattle.geometry.specs.Table.{rows_within}
 use Rattle.checking.specs.Check.{checking}
 use Rattle.drawing.specs.Draw.{drawing}
@@ -29,11 +27,9 @@ use Rattle.envelope.specs.Figures.{envelope_of, figures_known, figures_of, drawn
 use Rattle.envelope.specs.declared.Envelope.{Envelope}
 use Rattle.agreement.specs.Agreement.{all_zero, cleared}
 use Rattle.agreement.specs.AgreementLaws.{drawn_cleared}
-use Rattle.reading.specs.declared.Verdict.TheVariants.{Quiet}
 use Rattle.record_print.specs.Printed.{record_text}
-use Rattle.record_read.specs.Clauses.{record_read}
+use Rattle.record_read.specs.Clauses.{record_read, EnvelopeRead}
 use Rattle.record_read.specs.ReadLaws.{accepted-read, accepting}
-use Rattle.record_read.specs.declared.EnvelopeRead.{EnvelopeRead}
 use Rattle.record_write.specs.Clauses.{record_written}
 use Rattle.record_write.specs.WriteLaws.{writing-written}
 use Rattle.record_write.proofs.AnswerLaws.{written-writing}
@@ -47,6 +43,7 @@ use Rattle.program_verify.specs.Output.{verify_output}
 use Rattle.program_judge.specs.Output.{judge_output}
 use Rattle.program_laws.specs.TripLaws.{draw_judged, draw_verified, rows_quiet}
 use Rattle.promises.specs.House.{text_content}
+use Rattle.reading.specs.Verdict.{Quiet}
 
 abbrev read_back : List ℤ → ℕ → ℕ → List ℕ → List ℕ → EnvelopeRead
 read_back = record_read total row_limit channel_types

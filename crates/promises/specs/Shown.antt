@@ -19,13 +19,12 @@ use Rattle.channel.specs.Channel.{channel_types}
 use Rattle.envelope.specs.Figures.{figures_known}
 use Rattle.envelope.specs.declared.Figures.{Figures}
 use Rattle.chart.specs.Fraction.{negative, positive_zero}
-use Rattle.chart.specs.Mark.{channel_centre, chart_mark, mark_number, mark_point, mark_radius}
+use Rattle.chart.specs.Mark.{channel_centre, chart_mark, mark_number, mark_point, mark_radius, Disc, Dot}
 use Rattle.chart.specs.MarkLaws.{chart_shows}
 use Rattle.chart.specs.Projection.{projected_squared_distance}
 use Rattle.chart.specs.ProjectionLaws.{OnDisc, same_channel_outside, ten_apart, ten_apart_ball}
 use Rattle.chart.proofs.DiscLaws.{within_disc, tight_projected}
 use Rattle.chart.specs.Root.{ceiling_root}
-use Rattle.chart.specs.declared.Mark.TheVariants.{Disc, Dot}
 use Rattle.panel_steps.specs.Panel.{nearest_step, panel_shown}
 use Rattle.panel_steps.specs.PanelLaws.{distance_to, nearest_away, nearest_least, nearest_unique, panel_past, panel_step}
 use Rattle.trials.specs.Trials.{Trial, trials, trials_agree}

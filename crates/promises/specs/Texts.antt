@@ -11,7 +11,6 @@ use Rattle.std.proofs.Math.Option.{some}
 use Rattle.std.proofs.lemmas.Bool.{lt-leb}
 use Rattle.std.specs.Int.Signed.{le_z}
 use Rattle.lists.specs.Padded.{padded}
-use Rattle.refusal.specs.declared.Outcome.TheVariants.{Accepted}
 use Rattle.limits.specs.Limits.{channel_limit, row_limit, text_limit}
 use Rattle.geometry.specs.Table.{rows_within}
 use Rattle.text.specs.Lines.{print_lines}
@@ -42,6 +41,7 @@ use Rattle.reference_label.specs.Clauses.{label_in, label_part, no_part}
 use Rattle.reference_label.specs.declared.Part.{Part}
 use Rattle.reference_table.specs.AcceptedTable.{accepted-table}
 use Rattle.promises.specs.House.{text_content}
+use Rattle.refusal.specs.Outcome.{Accepted}
 
 -- ---- 2.6
 

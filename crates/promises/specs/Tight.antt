@@ -12,7 +12,6 @@
 -- `a i k` is the coordinate of row i in channel k, rows and channels counted from 0.
 use Rattle.std.specs.Prelude.{◌*◌, ◌+◌, ◌-◌, ◌<◌, ◌≤◌, ℕ, ◌≡◌, Bool, true, List, ◌*ℤ◌, ◌-ℤ◌, pos, ℤ}
 use Rattle.integers.specs.Sum.{sumℕ}
-use Rattle.refusal.specs.declared.Outcome.TheVariants.{Accepted}
 use Rattle.geometry.proofs.Demand.{floor_below_ball, holds_every_row, reaches_some_row, rival, settled_gap}
 use Rattle.geometry.specs.Figures.{largest, largest_squared_distance, scaled_centre, scaled_lower_bound, scaled_squared_distance, scaled_squared_radius, squared_distance, squared_length}
 use Rattle.geometry.specs.Move.{settled}
@@ -30,6 +29,7 @@ use Rattle.record_read.specs.Clauses.{record_read}
 use Rattle.record_read.specs.ReadLaws.{accepted-read}
 use Rattle.record.specs.TripLaws.{accepted_tight}
 use Rattle.promises.specs.Moves.{MoveMade, promise_2_3}
+use Rattle.refusal.specs.Outcome.{Accepted}
 
 -- ---- of what demand 3 is said
 

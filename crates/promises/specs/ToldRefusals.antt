@@ -3,8 +3,6 @@
 --     RefusalsTold, refusals_told     a refusal of the texts is told from a refused reading by the first line of the output
 use Rattle.std.specs.Prelude.{ℕ, ◌≡◌, ◌||◌, false, not, true, List}
 use Rattle.std.proofs.Common.{arith}
-use Rattle.refusal.specs.declared.Outcome.TheVariants.{Refused}
-use Rattle.refusal.specs.declared.Refusal.{Refusal}
 use Rattle.limits.specs.Limits.{row_limit, total}
 use Rattle.text.specs.Parts.{text_within}
 use Rattle.channel.specs.Channel.{channel_types}
@@ -23,6 +21,7 @@ use Rattle.program_judge.specs.Output.{judge_output}
 use Rattle.program_alerts.specs.Output.{alerts_output}
 use Rattle.program_laws.specs.ToldLaws.{alerts_told, draw_told, is_faulty, is_missing, is_refused, judge_told, of_reading, panel_told, plain_told, refusal_injective, refusal_of_reading, refusal_of_texts, refuses_texts, verify_told}
 use Rattle.promises.specs.House.{against, text_content}
+use Rattle.refusal.specs.Outcome.{Refused, RefusalNumbers}
 
 -- `refuses_texts output`: the first line is a refusal, and none of those that a reading meets
 pub record RefusalsTold : Type 0 where
@@ -39,7 +38,7 @@ pub record RefusalsTold : Type 0 where
       → refuses_texts (alerts_output total row_limit channel_types reference text settings readings)
       ≡ (is_refused (against reference text).outcome || (is_missing (text_of_settings settings) || not (text_within readings)))
   -- number and line tell which: those that a reading meets are 3, 10 and 4 at line 1, which no refusal of the texts has
-  pub of_texts : (reference text : List ℕ) (r : Refusal) → (against reference text).outcome ≡ Refused r → of_reading r.number r.line ≡ false
+  pub of_texts : (reference text : List ℕ) (r : RefusalNumbers) → (against reference text).outcome ≡ Refused r → of_reading r.number r.line ≡ false
   pub of_reading : (f : Figures) → figures_known total channel_types f ≡ true → (text : List ℕ) → text_within text ≡ true
       → (number line : ℕ) → judged total channel_types f text ≡ refused_verdict number line → of_reading number line ≡ true
   -- and different refusals are printed by different bytes

@@ -10,14 +10,11 @@ use Rattle.std.specs.Prelude.{◌+◌, ◌≤◌, ℕ, ◌≡◌, Bool, false, t
 use Rattle.std.proofs.Common.{zero-le, ap, sym, inl, inr, arith}
 use Rattle.std.proofs.Math.Path.{refl}
 use Rattle.refusal.specs.Number.{buffer_short, label_repeated, line_form, outside_limits, value_range}
-use Rattle.refusal.specs.Outcome.{line_of, number_of}
+use Rattle.refusal.specs.Outcome.{line_of, number_of, Refused, RefusalNumbers}
 use Rattle.refusal.specs.OutcomeLaws.{each_answer}
-use Rattle.refusal.specs.declared.Outcome.TheVariants.{Refused}
-use Rattle.refusal.specs.declared.Refusal.{Refusal}
 use Rattle.limits.specs.Limits.{row_limit}
 use Rattle.lent.specs.ContractLaws.{text_most}
-use Rattle.lent.specs.Clauses.{not_written}
-use Rattle.lent.specs.declared.TextWritten.{TextWritten}
+use Rattle.lent.specs.Clauses.{not_written, TextWritten}
 use Rattle.label.specs.RowLabel.{is_row_label, label_used}
 use Rattle.channel.specs.Channel.{Types, channel_types}
 use Rattle.value.specs.Values.{values_in_range}
@@ -62,7 +59,7 @@ WriterRefusal m number line = ContentRefusal m number line ⊎ ((number ≡ buff
 
 pub record WriterListed (lent : Lent) (places : ℕ) : Type 0 where
   pub answered : TextAnswered (writing lent places)
-  pub numbers : (r : Refusal) → (writing lent places).outcome ≡ Refused r → WriterRefusal lent.m r.number r.line
+  pub numbers : (r : RefusalNumbers) → (writing lent places).outcome ≡ Refused r → WriterRefusal lent.m r.number r.line
   pub for_C_and_Rust : WrittenNumbers (written_in_numbers (writing lent places))
 
 row_number : (types : Types) (codes : List ℕ) (earlier : List (List ℕ)) (row : Row) → 1 ≤ row_fault types codes earlier row
@@ -122,7 +119,7 @@ module _ (lent : Lent) (places : ℕ) where
       (refusal_listed lent.m number line (refusal_is lent number line is))
   content_answered (sound found) is = answers_listed.of_output (print_text channel_types found) places
 
-  content-numbers : (r : Refusal) (c : Content) → lent_content lent ≡ c → (content_written channel_types c places).outcome ≡ Refused r
+  content-numbers : (r : RefusalNumbers) (c : Content) → lent_content lent ≡ c → (content_written channel_types c places).outcome ≡ Refused r
       → WriterRefusal lent.m r.number r.line
   content-numbers r (faulty number line) is e =
       let number_is : number ≡ r.number = ap number_of e in

@@ -3,9 +3,9 @@
 -- Before each field stands the signature by which its arguments are counted.
 --     WriterCalls, writer_calls     the calls, each by the definition that gives its answer
 use Rattle.std.specs.Prelude.{◌≤◌, ◌≡◌, length}
-use Rattle.refusal.specs.Outcome.{number_of}
+use Rattle.refusal.specs.Outcome.{number_of, outcome_of}
 use Rattle.limits.specs.Limits.{row_limit}
-use Rattle.lent.specs.Clauses.{Part, text_written}
+use Rattle.lent.specs.Clauses.{Part, text_written, text_outcome}
 use Rattle.lent.specs.Filled.{filled}
 use Rattle.channel.specs.Channel.{channel_types}
 use Rattle.reference_write.specs.Clauses.{reference_written, written_text}
@@ -42,16 +42,16 @@ module _ {M : Type 1} {𝓤 : Ura M} (𝓛 : Logic 𝓤) (𝓜 : Model 𝓤 𝓛
         let rows = a.0.now in let m = a.1.0 in let n = a.1.1.0 in let codes = a.1.1.1.0.now in
         let labels = a.1.1.1.1.0.now in let ends = a.1.1.1.1.1.0.now in let buffer = a.1.1.1.1.1.1.0.now in
         let buffer-after = e.1.1.1.1.1.1.0.now in
-        ⌜ r ≡ reference_written row_limit channel_types (lent_table rows m n codes labels ends) (length buffer) ⌝
+        ⌜ text_outcome r ≡ reference_written row_limit channel_types (lent_table rows m n codes labels ends) (length buffer) ⌝
         ∗ ⌜ buffer-after
-        ≡ filled (number_of r.outcome) r.length (written_text channel_types (lent_text row_limit channel_types (lent_table rows m n codes labels ends))) buffer ⌝)
+        ≡ filled (number_of (outcome_of r)) (text_outcome r).length (written_text channel_types (lent_text row_limit channel_types (lent_table rows m n codes labels ends))) buffer ⌝)
     -- the program, from its text to the whole output, which 13 does not meet with this room: plain(reference, output)
     pub program_prints_plain : Answers 𝓛 𝓜 𝓡 plain.ended plain-code.code plain-code.name
         (λ κs a r e.
         let reference = a.0.now in let output = a.1.0.now in let output-after = e.1.0.now in
-        ⌜ r ≡ text_written (plain_output row_limit channel_types reference) (length output) ⌝
-        ∗ ⌜ output-after ≡ filled (number_of r.outcome) r.length (plain_output row_limit channel_types reference) output ⌝
-        ∗ ⌜ Part output-after r.length ⌝
+        ⌜ text_outcome r ≡ text_written (plain_output row_limit channel_types reference) (length output) ⌝
+        ∗ ⌜ output-after ≡ filled (number_of (outcome_of r)) (text_outcome r).length (plain_output row_limit channel_types reference) output ⌝
+        ∗ ⌜ Part output-after (text_outcome r).length ⌝
         ∗ ⌜ length (plain_output row_limit channel_types reference) ≤ plain_room ⌝)
     -- for C and Rust: cundarivo_write_reference(rows, m, n, codes, labels, ends, buffer)
     pub cundarivo_write_reference : Answers 𝓛 𝓜 𝓡 exported.ended exported-code.code exported-code.name

@@ -3,7 +3,6 @@
 --     promise_R1        the writer: its calls, its refusals and its texts (`ReferenceWriter`)
 use Rattle.std.specs.Prelude.{ℕ, ◌≡◌, true, List, length}
 use Rattle.std.proofs.Common.{◌∙◌, ap, sym, arith}
-use Rattle.refusal.specs.declared.Outcome.TheVariants.{Accepted}
 use Rattle.limits.specs.Limits.{total, row_limit}
 use Rattle.lent.specs.Clauses.{written}
 use Rattle.text.specs.Parts.{free}
@@ -35,6 +34,7 @@ use seplogic.Ra.Ura.{Ura}
 use types.Logic.{Logic}
 use contract.Running.{Running}
 use prog.Model.{Model}
+use Rattle.refusal.specs.Outcome.{Accepted}
 
 pub record PlainPrinted (reference : List ℕ) (found : ReferenceText) : Type 0 where
   -- what the writer gives of the text's own table, types and labels

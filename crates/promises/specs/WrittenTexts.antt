@@ -9,13 +9,11 @@ use Rattle.std.proofs.Common.{◌∙◌, sym, arith}
 use Rattle.std.proofs.Math.Path.{ap}
 use Rattle.lists.specs.Padded.{padded}
 use Rattle.refusal.specs.Number.{buffer_short}
-use Rattle.refusal.specs.Outcome.{number_of}
+use Rattle.refusal.specs.Outcome.{number_of, Accepted}
 use Rattle.refusal.specs.OutcomeLaws.{each_answer}
-use Rattle.refusal.specs.declared.Outcome.TheVariants.{Accepted}
 use Rattle.limits.specs.Limits.{channel_limit, row_limit}
 use Rattle.lent.specs.ContractLaws.{text_fits}
-use Rattle.lent.specs.Clauses.{text_written, written}
-use Rattle.lent.specs.declared.TextWritten.{TextWritten}
+use Rattle.lent.specs.Clauses.{text_written, written, TextWritten}
 use Rattle.text.specs.Parts.{free}
 use Rattle.channel.specs.Channel.{channel_types}
 use Rattle.channel.specs.ChannelLaws.{house_sound}

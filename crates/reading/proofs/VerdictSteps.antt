@@ -33,9 +33,7 @@ use Rattle.reading_line.specs.Reading.{Reading, one_line, reading_line, reading_
 use Rattle.reading_line.specs.ReadingLaws.{line-text, text-line}
 use Rattle.reading.specs.Content.{Content, faulty, sound, reading_content, point_of}
 use Rattle.reading.specs.ContentLaws.{faulty_form, faulty_tag, faulty_range, sound_content}
-use Rattle.reading_line.specs.Clauses.{line_read, line_alone, LineRead}
-use Rattle.reading_line.specs.declared.Line.{Line}
-use Rattle.reading_line.specs.declared.Line.TheVariants.{Malformed, TagDiffers, OutOfRange, Within}
+use Rattle.reading_line.specs.Clauses.{Line, Malformed, TagDiffers, OutOfRange, Within, line_read, line_alone, LineRead}
 
 -- ---- by what the line is
 

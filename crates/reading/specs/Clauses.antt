@@ -1,20 +1,29 @@
 -- s of a text as a reading, or its refusal: what the calls on a reading answer by.
+--     Distance, distance_outcome a           what it is answered by, in numbers
 --     refused_distance number line           the refusal with this number at this line
 --     distance_as D f content                s of what a text is, or its refusal
 --     DistanceRead                          s of a text as a reading, or its refusal, the values of a reading in the lent places besides
 --     distance_faulty, distance_sound       so it is of a refused text, and of a reading
 --     distance_is, distance-refused         what a text is, by its s or its refusal
-use Rattle.std.specs.Prelude.{ℕ, ◌≡◌, refl, List, ◌++◌, map, ℤ, length, drop}
+use Rattle.std.specs.Prelude.{ℕ, ◌≡◌, refl, List, ◌++◌, map, ℤ, length, drop, Result, Ok, Err}
 use Rattle.std.proofs.Common.{sym, ap, ◌∙◌}
 use Rattle.integers.specs.Tests.{impossible}
-use Rattle.refusal.specs.declared.Refusal.{Refusal}
 use Rattle.channel.specs.Channel.{Types}
 use Rattle.value.specs.Value.{Written, reads}
 use Rattle.envelope.specs.declared.Figures.{Figures}
 use Rattle.reading.specs.Content.{Content, faulty, sound, reading_content, distance_of}
 use Rattle.reading.specs.ContentLaws.{never_sound, same_values}
-use Rattle.reading.specs.declared.Distance.{Distance}
-use Rattle.reading.specs.declared.Distance.TheVariants.{Is, Refused}
+use Rattle.refusal.specs.Outcome.{RefusalNumbers, refusal_numbers}
+use Rattle.refusal.specs.declared.Refusal.{Refusal}
+
+-- s of a text as a reading, or its refusal, in numbers
+pub data Distance : Type 0 where
+  Is : ℕ → Distance
+  Refused : RefusalNumbers → Distance
+
+abbrev pub distance_outcome : Result ℕ Refusal → Distance
+distance_outcome (Ok s) = Is s
+distance_outcome (Err r) = Refused (refusal_numbers r)
 
 abbrev pub refused_distance : ℕ → ℕ → Distance
 refused_distance number line = Refused (record { number = number; line = line })
@@ -51,6 +60,6 @@ module _ (D : ℕ) (f : Figures) where
   distance_is (faulty k l) e = impossible (cc)
   distance_is (sound values) e = (values, refl, cc)
 
-  pub distance-refused : (c : Content) {r : Refusal} → distance_as D f c ≡ Refused r → c ≡ faulty r.number r.line
+  pub distance-refused : (c : Content) {r : RefusalNumbers} → distance_as D f c ≡ Refused r → c ≡ faulty r.number r.line
   distance-refused (faulty k l) e = cc
   distance-refused (sound values) e = impossible (cc)

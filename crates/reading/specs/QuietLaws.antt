@@ -7,7 +7,6 @@ use Rattle.std.specs.Prelude.{ℕ, ◌≤◌, ◌<◌, ◌≡◌, refl, true, Li
 use Rattle.std.proofs.Common.{◌∙◌, le_trans, le_of_eq, arith}
 use Rattle.integers.specs.Tests.{clash}
 use Rattle.refusal.specs.Number.{outside_limits}
-use Rattle.refusal.specs.declared.Outcome.TheVariants.{Accepted}
 use Rattle.geometry.proofs.FigureLaws.{distance_cong}
 use Rattle.geometry.specs.Table.{coordinate}
 use Rattle.limits.specs.Limits.{budget_limit}
@@ -27,9 +26,9 @@ use Rattle.envelope.specs.FigureLaws.{drawn-within, checked-within}
 use Rattle.envelope.specs.declared.Figures.{Figures}
 use Rattle.reading_line.specs.Reading.{print_reading, own_reading}
 use Rattle.reading.specs.Content.{point_of, distance_of}
-use Rattle.reading.specs.Verdict.{verdict_number, judged}
+use Rattle.reading.specs.Verdict.{verdict_number, judged, Quiet}
 use Rattle.reading.specs.VerdictLaws.{accepted_number, within_quiet, each_verdict, printed-accepted}
-use Rattle.reading.specs.declared.Verdict.TheVariants.{Quiet}
+use Rattle.refusal.specs.Outcome.{Accepted}
 
 -- ---- 2.14: no 8
 

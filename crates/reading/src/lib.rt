@@ -9,36 +9,22 @@ ghost use Rattle.ball.specs.Ball.{filled_ball};
 ghost use Rattle.envelope.specs.Figures.{figures_known, figures_of};
 ghost use Rattle.envelope.specs.Clauses.{lent_figures};
 ghost use Rattle.text.specs.Parts.{line_end, text_within};
-ghost use Rattle.reading.specs.Verdict.{verdict_of, judged};
-ghost use Rattle.reading.specs.Clauses.{refused_distance, DistanceRead};
+ghost use Rattle.reading.specs.Verdict.{verdict_outcome, verdict_of, judged};
+ghost use Rattle.reading.specs.Clauses.{distance_outcome, DistanceRead};
 
 use channel::Code;
 use envelope::{Figures, Scalars, figures_known_lent};
 use figures::distance::scaled_squared_distance;
 use limits::CHANNELS;
-use reading_line::{Line, read_line};
-use refusal::Refusal;
+use reading_line::{Fault, read_line};
+use refusal::{Kind, Refusal};
 use text::parts::{LINE_END, text_within};
 
 // The verdict on a reading: an Alarm has its excess s - M.
-#[derive(Clone, Copy)]
+#[derive(Clone, Copy, PartialEq, Eq)]
 pub enum Verdict {
     Quiet,
     Alarm(u64),
-    Refused(Refusal),
-}
-
-// s of a text as a reading, or its refusal.
-#[derive(Clone, Copy)]
-pub enum Distance {
-    Is(u64),
-    Refused(Refusal),
-}
-
-fn refused(number: u32, line: u32) -> Distance
-    ensures { result ≡ refused_distance number line }
-{
-    Distance::Refused(Refusal { number, line })
 }
 
 // s of the text that is this line and its byte 10, or its refusal, the values of a reading put into the lent places.
@@ -48,22 +34,18 @@ fn distance_of_line(
     scaled_centre: &[i64],
     line: &[u8],
     places: &mut [i32],
-) -> Distance
+) -> Result<u64, Refusal>
     requires { (figures_known total channel_types (lent_figures scalars codes.now scaled_centre.now) ≡ true)
         × ((text_within (line.now ++ (line_end ∷ [])) ≡ true) × (channel_limit ≤ length places.old)) }
     ensures { DistanceRead total channel_types (lent_figures scalars codes.now scaled_centre.now)
-        (line.now ++ (line_end ∷ [])) places.old places.new result }
+        (line.now ++ (line_end ∷ [])) places.old places.new (distance_outcome result) }
 {
     let n = scalars.n;
-    let read = read_line(line, codes, n, places);
-    match read {
-        Line::Malformed => refused(refusal::LINE_FORM, 1),
-        Line::TagDiffers => refused(refusal::TAG_DIFFERS, 1),
-        Line::OutOfRange => refused(refusal::VALUE_RANGE, 1),
-        Line::Within => {
-            let distance = scaled_squared_distance(places, n, 0, scaled_centre);
-            Distance::Is(distance)
-        }
+    match read_line(line, codes, n, places) {
+        Ok(()) => Ok(scaled_squared_distance(places, n, 0, scaled_centre)),
+        Err(Fault::Malformed) => Err(Refusal::new(Kind::LineForm, 1)),
+        Err(Fault::TagDiffers) => Err(Refusal::new(Kind::TagDiffers, 1)),
+        Err(Fault::OutOfRange) => Err(Refusal::new(Kind::ValueRange, 1)),
     }
 }
 
@@ -80,11 +62,11 @@ pub fn distance_of_text(
     scaled_centre: &[i64],
     text: &[u8],
     places: &mut [i32],
-) -> Distance
+) -> Result<u64, Refusal>
     requires { channel_limit ≤ length places.old }
     ensures { DistanceRead total channel_types (figures_of n codes.now
         (filled_ball scaled_centre.now scaled_squared_radius scaled_lower_bound settled) moves)
-        text.now places.old places.new result }
+        text.now places.old places.new (distance_outcome result) }
 {
     let scalars = Scalars {
         n,
@@ -96,28 +78,26 @@ pub fn distance_of_text(
     let known = figures_known_lent(scalars, codes, scaled_centre);
     let within = text_within(text);
     if !known {
-        return refused(refusal::OUTSIDE_LIMITS, 0);
+        return Err(Kind::OutsideLimits.into());
     }
     if !within {
-        return refused(refusal::TEXT_LENGTH, 0);
+        return Err(Kind::TextLength.into());
     }
     let end = text.len() - 1;
     if text[end] != LINE_END {
-        return refused(refusal::LINE_FORM, 1);
+        return Err(Refusal::new(Kind::LineForm, 1));
     }
     distance_of_line(scalars, codes, scaled_centre, &text[..end], places)
 }
 
 // s against M.
 pub fn verdict_of(scaled_squared_distance: u64, scaled_squared_radius: u64) -> Verdict
-    ensures { result ≡ verdict_of scaled_squared_distance scaled_squared_radius }
+    ensures { verdict_outcome (Ok result) ≡ verdict_of scaled_squared_distance scaled_squared_radius }
 {
-    let within = scaled_squared_distance <= scaled_squared_radius;
-    if within {
+    if scaled_squared_distance <= scaled_squared_radius {
         Verdict::Quiet
     } else {
-        let excess = scaled_squared_distance - scaled_squared_radius;
-        Verdict::Alarm(excess)
+        Verdict::Alarm(scaled_squared_distance - scaled_squared_radius)
     }
 }
 
@@ -131,12 +111,12 @@ pub fn judge_lent(
     codes: &[Code],
     scaled_centre: &[i64],
     text: &[u8],
-) -> Verdict
-    ensures { result ≡ judged total channel_types (figures_of n codes.now
+) -> Result<Verdict, Refusal>
+    ensures { verdict_outcome result ≡ judged total channel_types (figures_of n codes.now
         (filled_ball scaled_centre.now scaled_squared_radius scaled_lower_bound settled) moves) text.now }
 {
     let mut places = [0i32; CHANNELS];
-    let read = distance_of_text(
+    let distance = distance_of_text(
         n,
         scaled_squared_radius,
         scaled_lower_bound,
@@ -146,31 +126,23 @@ pub fn judge_lent(
         scaled_centre,
         text,
         &mut places,
-    );
-    match read {
-        Distance::Is(distance) => verdict_of(distance, scaled_squared_radius),
-        Distance::Refused(refusal) => Verdict::Refused(Refusal {
-            number: refusal.number,
-            line: refusal.line,
-        }),
-    }
+    )?;
+    Ok(verdict_of(distance, scaled_squared_radius))
 }
 
-// The same against figures as one value.
-pub fn judge(figures: Figures, text: &[u8]) -> Verdict
-    ensures { result ≡ judged total channel_types figures text.now }
+// The same against figures as one value; C's calls lend codes and X.
+pub fn judge(figures: Figures, text: &[u8]) -> Result<Verdict, Refusal>
+    ensures { verdict_outcome result ≡ judged total channel_types figures text.now }
 {
-    let codes = figures.codes;
     let ball = figures.ball;
-    let scaled_centre = ball.scaled_centre;
     judge_lent(
         figures.n,
         ball.scaled_squared_radius,
         ball.scaled_lower_bound,
         ball.settled,
         figures.moves,
-        &codes,
-        &scaled_centre,
+        &figures.codes,
+        &ball.scaled_centre,
         text,
     )
 }

@@ -32,9 +32,7 @@ use Rattle.value.specs.Values.{values_of, values_in_range}
 use Rattle.value.proofs.ValuesSteps.{ValuesSoFar, values_none, values_stop, values_whole}
 use Rattle.reading_line.specs.Reading.{Reading, tag_fields, value_fields, reading_fields, reading_line, tags_agree}
 use Rattle.reading_line.specs.ReadingLaws.{agreed_free}
-use Rattle.reading_line.specs.Clauses.{line_pairs, pairs_read, PairsRead, line_read, line_alone, LineRead}
-use Rattle.reading_line.specs.declared.Line.{Line}
-use Rattle.reading_line.specs.declared.Line.TheVariants.{Malformed, TagDiffers, OutOfRange, Within}
+use Rattle.reading_line.specs.Clauses.{Line, Malformed, TagDiffers, OutOfRange, Within, line_pairs, pairs_read, PairsRead, line_read, line_alone, LineRead}
 
 -- ---- the fields from an index on
 

@@ -1,19 +1,34 @@
 -- What the functions that read a reading's line do.
+--     Line                                     what a line is
+--     line_of answer                           what it is by the answer
 --     line_pairs types codes tags values        what a line with these tags and values is, if the values are in form
 --     pairs_read types codes fields             what the fields after the label are
 --     PairsRead                                the values in the lent places besides
 --     line_read types codes reading             what a line is
 --     line_alone line                           the line, where there is no byte 10 in it
 --     LineRead                                 what stands before a text's last byte 10, the values in the lent places besides
-use Rattle.std.specs.Prelude.{ℕ, ◌+◌, ◌≡◌, cond, List, ◌++◌, map, eqb, ℤ, length, drop}
+use Rattle.std.specs.Prelude.{ℕ, ◌+◌, ◌≡◌, cond, List, ◌++◌, map, eqb, ℤ, length, drop, Result, Ok, Err}
 use Rattle.std.proofs.Math.Option.{Option, none, some}
 use Rattle.text.specs.Parts.{line_end, free}
 use Rattle.channel.specs.Channel.{Types}
 use Rattle.value.specs.Value.{Written, reads}
 use Rattle.value.specs.Values.{values_of, values_in_range}
 use Rattle.reading_line.specs.Reading.{Reading, tag_fields, value_fields, reading_line, tags_agree}
-use Rattle.reading_line.specs.declared.Line.{Line}
-use Rattle.reading_line.specs.declared.Line.TheVariants.{Malformed, TagDiffers, OutOfRange, Within}
+use Rattle.reading_line.specs.declared.Fault.{Fault}
+use Rattle.reading_line.specs.declared.Fault.TheVariants as fault
+
+-- not in form, in form with a tag that is not its channel's, in form and of its tags with a value outside its range, or within every range
+pub data Line : Type 0 where
+  Malformed : Line
+  TagDiffers : Line
+  OutOfRange : Line
+  Within : Line
+
+abbrev pub line_of : Result (Unit {0}) Fault → Line
+line_of (Err fault.Malformed) = Malformed
+line_of (Err fault.TagDiffers) = TagDiffers
+line_of (Err fault.OutOfRange) = OutOfRange
+line_of (Ok within) = Within
 
 abbrev pub line_pairs : Types → List ℕ → List (List ℕ) → Option (List Written) → Line
 line_pairs types codes tags none = Malformed

@@ -5,89 +5,91 @@
 ghost use Rattle.std.specs.Prelude.{◌≡◌, true, ◌≤◌, length, take};
 ghost use Rattle.text.specs.Parts.{comma, parts_from};
 ghost use Rattle.channel.specs.Channel.{channel_types, codes_known};
-ghost use Rattle.reading_line.specs.Clauses.{PairsRead, LineRead};
+ghost use Rattle.reading_line.specs.Clauses.{line_of, PairsRead, LineRead};
 
 use channel::Code;
 use label::label_field;
 use text::parts::line_end;
-use value::{Value, read_written_at, written_value};
+use value::{read_written_at, written_value};
 
-// What a line is: not in form, in form with a tag that is not the envelope's, in form and of its tags with a value outside its
-// range, or within every range.
+// What a line is that is no reading within every range: not in form, in form with a tag that is not the envelope's, or in form and of its
+// tags with a value outside its range.
 #[derive(Clone, Copy)]
-pub enum Line {
+pub enum Fault {
     Malformed,
     TagDiffers,
     OutOfRange,
-    Within,
 }
 
 // Exactly n pairs of tag and value from `at` on, each under its type, the values put into the lent places.
-fn read_pairs(line: &[u8], at: usize, codes: &[Code], n: usize, places: &mut [i32]) -> Line
+fn read_pairs(
+    line: &[u8],
+    at: usize,
+    codes: &[Code],
+    n: usize,
+    places: &mut [i32],
+) -> Result<(), Fault>
     requires { (n ≤ length codes.now) × (n ≤ length places.old) }
     ensures { PairsRead channel_types (take n codes.now) (parts_from comma line.now at) places.old
-        places.new result }
+        places.new (line_of result) }
 {
     let mut from = at;
     let mut tags_agree = true;
     let mut out_of_range = false;
-    let mut i = 0;
-    while i < n {
+    for i in 0..n {
         if line.len() < from {
-            return Line::Malformed;
+            return Err(Fault::Malformed);
         }
         let code = codes[i];
         let tag = channel::read_tag(line, from, code);
         if line.len() == tag.end {
-            return Line::Malformed;
+            return Err(Fault::Malformed);
         }
-        tags_agree = tag.agrees & tags_agree;
+        tags_agree = tag.value & tags_agree;
         let value_at = tag.end + 1;
         let range = channel::range_of(code);
-        let written = read_written_at(line, value_at);
-        let number = written.number;
-        let value = written_value(written.below, number, range);
-        match value {
-            Value::Malformed => return Line::Malformed,
-            Value::OutOfRange => out_of_range = true,
-            Value::Reads(whole) => places[i] = whole,
+        let field = read_written_at(line, value_at);
+        let written = field.value;
+        match written_value(written.below, written.number, range) {
+            Ok(whole) => places[i] = whole,
+            Err(value::Fault::Malformed) => return Err(Fault::Malformed),
+            Err(value::Fault::OutOfRange) => out_of_range = true,
         }
-        from = written.end + 1;
-        i += 1;
+        from = field.end + 1;
     }
     if from <= line.len() {
-        return Line::Malformed;
+        return Err(Fault::Malformed);
     }
     if !tags_agree {
-        return Line::TagDiffers;
+        return Err(Fault::TagDiffers);
     }
     if out_of_range {
-        return Line::OutOfRange;
+        return Err(Fault::OutOfRange);
     }
-    Line::Within
+    Ok(())
 }
 
 // What stands before a text's last byte 10 as a reading of n channels, its values put into the lent places. A byte 10 in it is no
 // part of a label or of a value, nor of any channel's tag: where every tag is the channel's there is none.
-pub fn read_line(line: &[u8], codes: &[Code], n: usize, places: &mut [i32]) -> Line
+pub fn read_line(line: &[u8], codes: &[Code], n: usize, places: &mut [i32]) -> Result<(), Fault>
     requires { (codes_known channel_types (take n codes.now) ≡ true) × ((n ≤ length codes.now) × (n ≤ length places.old)) }
-    ensures { LineRead channel_types (take n codes.now) line.now places.old places.new result }
+    ensures { LineRead channel_types (take n codes.now) line.now places.old places.new (line_of result) }
 {
     let label = label_field(line);
-    if label.key == 0 {
-        return Line::Malformed;
-    }
-    let read = read_pairs(line, label.end + 1, codes, n, places);
-    match read {
-        Line::Malformed => Line::Malformed,
-        Line::TagDiffers => {
+    let Some(_) = label.value else {
+        return Err(Fault::Malformed);
+    };
+    let Err(fault) = read_pairs(line, label.end + 1, codes, n, places) else {
+        return Ok(());
+    };
+    match fault {
+        Fault::TagDiffers => {
             if line_end(line, 0) < line.len() {
-                Line::Malformed
+                Err(Fault::Malformed)
             } else {
-                Line::TagDiffers
+                Err(fault)
             }
         }
-        Line::OutOfRange => Line::OutOfRange,
-        Line::Within => Line::Within,
+        _ => Err(fault),
     }
 }

@@ -5,16 +5,14 @@
 use Rattle.std.specs.Prelude.{ℕ, ◌≤◌, min, ◌≡◌, true, List, ℤ, length}
 use native.Mathlib.Omega.{arith}
 use Rattle.refusal.specs.Number.{buffer_short}
-use Rattle.refusal.specs.Outcome.{number_of}
-use Rattle.refusal.specs.declared.Outcome.TheVariants.{Accepted}
+use Rattle.refusal.specs.Outcome.{number_of, Accepted}
 use Rattle.limits.specs.Limits.{total, row_limit}
 use Rattle.drawing.specs.Draw.{drawing}
 use Rattle.channel.specs.Channel.{channel_types, codes_known}
 use Rattle.envelope.specs.declared.Envelope.{Envelope}
 use Rattle.record_print.specs.Printed.{record_text, record_most}
 use Rattle.record_write.specs.Clauses.{record_written}
-use Rattle.lent.specs.Clauses.{written}
-use Rattle.lent.specs.declared.TextWritten.{TextWritten}
+use Rattle.lent.specs.Clauses.{written, TextWritten}
 use Rattle.record_write.specs.WriteLaws.{Writing, each_written, writing-written}
 use Rattle.record.specs.HouseLaws.{house_most, own, own-writing}
 

@@ -5,7 +5,6 @@
 use Rattle.std.specs.Prelude.{ℕ, ◌≤◌, ◌<◌, ◌≡◌, true, List, ℤ, length, take, drop}
 use Rattle.std.proofs.Common.{◌∙◌, ap, arith}
 use Rattle.lists.specs.Padded.{padded, padded_first, padded-length}
-use Rattle.refusal.specs.declared.Outcome.TheVariants.{Accepted}
 use Rattle.limits.specs.Limits.{total, channel_limit, budget_limit, text_limit}
 use Rattle.geometry.specs.TableLaws.{within_limits}
 use Rattle.drawing.specs.Draw.{drawing}
@@ -28,6 +27,7 @@ use Rattle.lent.specs.Clauses.{written}
 use Rattle.record_read.specs.ReadLaws.{accepting}
 use Rattle.record_write.specs.WriteLaws.{Writing, writing-written}
 use Rattle.record.specs.TripLaws.{Holds, written_envelope}
+use Rattle.refusal.specs.Outcome.{Accepted}
 
 module _ (D limit : ℕ) (types : Types) (positive : 0 < D) (rows : List ℤ) (m n : ℕ)
     (codes : List ℕ) (coded : length codes ≡ n) (codes_known_lem : codes_known types codes ≡ true) where

@@ -11,8 +11,7 @@ use Rattle.std.specs.Prelude.{ℕ, ◌^◌, ◌≤◌, min, ◌≡◌, true, Lis
 use native.Mathlib.Omega.{arith}
 use Rattle.lists.specs.Padded.{padded}
 use Rattle.refusal.specs.Number.{disagreement}
-use Rattle.refusal.specs.Outcome.{refused, number_of}
-use Rattle.refusal.specs.declared.Outcome.TheVariants.{Accepted}
+use Rattle.refusal.specs.Outcome.{refused, number_of, Accepted}
 use Rattle.geometry.specs.Table.{rows_within}
 use Rattle.limits.specs.Limits.{total, row_limit, channel_limit, text_limit, row_digits, weight_digits, centre_digits, distance_digits, moves_digits}
 use Rattle.geometry.specs.TableLaws.{within_limits}
@@ -30,10 +29,9 @@ use Rattle.envelope.specs.declared.Envelope.{Envelope}
 use Rattle.record_print.specs.Printed.{record_of, record_text, record_most}
 use Rattle.record_print.specs.Clauses.{record_room}
 use Rattle.record_print.specs.PrintedLaws.{heading_short, centre_short, result_short, lines_short, record_length, record_room_lem}
-use Rattle.record_read.specs.Clauses.{record_read}
+use Rattle.record_read.specs.Clauses.{record_read, EnvelopeRead}
 use Rattle.record_write.specs.Clauses.{record_written}
 use Rattle.lent.specs.Clauses.{not_written}
-use Rattle.record_read.specs.declared.EnvelopeRead.{EnvelopeRead}
 use Rattle.record_read.specs.ReadLaws.{accepting}
 use Rattle.record_write.specs.WriteLaws.{within_printing, Writing}
 use Rattle.record_write.proofs.AnswerLaws.{written-writing}

@@ -24,8 +24,7 @@ use Rattle.integers.specs.Tests.{clash, unlike, test-same, range_in}
 use Rattle.lists.specs.Each.{Each}
 use Rattle.lists.specs.Padded.{padded, padded-take, padded_first, padded-length}
 use Rattle.refusal.specs.Number.{disagreement}
-use Rattle.refusal.specs.Outcome.{refused, number_of}
-use Rattle.refusal.specs.declared.Outcome.TheVariants.{Accepted}
+use Rattle.refusal.specs.Outcome.{refused, number_of, Accepted}
 use Rattle.geometry.specs.Table.{coordinate, rows_within}
 use Rattle.limits.specs.Limits.{total, channel_limit, centre_limit, distance_limit, text_limit}
 use Rattle.geometry.specs.Places.{centre_list, centre_of}
@@ -50,11 +49,10 @@ use Rattle.record_form.specs.Weights.{weights_of, listed}
 use Rattle.record_form.specs.WeightsLaws.{ShortWeight, placed_listed, listed_placed, listed-within, listed_some}
 use Rattle.record_print.specs.Printed.{record_of, record_text}
 use Rattle.ball.specs.Ball.{filled_ball}
-use Rattle.record_read.specs.Clauses.{stated_ball, ball_of_record, stated_envelope, record_read}
+use Rattle.record_read.specs.Clauses.{stated_ball, ball_of_record, stated_envelope, record_read, EnvelopeRead}
 use Rattle.typed_rows.specs.Given.{given_within}
 use Rattle.record_write.specs.Clauses.{record_written}
 use Rattle.lent.specs.Clauses.{not_written, written}
-use Rattle.record_read.specs.declared.EnvelopeRead.{EnvelopeRead}
 use Rattle.record_read.specs.ReadLaws.{Accepting, accepting, accepted-read, read-accepted}
 use Rattle.typed_rows.specs.GivenLaws.{given-within}
 use Rattle.record_write.specs.WriteLaws.{Writing, writing-written, refused-writing}

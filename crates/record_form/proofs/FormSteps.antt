@@ -3,7 +3,8 @@
 --     line-unended, line_read_lem                    a line without its end, and what the text is past one with it
 --     at-heading, heading_read_lem, past_heading_lem     the text from its heading on, and past it
 --     at_result                                  the text from its `R` line on
---     found, not-found, in_form                  what a line's reader found
+--     found, not_found                           whether a `C` line is there
+--     result_kept s, no_result, in_form          what a record keeps of an `R` line, and what the answer says of it
 --     weights_faulty, rest-stated                the answer by the `W` lines, where the lines before them are in form
 --     form-stated                                the answer by the lines after the `C` line, where the lines before them are in form
 use Prim.Native.Nat.{ℕ, ◌+◌, ◌-◌, ◌≤◌}
@@ -11,13 +12,14 @@ use mathlib.Core.Path.{◌≡◌, refl, sym, ap, ap₂, ◌∙◌}
 use mathlib.Core.Bool.{true, false}
 use mathlib.Core.List.{List, [], ◌∷◌, ◌++◌, map}
 use mathlib.Core.Option.{Option, none, some}
+use Rattle.std.specs.Prelude.{None, Some, Result as Answer, Ok, Err}
 use native.Mathlib.Omega.{arith}
 use lib.IntN.{ℤ, pos}
 use lib.ListN.{length, take, drop, replicate}
 use mir.Syntax.{w64}
 use mir.Facts.{to_z-of_z}
 use Rattle.integers.specs.Reading.{back}
-use Rattle.integers.specs.Tests.{clash}
+use Rattle.integers.specs.Tests.{clash, impossible}
 use Rattle.lists.specs.Padded.{padded}
 use Rattle.limits.specs.Limits.{row_limit, channel_limit}
 use Rattle.geometry.specs.Places.{centre_list, centre_of}
@@ -32,11 +34,10 @@ use Rattle.heading.specs.declared.Heading.{Heading}
 use Rattle.heading.proofs.Headed.{Headed, codes_in}
 use Rattle.record_lines.specs.Lines.{record_word, Result, centre_line, result_line, Weight}
 use Rattle.record_form.specs.Record.{Record, Form, faulty, sound, line_as, and_line, weights_from, with_weights, form_of, form}
-use Rattle.record_form.specs.RecordLaws.{weights_faults}
 use Rattle.record_form.specs.Weights.{weights_of}
 use Rattle.record_lines.specs.Clauses.{held, is_there, result_read}
 use Rattle.record_form.specs.Clauses.{weights_fault, WeightsRead, stated_form, form_after_centre, AfterCentreRead}
-use Rattle.record_lines.specs.declared.line.ResultRead.{ResultRead}
+use Rattle.record_lines.specs.declared.line.ResultLine.{ResultLine}
 use Rattle.record_form.specs.declared.form.Stated.{Stated}
 use Rattle.record_lines.specs.ContractLaws.{held_fits}
 
@@ -106,6 +107,10 @@ module _ (types : Types) (text : List ℕ) where
           inside = omega (arith, p.high);
         }
 
+-- what a record keeps of an `R` line
+abbrev pub result_kept : Result → ResultLine
+result_kept s = record { scaled_squared_radius = held s.scaled_squared_radius; scaled_lower_bound = held s.scaled_lower_bound; moves = s.moves; settled = s.settled }
+
 -- a line that is there
 pub found : {A : Type 0} (o : Option A) → is_there o ≡ true → (a : A) × (o ≡ some a)
 found none h = clash h refl
@@ -115,12 +120,20 @@ pub not_found : {A : Type 0} (o : Option A) → is_there o ≡ false → o ≡ n
 not_found none h = refl
 not_found (some a) h = clash refl h
 
-pub in_form : (line : List ℕ) (r : ResultRead) → r ≡ result_read (result_line line) → r.in_form ≡ is_there (result_line line)
-in_form line r e = go (result_line line) e
-  where
-    go : (o : Option Result) → r ≡ result_read o → r.in_form ≡ is_there o
-    go none e = ap (λ (r : ResultRead). r.in_form) e
-    go (some s) e = ap (λ (r : ResultRead). r.in_form) e
+module _ (line : List ℕ) where
+  pub no_result : None ≡ result_read (result_line line) → result_line line ≡ none
+  no_result r = go (result_line line) r
+    where
+      go : (o : Option Result) → None ≡ result_read o → o ≡ none
+      go none e = refl
+      go (some s) e = impossible (cc)
+
+  pub in_form : {r : ResultLine} → Some r ≡ result_read (result_line line) → (s : Result) × (result_line line ≡ some s) × (r ≡ result_kept s)
+  in_form {r} e = go (result_line line) e
+    where
+      go : (o : Option Result) → Some r ≡ result_read o → (s : Result) × (o ≡ some s) × (r ≡ result_kept s)
+      go none e = impossible (cc)
+      go (some s) e = (s, refl, cc)
 
 -- ---- the answer
 
@@ -139,10 +152,9 @@ module _ (codes : List ℕ) (X : List ℤ) (text : List ℕ) (at : ℕ) where
     pub is : rest ≡ from_weights codes X result (parts_from line_end text next)
 
 -- the answer from n, the codes and X in their places, and the answers to the lines after them
-abbrev stated_by : ℕ → List ℕ → List ℤ → ResultRead → List ℕ → Stated
+abbrev stated_by : ℕ → List ℕ → List ℤ → ResultLine → List ℕ → Stated
 stated_by n code-places centre-places r weights =
     record {
-      line = 0;
       n = n;
       codes = code-places;
       scaled_centre = centre-places;
@@ -153,39 +165,37 @@ stated_by n code-places centre-places r weights =
       weights = weights;
     }
 
-module _ {codes : List ℕ} {X : List ℤ} {text : List ℕ} {at next : ℕ} {result : Result} (here : AtWeights codes X text at result next)
-    {lent : List ℕ} {line : ℕ} (w : WeightsRead text next (replicate row_limit 0) lent line) where
+module _ {codes : List ℕ} {X : List ℤ} {text : List ℕ} {at next : ℕ} {result : Result} (here : AtWeights codes X text at result next) where
   abbrev weights : Form (List Weight)
   weights = weights_from row_limit 4 0 (parts_from line_end text next)
 
-  pub weights_faulty : (line ≡ 0 → ⊥) → rest codes X text at ≡ faulty line
-  weights_faulty z = go weights refl
+  pub weights_faulty : {lent : List ℕ} {line : ℕ} → WeightsRead text next (replicate row_limit 0) lent (Err line) → rest codes X text at ≡ faulty line
+  weights_faulty {line = line} w = go weights refl
     where
       go : (x : Form (List Weight)) → weights ≡ x → rest codes X text at ≡ faulty line
-      go (faulty l) f = here.is ∙ ap (with_weights codes X result) f ∙ ap faulty (sym (w.is ∙ ap weights_fault f))
-      go (sound ws) f = absurd (z (w.is ∙ ap weights_fault f))
+      go (faulty l) f = let same : l ≡ line = cc (w.is ∙ ap weights_fault f) in here.is ∙ ap (with_weights codes X result) f ∙ ap faulty same
+      go (sound ws) f = impossible (cc (w.is ∙ ap weights_fault f))
 
-  weights_sound : line ≡ 0 → (ws : List Weight) × (weights ≡ sound ws)
-  weights_sound z = go weights refl
-    where
-      go : (x : Form (List Weight)) → weights ≡ x → (ws : List Weight) × (weights ≡ sound ws)
-      go (faulty l) f =
-          let fault : line ≡ l = w.is ∙ ap weights_fault f in
-          absurd (omega (arith, weights_faults row_limit 4 0 (parts_from line_end text next) l f))
-      go (sound ws) f = (ws, f)
+  module _ {lent : List ℕ} (w : WeightsRead text next (replicate row_limit 0) lent (Ok tt)) where
+    weights_sound : (ws : List Weight) × (weights ≡ sound ws)
+    weights_sound = go weights refl
+      where
+        go : (x : Form (List Weight)) → weights ≡ x → (ws : List Weight) × (weights ≡ sound ws)
+        go (faulty l) f = impossible (cc (w.is ∙ ap weights_fault f))
+        go (sound ws) f = (ws, f)
 
-  pub rest-stated : {n : ℕ} {code-places : List ℕ} {centre-places : List ℤ} {r : ResultRead} → line ≡ 0 → r ≡ result_read (some result) → n ≡ length codes
-      → code-places ≡ padded channel_limit codes → centre-places ≡ centre_list (length codes) (centre_of (map held X))
-      → stated_by n code-places centre-places r lent ≡ stated_form (rest codes X text at)
-  unfolding weights_of
-  rest-stated {n} {code-places} {centre-places} {r} z read count tags point =
-      let found = weights_sound z in
-      let is = here.is ∙ ap (with_weights codes X result) found.1 in
-      ap₂ (λ j places. stated_by j places centre-places r lent) count tags
-      ∙ ap₂ (λ x s. stated_by (length codes) (padded channel_limit codes) x s lent) point read
-      ∙ rw (held_back result.scaled_squared_radius, held_back result.scaled_lower_bound, w.written found.0 found.1) (ap stated_form (sym is))
+    pub rest-stated : {n : ℕ} {code-places : List ℕ} {centre-places : List ℤ} {r : ResultLine} → r ≡ result_kept result → n ≡ length codes
+        → code-places ≡ padded channel_limit codes → centre-places ≡ centre_list (length codes) (centre_of (map held X))
+        → Ok (stated_by n code-places centre-places r lent) ≡ stated_form (rest codes X text at)
+    unfolding weights_of
+    rest-stated {n} {code-places} {centre-places} {r} read count tags point =
+        let is = here.is ∙ ap (with_weights codes X result) weights_sound.1 in
+        ap Ok
+        (ap₂ (λ j places. stated_by j places centre-places r lent) count tags
+        ∙ ap₂ (λ x s. stated_by (length codes) (padded channel_limit codes) x s lent) point read)
+        ∙ rw (held_back result.scaled_squared_radius, held_back result.scaled_lower_bound, w.written weights_sound.0 weights_sound.1) (ap stated_form (sym is))
 
-pub form-stated : {types : Types} {text first : List ℕ} {h : Heading} {centre : List ℤ} {at : ℕ} {r : Stated} (X : List ℤ)
+pub form-stated : {types : Types} {text first : List ℕ} {h : Heading} {centre : List ℤ} {at : ℕ} {r : Answer Stated ℕ} (X : List ℤ)
     → AfterCentreRead text at h.n h.codes centre r → Headed record_word types first h
     → centre ≡ map held X ++ drop h.n (replicate channel_limit (pos 0)) → length centre ≡ channel_limit
     → r ≡ stated_form (form_after_centre (codes_in h) X (parts_from line_end text at))

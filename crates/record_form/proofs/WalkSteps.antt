@@ -1,5 +1,6 @@
 -- The `W` lines of a record that are read one by one.
 --     WeightsSoFar, weights_none, weights_next           the weights as they are read
+--     weight_rises                                       a line's row
 --     weights-unended, weights_other, weights-missing    what stops their walk
 --     weights_done                                       what it ends with
 use Prim.Native.Nat.{ℕ, suc, ◌+◌, ◌-◌, ◌≤◌, ◌<◌}
@@ -7,6 +8,7 @@ use mathlib.Core.Path.{◌≡◌, refl, sym, ap, ap₂, ◌∙◌}
 use mathlib.Core.Bool.{cond}
 use mathlib.Core.List.{List, [], ◌∷◌}
 use mathlib.Core.Option.{Option, none, some}
+use Rattle.std.specs.Prelude.{None, Some, Ok, Err}
 use native.Mathlib.Numerals.{add-one}
 use native.Mathlib.Omega.{arith}
 use borrow.Author.Tests.{le-leb, lt-leb}
@@ -21,14 +23,18 @@ use Rattle.record_lines.specs.Lines.{Weight, weight_line}
 use Rattle.record_lines.specs.LinesLaws.{weight_within_lem, weight_printed}
 use Rattle.record_form.specs.Record.{Form, faulty, sound, and_line, with_weight, weights_from}
 use Rattle.record_form.specs.Weights.{placed_in}
-use Rattle.record_lines.specs.Clauses.{weight_read}
+use Rattle.record_lines.specs.Clauses.{held_weight, weight_read}
 use Rattle.record_form.specs.Clauses.{held_weights, weights_fault, WeightsRead}
-use Rattle.record_lines.specs.declared.line.WeightRead.{WeightRead}
+use Rattle.record_lines.specs.declared.line.WeightLine.{WeightLine}
 
 weight_past_lem : (last : ℕ) (line : List ℕ) (w : Weight) → weight_line row_limit last line ≡ some w → (last < w.row) × (w.row ≤ row_limit)
 weight_past_lem last line w e =
     let within = weight_within_lem row_limit last w (weight_printed row_limit last line w e).1 in
     (within.0, within.1)
+
+-- what a record keeps of a `W` line
+abbrev weight_kept : Weight → WeightLine
+weight_kept w = record { row = w.row; weight = held_weight w.weight }
 
 -- before a line: the whole is faulty where what is left is; where what is left is sound, so is the whole, and the places now with the
 -- weights left are the lent places with all weights. Rows rise, so that there are no more lines than the last row's number
@@ -58,7 +64,7 @@ module _ {text : List ℕ} {at : ℕ} {lent₀ lent : List ℕ} {from last line 
   abbrev left : Form (List Weight)
   left = weights_from row_limit line last (parts_from line_end text from)
 
-  fault : left ≡ faulty line → WeightsRead text at lent₀ lent line
+  fault : left ≡ faulty line → WeightsRead text at lent₀ lent (Err line)
   fault e =
       let whole = w.stops line e in
       record {
@@ -73,10 +79,10 @@ module _ {text : List ℕ} {at : ℕ} {lent₀ lent : List ℕ} {from last line 
   unfolding weights_from same
   no_line h = ap (weights_from row_limit line last) (last_empty line_end text from (omega (arith, w.inside)))
 
-  pub weights-missing : length text ≤ from → last ≡ 0 → WeightsRead text at lent₀ lent line
+  pub weights-missing : length text ≤ from → last ≡ 0 → WeightsRead text at lent₀ lent (Err line)
   weights-missing h z = fault (no_line h ∙ ap (λ t. cond t (sound []) (faulty line)) (lt-leb 1 last (omega arith)))
 
-  pub weights_done : length text ≤ from → (last ≡ 0 → ⊥) → WeightsRead text at lent₀ lent 0
+  pub weights_done : length text ≤ from → (last ≡ 0 → ⊥) → WeightsRead text at lent₀ lent (Ok tt)
   unfolding placed_in held_weights
   weights_done h z =
       let whole = w.ends [] (no_line h ∙ ap (λ t. cond t (sound []) (faulty line)) (le-leb 1 last (omega arith))) in
@@ -90,7 +96,7 @@ module _ {text : List ℕ} {at : ℕ} {lent₀ lent : List ℕ} {from last line 
 
   -- ---- a line
 
-  pub weights-unended : {e : ℕ} → from < length text → PartEnd line_end text from e → e ≡ length text → WeightsRead text at lent₀ lent line
+  pub weights-unended : {e : ℕ} → from < length text → PartEnd line_end text from e → e ≡ length text → WeightsRead text at lent₀ lent (Err line)
   unfolding weights_from same
   weights-unended {e} h p q = fault (ap (weights_from row_limit line last) (last_some line_end text from e h p q))
 
@@ -107,55 +113,52 @@ module _ {text : List ℕ} {at : ℕ} {lent₀ lent : List ℕ} {from last line 
         let f = followed line_end text from e w.inside p q in
         ap (weights_from row_limit line last) f.is ∙ ap₂ (λ o k. and_line line o (after k)) o (sym f.after)
 
-    module _ {read : WeightRead} (r : read ≡ weight_read stated) where
-      pub weights_other : read.row ≡ 0 → WeightsRead text at lent₀ lent line
-      weights_other z = go stated refl
-        where
-          go : (o : Option Weight) → stated ≡ o → WeightsRead text at lent₀ lent line
-          go none f = fault (this_line f)
-          go (some s) f =
-              let row : read.row ≡ s.row = ap (λ r. r.row) (r ∙ ap weight_read f) in
-              absurd (omega (arith, (weight_past_lem last (part_at text from e) s f).0))
+    pub weights_other : None ≡ weight_read stated → WeightsRead text at lent₀ lent (Err line)
+    weights_other r = go stated refl
+      where
+        go : (o : Option Weight) → stated ≡ o → WeightsRead text at lent₀ lent (Err line)
+        go none f = fault (this_line f)
+        go (some s) f = impossible (cc (r ∙ ap weight_read f))
 
+    module _ {read : WeightLine} (r : Some read ≡ weight_read stated) where
       -- what the line states
       record Found : Type 0 where
         weight : Weight
         is : stated ≡ some weight
-        answer : read ≡ weight_read (some weight)
+        kept : read ≡ weight_kept weight
 
-      found : (read.row ≡ 0 → ⊥) → Found
-      found z = go stated refl
+      found : Found
+      found = go stated refl
         where
           go : (o : Option Weight) → stated ≡ o → Found
-          go none f = absurd (z (ap (λ r. r.row) (r ∙ ap weight_read f)))
-          go (some s) f = record { weight = s; is = f; answer = r ∙ ap weight_read f }
+          go none f = impossible (cc (r ∙ ap weight_read f))
+          go (some s) f = record { weight = s; is = f; kept = cc (r ∙ ap weight_read f) }
 
-      weight_below : (read.row ≡ 0 → ⊥) → (last < read.row) × (read.row ≤ row_limit)
-      weight_below z =
-          let this = found z in
-          let row : read.row ≡ this.weight.row = ap (λ r. r.row) this.answer in
-          let within = weight_past_lem last (part_at text from e) this.weight this.is in
-          (omega (arith, within.0), omega (arith, within.1))
+      row_is : read.row ≡ found.weight.row
+      row_is = ap (λ (r : WeightLine). r.row) found.kept
 
-      pub weights_next : (read.row ≡ 0 → ⊥)
-          → WeightsSoFar text at lent₀ (set lent (read.row - 1) read.weight) (e + 1) read.row (line + 1)
+      -- rows rise within the limit
+      pub weight_rises : (last < read.row) × (read.row ≤ row_limit)
+      weight_rises =
+          let within = weight_past_lem last (part_at text from e) found.weight found.is in
+          (omega (arith, row_is, within.0), omega (arith, row_is, within.1))
+
+      pub weights_next : WeightsSoFar text at lent₀ (set lent (read.row - 1) read.weight) (e + 1) read.row (line + 1)
       unfolding placed_in held_weights
-      weights_next z =
-          let this = found z in
-          let s = this.weight in
-          let below = weight_below z in
+      weights_next =
+          let s = found.weight in
           let on : left ≡ with_weight s (weights_from row_limit (line + 1) read.row (parts_from line_end text (e + 1))) =
-          this_line this.is
-          ∙ ap₂ (λ l (r : WeightRead). with_weight s (weights_from row_limit l r.row (parts_from line_end text (e + 1)))) (sym (add-one line)) (sym this.answer) in
+          this_line found.is
+          ∙ ap₂ (λ l r. with_weight s (weights_from row_limit l r (parts_from line_end text (e + 1)))) (sym (add-one line)) (sym row_is) in
           record {
             inside = omega (arith, p.high);
-            most = below.1;
-            lines = omega (arith, w.lines, below.0);
+            most = weight_rises.1;
+            lines = omega (arith, w.lines, weight_rises.0);
             places = length-set lent (read.row - 1) read.weight ∙ w.places;
             stops = λ l f. w.stops l (on ∙ ap (with_weight s) f);
             ends = λ ws f.
                 let whole = w.ends (s ∷ ws) (on ∙ ap (with_weight s) f) in
                 let placed : placed_in lent₀ (held_weights whole.0) ≡ placed_in (set lent (read.row - 1) read.weight) (held_weights ws) =
-                whole.2 ∙ ap (λ (r : WeightRead). placed_in (set lent (r.row - 1) r.weight) (held_weights ws)) (sym this.answer) in
+                whole.2 ∙ ap (λ (r : WeightLine). placed_in (set lent (r.row - 1) r.weight) (held_weights ws)) (sym found.kept) in
                 (whole.0, whole.1, placed);
           }

@@ -3,7 +3,8 @@
 --     weights_fault, WeightsRead               the first faulty line of the `W` lines, the weights in the lent places besides
 --     stated_fault, stated_record, stated_form   a record as it is read
 --     form_after_centre, AfterCentreRead        the lines after the `C` line, and the record as it is read from them on
-use Rattle.std.specs.Prelude.{ℕ, ◌≡◌, false, List, [], ◌∷◌, map, ℤ, pos, length, drop, replicate}
+use Rattle.std.specs.Prelude.{ℕ, ◌≡◌, List, [], ◌∷◌, map, ℤ, length, drop}
+use Rattle.std.specs.Prelude.{Result as Answer, Ok, Err}
 use Rattle.lists.specs.Padded.{padded}
 use Rattle.limits.specs.Limits.{row_limit, channel_limit}
 use Rattle.geometry.specs.Places.{centre_list, centre_of}
@@ -38,35 +39,22 @@ held_record r =
 
 -- ---- the text
 
--- 0 where no line is at fault
-abbrev pub weights_fault : Form (List Weight) → ℕ
-weights_fault (faulty line) = line
-weights_fault (sound ws) = 0
+abbrev pub weights_fault : Form (List Weight) → Answer (Unit {0}) ℕ
+weights_fault (faulty line) = Err line
+weights_fault (sound ws) = Ok tt
 
 -- the `W` lines from index at of the text on, the first being line 4; the lent places are all 0 at first
-pub record WeightsRead (text : List ℕ) (at : ℕ) (lent₀ lent : List ℕ) (r : ℕ) : Type 0 where
+pub record WeightsRead (text : List ℕ) (at : ℕ) (lent₀ lent : List ℕ) (r : Answer (Unit {0}) ℕ) : Type 0 where
   pub is : r ≡ weights_fault (weights_from row_limit 4 0 (parts_from line_end text at))
   pub same_length : length lent ≡ length lent₀
   pub written : (ws : List Weight) → weights_from row_limit 4 0 (parts_from line_end text at) ≡ sound ws → lent ≡ placed_in lent₀ (held_weights ws)
 
-abbrev pub stated_fault : ℕ → Stated
-stated_fault line =
-    record {
-      line = line;
-      n = 0;
-      codes = padded channel_limit [];
-      scaled_centre = replicate channel_limit (pos 0);
-      scaled_squared_radius = pos 0;
-      scaled_lower_bound = pos 0;
-      moves = 0;
-      settled = false;
-      weights = replicate row_limit 0;
-    }
+abbrev pub stated_fault : ℕ → Answer Stated ℕ
+stated_fault line = Err line
 
 abbrev pub stated_record : Record → Stated
 stated_record r =
     record {
-      line = 0;
       n = length r.codes;
       codes = padded channel_limit r.codes;
       scaled_centre = centre_list (length r.codes) (centre_of r.scaled_centre);
@@ -77,9 +65,9 @@ stated_record r =
       weights = weights_of row_limit r.weights;
     }
 
-abbrev pub stated_form : Form Record → Stated
+abbrev pub stated_form : Form Record → Answer Stated ℕ
 stated_form (faulty line) = stated_fault line
-stated_form (sound r) = stated_record (held_record r)
+stated_form (sound r) = Ok (stated_record (held_record r))
 
 -- the lines after the `C` line of a record with these codes and this X
 abbrev pub form_after_centre : List ℕ → List ℤ → List (List ℕ) → Form Record
@@ -87,7 +75,7 @@ form_after_centre codes scaled_centre parts =
     and_line 3 (line_as result_line (ended_line parts)) (λ result. with_weights codes scaled_centre result (weights_from row_limit 4 0 (drop 1 parts)))
 
 -- the text from index at on, its first line being line 3; n and the places are those of the codes and of X as they are read
-pub record AfterCentreRead (text : List ℕ) (at n : ℕ) (code-places : List ℕ) (centre-places : List ℤ) (r : Stated) : Type 0 where
+pub record AfterCentreRead (text : List ℕ) (at n : ℕ) (code-places : List ℕ) (centre-places : List ℤ) (r : Answer Stated ℕ) : Type 0 where
   pub is : (codes : List ℕ) (X : List ℤ) → n ≡ length codes → code-places ≡ padded channel_limit codes
       → centre-places ≡ centre_list (length codes) (centre_of (map held X))
       → r ≡ stated_form (form_after_centre codes X (parts_from line_end text at))

@@ -5,9 +5,10 @@
 --     NumbersSoFar, numbers_none, numbers_next_lem    the numbers of a line as they are read
 --     numbers_other, numbers_few, numbers-stop    what stops their walk: another word, a missing field, one that is no number
 --     numbers_done                                what it ends with
---     numbers_no, numbers_some                    whether a line starts with a word and numbers
+--     numbers_no, numbers_no_line, numbers_some   whether a line starts with a word and numbers
 --     numbers-held                                what the machine reads of them in the lent places
 --     numbers-rest                                the fields after them
+--     ends_at next length                         whether the numbers end where a line of so many bytes does
 --     numbers-end, numbers_no_end                 a line that ends with them, and one that does not
 --     centre_read                                 a `C` line
 use Prim.Native.Nat.{ℕ, zero, suc, ◌+◌, ◌-◌, ◌≤◌, ◌<◌}
@@ -16,6 +17,8 @@ use mathlib.Core.Bool.{Bool, true, false, cond, ◌&&◌, and-false}
 use mathlib.Core.List.{List, [], ◌∷◌, ◌++◌, map, append-nil, append_assoc, map-append}
 use mathlib.Core.Option
 use mathlib.Core.Option.{Option, none, some}
+use Rattle.std.specs.Prelude.{Option as Answer, None, Some}
+use Rattle.std.specs.Option.{option_eq}
 use native.Mathlib.Numerals.{add-one}
 use native.Mathlib.Omega.{arith}
 use borrow.Author.Tests.{leb-true, leb-false, eqb-true, eqb-false, ltb-true, ltb-false, le-ltb, eq-eqb, ne_eqb}
@@ -32,14 +35,12 @@ use Rattle.text.specs.Parts.{comma, cut, same, part_end, parts_from, part_start}
 use Rattle.text.specs.Clauses.{PartEnd}
 use Rattle.text.specs.PartsLaws.{parts_none, parts_some, parts_from_lem, first_part_from, part-start, part_start_most}
 use Rattle.number.specs.Number.{plain, print}
-use Rattle.number.specs.Clauses.{magnitude_limit, saturated, plain_read}
+use Rattle.number.specs.Clauses.{magnitude_limit, saturated, number_of, plain_read}
 use Rattle.number.specs.ContractLaws.{saturated_small}
-use Rattle.number.specs.declared.Plain.TheVariants as written
 use Rattle.record_lines.specs.Lines.{short_number, record_number, and_number, numbers_of, numbers_line, centre_word, centre_line}
 use Rattle.record_lines.specs.LinesLaws.{fields_numbers}
 use Rattle.record_lines.specs.Clauses.{held_signed, held, kept_number, number_read, next_of, numbers_starting, numbers_next, NumbersRead, is_there, CentreRead}
 use Rattle.record_lines.specs.ContractLaws.{held_fits}
-use Rattle.record_lines.specs.declared.line.Number.TheVariants as number
 
 -- ---- one field
 
@@ -48,15 +49,15 @@ unfolding record_number
 number_read_lem field = go (plain field)
   where
     -- whatever its sign
-    kept : (z : ℤ) (negative : Bool) → plain_read (some z) ≡ written.Number negative (saturated (nat_abs z)) → held z ≡ held_signed negative (nat_abs z)
+    kept : (z : ℤ) (negative : Bool) → plain_read (some z) ≡ Some (number_of negative (saturated (nat_abs z))) → held z ≡ held_signed negative (nat_abs z)
         → (t : Bool) → ltb (nat_abs z) magnitude_limit ≡ t → kept_number (plain_read (some z)) ≡ number_read (short_number (some z))
     kept z negative p h true e =
-        ap kept_number (p ∙ ap (written.Number negative) (saturated_small (nat_abs z) (ltb-true (nat_abs z) magnitude_limit e))) ∙ ap₂ (λ t y. cond t (number.Held y) number.Malformed) e (sym h)
+        ap kept_number (p ∙ ap (λ k. Some (number_of negative k)) (saturated_small (nat_abs z) (ltb-true (nat_abs z) magnitude_limit e))) ∙ ap₂ (λ t y. cond t (Some y) None) e (sym h)
         ∙ sym (ap (λ t. number_read (cond t (some z) none)) e)
     kept z negative p h false e =
         let k : ltb (saturated (nat_abs z)) magnitude_limit ≡ false =
         le-ltb (saturated (nat_abs z)) magnitude_limit (omega (arith, ltb-false (nat_abs z) magnitude_limit e)) in
-        ap kept_number p ∙ ap (λ t. cond t (number.Held (held_signed negative (saturated (nat_abs z)))) number.Malformed) k
+        ap kept_number p ∙ ap (λ t. cond t (Some (held_signed negative (saturated (nat_abs z)))) None) k
         ∙ sym (ap (λ t. number_read (cond t (some z) none)) e)
 
     go : (o : Option ℤ) → kept_number (plain_read o) ≡ number_read (short_number o)
@@ -65,17 +66,17 @@ number_read_lem field = go (plain field)
     go (some (negsuc k)) = kept (negsuc k) true refl refl (ltb (suc k) magnitude_limit) refl
 
 module _ (field : List ℕ) where
-  pub number_none : number.Malformed ≡ number_read (record_number field) → record_number field ≡ none
+  pub number_none : None ≡ number_read (record_number field) → record_number field ≡ none
   number_none h = go (record_number field) h
     where
-      go : (o : Option ℤ) → number.Malformed ≡ number_read o → o ≡ none
+      go : (o : Option ℤ) → None ≡ number_read o → o ≡ none
       go none h = refl
       go (some z) h = impossible (cc)
 
-  pub number_some : (x : ℤ) → number.Held x ≡ number_read (record_number field) → (z : ℤ) × (record_number field ≡ some z) × (x ≡ held z)
+  pub number_some : (x : ℤ) → Some x ≡ number_read (record_number field) → (z : ℤ) × (record_number field ≡ some z) × (x ≡ held z)
   number_some x h = go (record_number field) refl h
     where
-      go : (o : Option ℤ) → record_number field ≡ o → number.Held x ≡ number_read o → (z : ℤ) × (record_number field ≡ some z) × (x ≡ held z)
+      go : (o : Option ℤ) → record_number field ≡ o → Some x ≡ number_read o → (z : ℤ) × (record_number field ≡ some z) × (x ≡ held z)
       go none e h = impossible (cc)
       go (some z) e h = (z, e, cc)
 
@@ -128,7 +129,7 @@ pub record NumbersSoFar (word : List ℕ) (count : ℕ) (line : List ℕ) (lent�
   pub placed : lent ≡ map held numbers ++ drop i lent₀
 
 not_numbers : {word : List ℕ} {count : ℕ} {line : List ℕ} {lent₀ lent : List ℤ} → numbers_starting word count line ≡ none → length lent ≡ length lent₀
-    → NumbersRead word count line lent₀ lent 0
+    → NumbersRead word count line lent₀ lent None
 unfolding numbers_next
 not_numbers {word} {count} {line} e l =
     record {
@@ -139,7 +140,7 @@ not_numbers {word} {count} {line} e l =
 
 -- the word is the first field
 module _ {word : List ℕ} {count : ℕ} {line : List ℕ} {lent₀ : List ℤ} {e : ℕ} (f : PartEnd comma line 0 e) where
-  pub numbers_other : same (take e line) word ≡ false → NumbersRead word count line lent₀ lent₀ 0
+  pub numbers_other : same (take e line) word ≡ false → NumbersRead word count line lent₀ lent₀ None
   numbers_other h =
       not_numbers
       (starting word count line (take e line) (parts_from comma line (e + 1)) (first_part_from comma line e f)
@@ -171,12 +172,12 @@ module _ {word : List ℕ} {count : ℕ} {line : List ℕ} {lent₀ lent : List 
       let k : count - i ≡ suc (count - (i + 1)) = omega arith in
       f.continues ∙ ap₂ (λ k l. Option.map (λ (l : List ℤ). f.numbers ++ l) (numbers_first k l)) k e
 
-  pub numbers_few : i < count → length line < from → NumbersRead word count line lent₀ lent 0
+  pub numbers_few : i < count → length line < from → NumbersRead word count line lent₀ lent None
   unfolding numbers_first
   numbers_few h k = not_numbers (turn [] (parts_none comma line from k) h) f.same_length
 
   module _ {e : ℕ} (h : i < count) (within : from ≤ length line) (end : PartEnd comma line from e) where
-    pub numbers-stop : record_number (take (e - from) (drop from line)) ≡ none → NumbersRead word count line lent₀ lent 0
+    pub numbers-stop : record_number (take (e - from) (drop from line)) ≡ none → NumbersRead word count line lent₀ lent None
     unfolding numbers_first
     numbers-stop k =
         not_numbers
@@ -207,7 +208,7 @@ module _ {word : List ℕ} {count : ℕ} {line : List ℕ} {lent₀ lent : List 
               ∙ ap (λ l. l ++ drop (i + 1) lent₀) (sym (map-append held f.numbers (z ∷ [])));
         }
 
-  pub numbers_done : count ≤ i → NumbersRead word count line lent₀ lent from
+  pub numbers_done : count ≤ i → NumbersRead word count line lent₀ lent (Some from)
   unfolding numbers_first numbers_next
   numbers_done h =
       let n : i ≡ count = omega (arith, f.within) in
@@ -217,7 +218,7 @@ module _ {word : List ℕ} {count : ℕ} {line : List ℕ} {lent₀ lent : List 
       ∙ ap some (append-nil f.numbers) in
       record {
         is =
-            f.here ∙ ap (part_start comma line 0) (add-one i ∙ ap suc n)
+            ap Some (f.here ∙ ap (part_start comma line 0) (add-one i ∙ ap suc n))
             ∙ sym (ap (λ o. next_of o (part_start comma line 0 (suc count))) all);
         same_length = f.same_length;
         written = λ zs u.
@@ -265,9 +266,13 @@ module _ (word : List ℕ) (count : ℕ) (line : List ℕ) (zs : List ℤ) (e : 
           eq-eqb at (length line + 1) (omega (arith, part_start_most comma line (suc count) enough))
           ∙ sym (eq-eqb (length fields) (suc count) (omega (arith, enough, length-drop (suc count) fields)))
 
+-- whether the numbers end where a line of so many bytes does
+abbrev pub ends_at : Answer ℕ → ℕ → Bool
+ends_at next length = option_eq eqb next (Some (length + 1))
+
 -- a line is a word and numbers where it starts with them and ends there
 numbers_whole : (word : List ℕ) (count : ℕ) (line : List ℕ)
-    → numbers_line word count (cut comma line) ≡ cond (eqb (numbers_next word count line) (length line + 1)) (numbers_starting word count line) none
+    → numbers_line word count (cut comma line) ≡ cond (ends_at (numbers_next word count line) (length line)) (numbers_starting word count line) none
 unfolding numbers_next numbers_line
 numbers_whole word count line = whole (eqb (length (cut comma line)) (suc count)) refl ∙ sym (ends (numbers_starting word count line) refl)
   where
@@ -284,74 +289,72 @@ numbers_whole word count line = whole (eqb (length (cut comma line)) (suc count)
         ∙ sym (ap (λ t. cond t (numbers_starting word count line) none) e)
 
     ends : (o : Option (List ℤ)) → numbers_starting word count line ≡ o
-        → cond (eqb (next_of o (part_start comma line 0 (suc count))) (length line + 1)) o none ≡ cond (eqb (length (cut comma line)) (suc count)) o none
-    ends none e = cond_same (eqb 0 (length line + 1)) none ∙ sym (cond_same (eqb (length (cut comma line)) (suc count)) none)
+        → cond (ends_at (next_of o (part_start comma line 0 (suc count))) (length line)) o none ≡ cond (eqb (length (cut comma line)) (suc count)) o none
+    ends none e = sym (cond_same (eqb (length (cut comma line)) (suc count)) none)
     ends (some zs) e = ap (λ t. cond t (some zs) none) (start-end word count line zs e)
 
-module _ {word : List ℕ} {count : ℕ} {line : List ℕ} {lent₀ lent : List ℤ} {next : ℕ} (f : NumbersRead word count line lent₀ lent next) where
-  pub numbers_no : next ≡ 0 → numbers_starting word count line ≡ none
-  unfolding numbers_next part_start
-  numbers_no h = go (numbers_starting word count line) refl
-    where
-      go : (o : Option (List ℤ)) → numbers_starting word count line ≡ o → numbers_starting word count line ≡ none
-      go none e = e
-      go (some zs) e =
-          let z = sym (f.is ∙ ap (λ o. next_of o (part_start comma line 0 (suc count))) e) ∙ h in
-          absurd (omega arith)
-
-  pub numbers_some : (next ≡ 0 → ⊥) → (zs : List ℤ) × (numbers_starting word count line ≡ some zs)
+module _ {word : List ℕ} {count : ℕ} {line : List ℕ} {lent₀ lent : List ℤ} where
+  pub numbers_no : NumbersRead word count line lent₀ lent None → numbers_starting word count line ≡ none
   unfolding numbers_next
-  numbers_some h = go (numbers_starting word count line) refl
+  numbers_no f = go (numbers_starting word count line) f.is
     where
-      go : (o : Option (List ℤ)) → numbers_starting word count line ≡ o → (zs : List ℤ) × (numbers_starting word count line ≡ some zs)
-      go none e = absurd (h (f.is ∙ ap (λ o. next_of o (part_start comma line 0 (suc count))) e))
-      go (some zs) e = (zs, e)
+      go : (o : Option (List ℤ)) → None ≡ next_of o (part_start comma line 0 (suc count)) → o ≡ none
+      go none e = refl
+      go (some zs) e = impossible (cc)
 
-  -- what the machine reads in the first places
-  pub numbers-held : (zs : List ℤ) → numbers_starting word count line ≡ some zs → (k : ℕ) → k < count
-      → back w64 (get_or lent k (pos 0)) ≡ held (get_or zs k (pos 0))
-  numbers-held zs e k h =
-      ap (λ l. back w64 (get_or l k (pos 0))) (f.written zs e)
-      ∙ ap (back w64)
-      (get_or-append (map held zs) (drop count lent₀) (pos 0) k (omega (arith, length-map zs held, start-count word count line zs e))
-      ∙ get_or-map held zs k (pos 0))
-      ∙ to_z-of_z (held_fits (get_or zs k (pos 0)))
+  pub numbers_no_line : NumbersRead word count line lent₀ lent None → numbers_line word count (cut comma line) ≡ none
+  numbers_no_line f =
+      numbers_whole word count line ∙ ap (λ a. cond (ends_at a (length line)) (numbers_starting word count line) none) (sym f.is)
 
-  pub numbers-rest : (next ≡ 0 → ⊥) → parts_from comma line next ≡ drop (suc count) (cut comma line)
-  unfolding numbers_next
-  numbers-rest h =
-      let there = numbers_some h in
-      ap (parts_from comma line) (f.is ∙ ap (λ o. next_of o (part_start comma line 0 (suc count))) there.1)
-      ∙ part-start comma line (suc count)
+  module _ {next : ℕ} (f : NumbersRead word count line lent₀ lent (Some next)) where
+    pub numbers_some : (zs : List ℤ) × (numbers_starting word count line ≡ some zs) × (next ≡ part_start comma line 0 (suc count))
+    unfolding numbers_next
+    numbers_some = go (numbers_starting word count line) f.is
+      where
+        go : (o : Option (List ℤ)) → Some next ≡ next_of o (part_start comma line 0 (suc count))
+            → (zs : List ℤ) × (o ≡ some zs) × (next ≡ part_start comma line 0 (suc count))
+        go none e = impossible (cc)
+        go (some zs) e = (zs, refl, cc)
 
-  pub numbers-end : next ≡ length line + 1
-      → (zs : List ℤ) × (numbers_starting word count line ≡ some zs) × (numbers_line word count (cut comma line) ≡ some zs)
-  numbers-end h =
-      let there = numbers_some (λ z. omega arith) in (
-        there.0,
-        there.1,
+    -- what the machine reads in the first places
+    pub numbers-held : (k : ℕ) → k < count → back w64 (get_or lent k (pos 0)) ≡ held (get_or numbers_some.0 k (pos 0))
+    numbers-held k h =
+        let zs = numbers_some.0 in
+        ap (λ l. back w64 (get_or l k (pos 0))) (f.written zs numbers_some.1)
+        ∙ ap (back w64)
+        (get_or-append (map held zs) (drop count lent₀) (pos 0) k (omega (arith, length-map zs held, start-count word count line zs numbers_some.1))
+        ∙ get_or-map held zs k (pos 0))
+        ∙ to_z-of_z (held_fits (get_or zs k (pos 0)))
+
+    pub numbers-rest : parts_from comma line next ≡ drop (suc count) (cut comma line)
+    numbers-rest = ap (parts_from comma line) numbers_some.2 ∙ part-start comma line (suc count)
+
+    pub numbers-end : next ≡ length line + 1 → numbers_line word count (cut comma line) ≡ some numbers_some.0
+    numbers-end h =
         numbers_whole word count line
-            ∙ ap₂ (λ t o. cond t o none) (eq-eqb (numbers_next word count line) (length line + 1) (sym f.is ∙ h)) there.1,
-      )
+        ∙ ap₂ (λ t o. cond t o none) (ap (λ a. ends_at a (length line)) (sym f.is) ∙ eq-eqb next (length line + 1) h) numbers_some.1
 
-  pub numbers_no_end : (next ≡ length line + 1 → ⊥) → numbers_line word count (cut comma line) ≡ none
-  numbers_no_end h =
-      numbers_whole word count line
-      ∙ ap (λ t. cond t (numbers_starting word count line) none) (ne_eqb (numbers_next word count line) (length line + 1) (λ z. h (f.is ∙ z)))
+    pub numbers_no_end : (next ≡ length line + 1 → ⊥) → numbers_line word count (cut comma line) ≡ none
+    numbers_no_end h =
+        numbers_whole word count line
+        ∙ ap (λ t. cond t (numbers_starting word count line) none)
+        (ap (λ a. ends_at a (length line)) (sym f.is) ∙ ne_eqb next (length line + 1) h)
 
 -- ---- a `C` line
 
-pub centre_read : {n : ℕ} {line : List ℕ} {lent₀ lent : List ℤ} {next : ℕ} → NumbersRead centre_word n line lent₀ lent next
-    → CentreRead n line lent₀ lent (eqb next (length line + 1))
+pub centre_read : {n : ℕ} {line : List ℕ} {lent₀ lent : List ℤ} {next : Answer ℕ} → NumbersRead centre_word n line lent₀ lent next
+    → CentreRead n line lent₀ lent (ends_at next (length line))
 unfolding centre_line
 centre_read {n} {line} {lent₀} {lent} {next} f =
     record {
-      is = go (eqb next (length line + 1)) refl;
+      is = go next f (ends_at next (length line)) refl;
       same_length = f.same_length;
       written = λ zs u.
-          f.written zs (cond_some (eqb (numbers_next centre_word n line) (length line + 1)) (sym (numbers_whole centre_word n line) ∙ u)).1;
+          f.written zs (cond_some (ends_at (numbers_next centre_word n line) (length line)) (sym (numbers_whole centre_word n line) ∙ u)).1;
     }
   where
-    go : (t : Bool) → eqb next (length line + 1) ≡ t → eqb next (length line + 1) ≡ is_there (numbers_line centre_word n (cut comma line))
-    go true e = e ∙ sym (ap is_there (numbers-end f (eqb-true next (length line + 1) e)).2)
-    go false e = e ∙ sym (ap is_there (numbers_no_end f (eqb-false next (length line + 1) e)))
+    go : (a : Answer ℕ) → NumbersRead centre_word n line lent₀ lent a → (t : Bool) → ends_at a (length line) ≡ t
+        → ends_at a (length line) ≡ is_there (numbers_line centre_word n (cut comma line))
+    go None g t e = sym (ap is_there (numbers_no_line g))
+    go (Some next) g true e = e ∙ sym (ap is_there (numbers-end g (eqb-true next (length line + 1) e)))
+    go (Some next) g false e = e ∙ sym (ap is_there (numbers_no_end g (eqb-false next (length line + 1) e)))

@@ -11,6 +11,7 @@ use mathlib.Core.Path.{◌≡◌, refl, sym, ap, ap₂, ◌∙◌}
 use mathlib.Core.Bool.{Bool, true, false, cond}
 use mathlib.Core.List.{List, [], ◌∷◌}
 use mathlib.Core.Option.{Option, none, some}
+use Rattle.std.specs.Prelude.{None, Some}
 use native.Mathlib.Omega.{arith}
 use borrow.Author.Tests.{ltb-true, ltb-false, le-leb, lt-leb}
 use lib.Dec.{lit<}
@@ -89,28 +90,28 @@ pub record ResultHeld (o : Option Result) (x y z : ℤ) (settled : Bool) : Type 
   pub settled_is : settled ≡ result.settled
 
 pub result_read_lem : {o : Option Result} {x y z : ℤ} {settled : Bool} → ResultHeld o x y z settled
-    → record { in_form = true; scaled_squared_radius = x; scaled_lower_bound = y; moves = nat_abs z; settled = settled } ≡ result_read o
+    → Some (record { scaled_squared_radius = x; scaled_lower_bound = y; moves = nat_abs z; settled = settled }) ≡ result_read o
 result_read_lem {o} {x} {y} {z} {settled} f =
     let moves : nat_abs z ≡ f.result.moves = ap nat_abs f.moves_is in
     let read = ap result_read f.is in
     cc (f.radius_is, f.floor_is, f.settled_is)
 
-module _ {line : List ℕ} {lent₀ lent : List ℤ} {next : ℕ} (f : NumbersRead result_word 3 line lent₀ lent next) where
-  pub result_no_numbers : next ≡ 0 → result_line line ≡ none
+module _ {line : List ℕ} {lent₀ lent : List ℤ} where
+  pub result_no_numbers : NumbersRead result_word 3 line lent₀ lent None → result_line line ≡ none
   unfolding result_line result_fields
-  result_no_numbers h = ap (λ o. result_of o (ending_of (drop 4 (cut comma line)))) (numbers_no f h)
+  result_no_numbers f = ap (λ o. result_of o (ending_of (drop 4 (cut comma line)))) (numbers_no f)
 
-  module _ (h : next ≡ 0 → ⊥) where
+  module _ {next : ℕ} (f : NumbersRead result_word 3 line lent₀ lent (Some next)) where
     figure : ℕ → ℤ
-    figure k = get_or (numbers_some f h).0 k (pos 0)
+    figure k = get_or (numbers_some f).0 k (pos 0)
 
     figure-reads : (k : ℕ) → k < 3 → back w64 (get_or lent k (pos 0)) ≡ held (figure k)
     unfolding figure
-    figure-reads k b = numbers-held f (numbers_some f h).0 (numbers_some f h).1 k b
+    figure-reads k b = numbers-held f k b
 
     result_is : result_line line ≡ result_with (figure 0) (figure 1) (moves_of (figure 2)) (ending_of (parts_from comma line next))
     unfolding result_line result_fields figure
-    result_is = ap₂ (λ o fields. result_of o (ending_of fields)) (numbers_some f h).1 (sym (numbers-rest f h))
+    result_is = ap₂ (λ o fields. result_of o (ending_of fields)) (numbers_some f).1 (sym (numbers-rest f))
 
     no_ending : ending_of (parts_from comma line next) ≡ none → result_line line ≡ none
     no_ending e = result_is ∙ ap (result_with (figure 0) (figure 1) (moves_of (figure 2))) e ∙ go (moves_of (figure 2))

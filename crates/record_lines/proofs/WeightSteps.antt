@@ -1,16 +1,19 @@
 -- A `W` line that is read field by field.
 --     WeightHeld                         what the machine reads of a `W` line in form
---     weight_no_end                      a line that is not the word and two numbers
+--     weight_no_numbers, weight_no_end   a line that is not the word and two numbers
 --     WeightNumbers, weight_numbers      a line that is
 --     weight_early, weight_late          such a line with a row that is not past the last one, or past the limit
 --     weight_empty                       one with no weight above 0
 --     weight_held                        one in form
---     weight_most_lem, weight_small          what a u32 keeps of its weight
+--     weight_kept                        what a u32 keeps of its weight
 use Prim.Native.Nat.{ℕ, ◌+◌, ◌≤◌, ◌<◌, min}
-use mathlib.Core.Path.{◌≡◌, refl, sym, ap, ap₂, ◌∙◌}
+use mathlib.Core.Path.{◌≡◌, refl, sym, ap, ap₂, ◌∙◌, subst}
 use mathlib.Core.Bool.{true, false, cond, ◌&&◌, and-false}
 use mathlib.Core.List.{List}
 use mathlib.Core.Option.{Option, none, some}
+use Rattle.std.specs.Prelude.{None, Some, Result, Ok, Err, OkIff, unsigned_abs}
+use Rattle.std.specs.Result.{result_unwrap_or}
+use Rattle.std.specs.Int.{FitsUnsignedBits}
 use native.Mathlib.Omega.{arith}
 use borrow.Author.Tests.{leb-true, leb-false, ltb-true, ltb-false, lt-ltb, le-ltb, le-leb, lt-leb}
 use lib.Dec.{leb, ltb, lit<}
@@ -23,7 +26,7 @@ use Rattle.integers.specs.Tests.{clash}
 use Rattle.record_lines.specs.Lines.{Weight, weight_word, weight_past, weight_stated, weight_line}
 use Rattle.record_lines.specs.Clauses.{held_limit, held, NumbersRead, held_weight}
 use Rattle.record_lines.specs.ContractLaws.{held-negative}
-use Rattle.record_lines.proofs.LineSteps.{numbers-held, numbers-end, numbers_no_end}
+use Rattle.record_lines.proofs.LineSteps.{numbers_some, numbers_no_line, numbers-held, numbers-end, numbers_no_end}
 
 -- what the machine reads of a `W` line in form: the row as it is, the weight as an i64 keeps it
 pub record WeightHeld (limit : ℕ) (o : Option Weight) (x y : ℤ) : Type 0 where
@@ -98,7 +101,12 @@ pub record WeightNumbers (limit last : ℕ) (line : List ℕ) (lent : List ℤ) 
   pub below : limit < held_limit
   pub past : last ≤ limit
 
-module _ (limit last : ℕ) {line : List ℕ} {lent₀ lent : List ℤ} {next : ℕ} (f : NumbersRead weight_word 2 line lent₀ lent next) where
+module _ (limit last : ℕ) {line : List ℕ} {lent₀ lent : List ℤ} where
+  pub weight_no_numbers : NumbersRead weight_word 2 line lent₀ lent None → weight_line limit last line ≡ none
+  unfolding weight_line
+  weight_no_numbers f = ap (weight_stated limit last) (numbers_no_line f)
+
+module _ (limit last : ℕ) {line : List ℕ} {lent₀ lent : List ℤ} {next : ℕ} (f : NumbersRead weight_word 2 line lent₀ lent (Some next)) where
   pub weight_no_end : (next ≡ length line + 1 → ⊥) → weight_line limit last line ≡ none
   unfolding weight_line
   weight_no_end h = ap (weight_stated limit last) (numbers_no_end f h)
@@ -106,13 +114,13 @@ module _ (limit last : ℕ) {line : List ℕ} {lent₀ lent : List ℤ} {next : 
   pub weight_numbers : next ≡ length line + 1 → limit < held_limit → last ≤ limit → WeightNumbers limit last line lent
   unfolding weight_line
   weight_numbers h below past =
-      let stated = numbers-end f h in
+      let stated = numbers_some f in
       record {
         row = get_or stated.0 0 (pos 0);
         weight = get_or stated.0 1 (pos 0);
-        is = ap (weight_stated limit last) stated.2;
-        row_reads = numbers-held f stated.0 stated.1 0 (lit< tt);
-        weight_reads = numbers-held f stated.0 stated.1 1 (lit< tt);
+        is = ap (weight_stated limit last) (numbers-end f h);
+        row_reads = numbers-held f 0 (lit< tt);
+        weight_reads = numbers-held f 1 (lit< tt);
         below = below;
         past = past;
       }
@@ -136,14 +144,11 @@ module _ {limit last : ℕ} {line : List ℕ} {lent : List ℤ} (s : WeightNumbe
       (ap (lt_z (pos limit)) (sym s.row_reads) ∙ u) (ap (λ z. lt_z z (pos 1)) (sym s.weight_reads) ∙ v))
 
 -- the weight as a u32 keeps it, after what an i64 keeps of it
-module _ (w : ℕ) {y : ℤ} (e : y ≡ pos (min w held_limit)) where
-  pub weight_most_lem : lt_z (pos 4294967295) y ≡ true → 4294967295 ≡ held_weight w
-  weight_most_lem t =
-      let h = ltb-true 4294967295 (min w held_limit) (ap (lt_z (pos 4294967295)) (sym e) ∙ t) in
-      omega arith
-
-  pub weight_small : lt_z (pos 4294967295) y ≡ false → y ≡ pos (held_weight w)
-  weight_small t =
-      let h = ltb-false 4294967295 (min w held_limit) (ap (lt_z (pos 4294967295)) (sym e) ∙ t) in
-      let k : min w held_limit ≡ held_weight w = omega arith in
-      e ∙ ap pos k
+pub weight_kept : (w : ℕ) {E : Type 0} (r : Result ℕ E) (y : ℤ) → y ≡ pos (min w held_limit) → OkIff r (FitsUnsignedBits 32 y) (unsigned_abs y)
+    → result_unwrap_or r 4294967295 ≡ held_weight w
+weight_kept w {E} r y e h = go r (subst (λ (z : ℤ). OkIff r (FitsUnsignedBits 32 z) (unsigned_abs z)) e h)
+  where
+    go : (r : Result ℕ E) → OkIff r (FitsUnsignedBits 32 (pos (min w held_limit))) (unsigned_abs (pos (min w held_limit)))
+        → result_unwrap_or r 4294967295 ≡ held_weight w
+    go (Ok x) h = omega (arith, h.0, h.1)
+    go (Err e) h = omega (arith, h)

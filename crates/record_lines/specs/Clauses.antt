@@ -5,24 +5,22 @@
 --     kept_number p                            what a record keeps of a number that is read, if it has at most 19 digits
 --     number_read o, number_field l             a number of a record, and a field of one, as they are read
 --     held_weight w                            what a u32 keeps of a weight
---     next_of numbers next                     this index, 0 where there are no numbers
+--     next_of numbers next                     this index, if there are numbers
 --     numbers_starting word count line         the numbers at the start of a line of a word and so many numbers, if it starts with them
---     numbers_next word count line             where the field after them starts, or would start; 0 where the line does not start with them
+--     numbers_next word count line             where the field after them starts, or would start, if the line starts with them
 --     NumbersRead                             the numbers in the lent places besides
 --     is_there o                               there is one
 --     CentreRead                              whether a line is a `C` line, X in the lent places besides
 --     result_read, weight_read                  an `R` and a `W` line as they are read
 use Rattle.std.specs.Prelude.{ℕ, suc, min, ◌≡◌, Bool, true, false, cond, List, ◌++◌, map, ltb, ℤ, pos, negsuc, neg_ℤ, length, take, drop}
+use Rattle.std.specs.Prelude.{Option as Answer, None, Some}
 use Rattle.std.proofs.Math.Option.{Option, none, some}
 use Rattle.text.specs.Parts.{comma, cut, part_start}
 use Rattle.number.specs.Clauses.{magnitude_limit}
-use Rattle.number.specs.declared.Plain.{Plain}
-use Rattle.number.specs.declared.Plain.TheVariants as written
+use Rattle.number.specs.declared.Number.{Number}
 use Rattle.record_lines.specs.Lines.{Result, Weight, record_number, numbers_line, centre_line}
-use Rattle.record_lines.specs.declared.line.Number.{Number}
-use Rattle.record_lines.specs.declared.line.Number.TheVariants as number
-use Rattle.record_lines.specs.declared.line.ResultRead.{ResultRead}
-use Rattle.record_lines.specs.declared.line.WeightRead.{WeightRead}
+use Rattle.record_lines.specs.declared.line.ResultLine.{ResultLine}
+use Rattle.record_lines.specs.declared.line.WeightLine.{WeightLine}
 
 -- ---- numbers as they are kept
 
@@ -43,31 +41,31 @@ held_weight_limit = 4294967295
 abbrev pub held_weight : ℕ → ℕ
 held_weight w = min w held_weight_limit
 
-abbrev pub kept_number : Plain → Number
-kept_number written.Malformed = number.Malformed
-kept_number (written.Number negative magnitude) = cond (ltb magnitude magnitude_limit) (number.Held (held_signed negative magnitude)) number.Malformed
+abbrev pub kept_number : Answer Number → Answer ℤ
+kept_number None = None
+kept_number (Some number) = cond (ltb number.magnitude magnitude_limit) (Some (held_signed number.negative number.magnitude)) None
 
 -- ---- lines
 
-abbrev pub number_read : Option ℤ → Number
-number_read none = number.Malformed
-number_read (some z) = number.Held (held z)
+abbrev pub number_read : Option ℤ → Answer ℤ
+number_read none = None
+number_read (some z) = Some (held z)
 
-abbrev pub number_field : List ℕ → Number
+abbrev pub number_field : List ℕ → Answer ℤ
 number_field l = number_read (record_number l)
 
-abbrev pub next_of : Option (List ℤ) → ℕ → ℕ
-next_of none next = 0
-next_of (some zs) next = next
+abbrev pub next_of : Option (List ℤ) → ℕ → Answer ℕ
+next_of none next = None
+next_of (some zs) next = Some next
 
 -- the line may go on
 abbrev pub numbers_starting : List ℕ → ℕ → List ℕ → Option (List ℤ)
 numbers_starting word count line = numbers_line word count (take (suc count) (cut comma line))
 
-unfoldable pub numbers_next : List ℕ → ℕ → List ℕ → ℕ
+unfoldable pub numbers_next : List ℕ → ℕ → List ℕ → Answer ℕ
 numbers_next word count line = next_of (numbers_starting word count line) (part_start comma line 0 (suc count))
 
-pub record NumbersRead (word : List ℕ) (count : ℕ) (line : List ℕ) (lent₀ lent : List ℤ) (r : ℕ) : Type 0 where
+pub record NumbersRead (word : List ℕ) (count : ℕ) (line : List ℕ) (lent₀ lent : List ℤ) (r : Answer ℕ) : Type 0 where
   pub is : r ≡ numbers_next word count line
   pub same_length : length lent ≡ length lent₀
   pub written : (zs : List ℤ) → numbers_starting word count line ≡ some zs → lent ≡ map held zs ++ drop count lent₀
@@ -81,12 +79,12 @@ pub record CentreRead (n : ℕ) (line : List ℕ) (lent₀ lent : List ℤ) (r :
   pub same_length : length lent ≡ length lent₀
   pub written : (zs : List ℤ) → centre_line n line ≡ some zs → lent ≡ map held zs ++ drop n lent₀
 
-abbrev pub result_read : Option Result → ResultRead
-result_read none = record { in_form = false; scaled_squared_radius = pos 0; scaled_lower_bound = pos 0; moves = 0; settled = false }
+abbrev pub result_read : Option Result → Answer ResultLine
+result_read none = None
 result_read (some r) =
-    record { in_form = true; scaled_squared_radius = held r.scaled_squared_radius; scaled_lower_bound = held r.scaled_lower_bound; moves = r.moves; settled = r.settled }
+    Some
+    (record { scaled_squared_radius = held r.scaled_squared_radius; scaled_lower_bound = held r.scaled_lower_bound; moves = r.moves; settled = r.settled })
 
--- row 0 stands for a line that is no `W` line
-abbrev pub weight_read : Option Weight → WeightRead
-weight_read none = record { row = 0; weight = 0 }
-weight_read (some w) = record { row = w.row; weight = held_weight w.weight }
+abbrev pub weight_read : Option Weight → Answer WeightLine
+weight_read none = None
+weight_read (some w) = Some (record { row = w.row; weight = held_weight w.weight })

@@ -73,12 +73,9 @@ fn put_weights(out: &mut [u8], at: usize, weights: &[u32]) -> usize
     ensures { Put (weight_lines weights.now) out.old at out.new result }
 {
     let mut from = at;
-    let mut i = 0;
-    while i < weights.len() {
-        let weight = weights[i];
-        i += 1;
-        if weight != 0 {
-            from = put_weight(out, from, i, weight);
+    for (i, weight) in weights.iter().enumerate() {
+        if *weight != 0 {
+            from = put_weight(out, from, i + 1, *weight);
         }
     }
     from

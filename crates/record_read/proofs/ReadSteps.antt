@@ -8,11 +8,13 @@
 --     ball_read s                      the ball of such a record
 --     envelope_with s ball             the answer where this ball agrees
 --     disagreeing, agreeing           its figures do not agree with the rows, or they do
-use Prim.Native.Nat.{ℕ, ◌≤◌, zero-le}
+use Prim.Native.Nat.{ℕ, ◌≤◌}
 use mathlib.Core.Path.{◌≡◌, refl, sym, ap, ap₂, subst, ◌∙◌}
 use mathlib.Core.Bool.{Bool, true, false, cond, ◌&&◌}
 use mathlib.Core.List.{List}
 use mathlib.Core.Option.{Option, none, some}
+use Rattle.std.specs.Prelude.{Ok, Err}
+use Rattle.integers.specs.Tests.{impossible}
 use native.Mathlib.Omega.{arith}
 use borrow.Author.Tests.{ltb-true}
 use lib.Dec.{T}
@@ -36,12 +38,11 @@ use Rattle.agreement.specs.Agreement.{agrees}
 use Rattle.envelope.specs.declared.Figures.{Figures}
 use Rattle.envelope.specs.declared.Envelope.{Envelope}
 use Rattle.record_form.specs.Record.{Record, Form, faulty, sound, form}
-use Rattle.record_form.specs.RecordLaws.{form_printed, form_faults}
-use Rattle.record_form.specs.Clauses.{stated_form}
+use Rattle.record_form.specs.RecordLaws.{form_printed}
+use Rattle.record_form.specs.Clauses.{held_record, stated_record, stated_form}
 use Rattle.record_form.specs.declared.form.Stated.{Stated}
-use Rattle.record_read.specs.declared.EnvelopeRead.{EnvelopeRead}
 use Rattle.ball.specs.Ball.{filled_ball}
-use Rattle.record_read.specs.Clauses.{not_read, stated_ball, ball_answer, stated_answer, record_read}
+use Rattle.record_read.specs.Clauses.{not_read, stated_ball, ball_answer, stated_answer, record_read, EnvelopeRead}
 use Rattle.typed_rows.specs.Given.{given_within}
 use Rattle.record_read.specs.ReadLaws.{accepting, read_faulty, read_sound}
 use Rattle.record_read.specs.HeldLaws.{Holding, held-answer}
@@ -137,36 +138,42 @@ form_channels : (types : Types) → SoundTypes types → (text : List ℕ) (r : 
     → length r.codes ≤ channel_limit
 form_channels types types_sound text r f = (form_printed row_limit types types_sound text r f).0.heading.channels
 
-module _ (types : Types) (text : List ℕ) (s : Stated) (e : s ≡ stated_form (form row_limit types text)) where
-  pub read_channels : SoundTypes types → s.n ≤ channel_limit
-  read_channels types_sound = subst (λ (x : Stated). x.n ≤ channel_limit) (sym e) (go (form row_limit types text) refl)
+module _ (types : Types) (text : List ℕ) where
+  abbrev read : Form Record
+  read = form row_limit types text
+
+  pub read_channels : {s : Stated} → Ok s ≡ stated_form read → SoundTypes types → s.n ≤ channel_limit
+  read_channels {s} e types_sound = go read refl e
     where
-      go : (f : Form Record) → form row_limit types text ≡ f → (stated_form f).n ≤ channel_limit
-      go (faulty line) is = zero-le
-      go (sound r) is = form_channels types types_sound text r is
+      go : (f : Form Record) → read ≡ f → Ok s ≡ stated_form f → s.n ≤ channel_limit
+      go (faulty line) is handed = impossible (cc)
+      go (sound r) is handed =
+          let same : s ≡ stated_record (held_record r) = cc in
+          subst (λ (x : Stated). x.n ≤ channel_limit) (sym same) (form_channels types types_sound text r is)
 
   module _ (D : ℕ) (rows : List ℤ) (m n : ℕ) (codes : List ℕ) (given : given_within row_limit types rows m n codes ≡ true)
       (within : text_within text ≡ true) where
-    pub stated_faulty : (s.line ≡ 0 → ⊥)
-        → not_read row_limit (refused_at record_form s.line) ≡ record_read D row_limit types rows m n codes text
-    stated_faulty h = go (form row_limit types text) refl e
+    pub stated_faulty : {line : ℕ} → Err line ≡ stated_form read
+        → not_read row_limit (refused_at record_form line) ≡ record_read D row_limit types rows m n codes text
+    stated_faulty {line} e = go read refl e
       where
-        go : (f : Form Record) → form row_limit types text ≡ f → s ≡ stated_form f
-            → not_read row_limit (refused_at record_form s.line) ≡ record_read D row_limit types rows m n codes text
-        go (faulty line) is handed =
-            ap (λ (x : Stated). not_read row_limit (refused_at record_form x.line)) handed
-            ∙ sym (read_faulty D row_limit types rows m n codes text given within line is)
-        go (sound r) is handed = absurd (h (ap (λ (x : Stated). x.line) handed))
+        go : (f : Form Record) → read ≡ f → Err line ≡ stated_form f
+            → not_read row_limit (refused_at record_form line) ≡ record_read D row_limit types rows m n codes text
+        go (faulty fault) is handed =
+            let same : line ≡ fault = cc in
+            ap (λ (l : ℕ). not_read row_limit (refused_at record_form l)) same
+            ∙ sym (read_faulty D row_limit types rows m n codes text given within fault is)
+        go (sound r) is handed = impossible (cc)
 
-    pub stated_sound : SoundTypes types → Holding D → s.line ≡ 0
+    pub stated_sound : {s : Stated} → Ok s ≡ stated_form read → SoundTypes types → Holding D
         → stated_answer D row_limit rows m (take n codes) s ≡ record_read D row_limit types rows m n codes text
-    stated_sound types_sound holding h = go (form row_limit types text) refl e
+    stated_sound {s} e types_sound holding = go read refl e
       where
-        go : (f : Form Record) → form row_limit types text ≡ f → s ≡ stated_form f
+        go : (f : Form Record) → read ≡ f → Ok s ≡ stated_form f
             → stated_answer D row_limit rows m (take n codes) s ≡ record_read D row_limit types rows m n codes text
-        go (faulty line) is handed =
-            absurd (omega (arith, h, form_faults row_limit types text line is, ap (λ (x : Stated). x.line) handed))
+        go (faulty line) is handed = impossible (cc)
         go (sound r) is handed =
-            ap (stated_answer D row_limit rows m (take n codes)) handed
+            let same : s ≡ stated_record (held_record r) = cc in
+            ap (stated_answer D row_limit rows m (take n codes)) same
             ∙ held-answer D holding rows m (take n codes) r (form_channels types types_sound text r is)
             ∙ sym (read_sound D row_limit types rows m n codes text given within r is)

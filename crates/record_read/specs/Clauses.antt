@@ -1,4 +1,5 @@
 -- What reading a record answers, for any total D, row limit and table of types.
+--     EnvelopeRead, envelope_outcome limit a            what reading a record answers, in numbers
 --     not_read limit outcome                            a refused record: every figure and weight 0
 --     stated_ball X M L settled                         the ball of these figures, if M and L are 0 or more
 --     ball_of_record r                                   the ball that a record states, X in its eight places
@@ -8,13 +9,11 @@
 --     ball_answer D limit rows m codes stated ball      the same for what the reader of the form hands over, if there is this ball
 --     stated_answer D limit rows m codes stated         the same for what it hands over
 --     Agreeing rows m n codes stated                   what is asked of that
-use Rattle.std.specs.Prelude.{ℕ, ◌≤◌, ◌≡◌, Bool, true, cond, ◌&&◌, List, ℤ, pos, negsuc, length, take}
+use Rattle.std.specs.Prelude.{ℕ, ◌≤◌, ◌≡◌, Bool, true, cond, ◌&&◌, List, ℤ, pos, negsuc, length, take, Result, Ok, Err}
 use Rattle.std.proofs.Math.Option.{Option, none, some}
 use Rattle.lists.specs.Padded.{padded}
 use Rattle.refusal.specs.Number.{text_length, outside_limits, record_form, disagreement}
-use Rattle.refusal.specs.Outcome.{refused, refused_at, require, require_some}
-use Rattle.refusal.specs.declared.Outcome.{Outcome}
-use Rattle.refusal.specs.declared.Outcome.TheVariants.{Accepted}
+use Rattle.refusal.specs.Outcome.{refused, refused_at, require, require_some, Outcome, Accepted, refusal_outcome}
 use Rattle.geometry.specs.Table.{rows_within}
 use Rattle.limits.specs.Limits.{channel_limit, row_limit}
 use Rattle.geometry.specs.Places.{centre_list, centre_of}
@@ -29,10 +28,19 @@ use Rattle.record_form.specs.Record.{Record, require_sound, form}
 use Rattle.record_form.specs.Weights.{weights_of}
 use Rattle.record_form.specs.declared.form.Stated.{Stated}
 use Rattle.ball.specs.Ball.{filled_ball}
-use Rattle.record_read.specs.declared.EnvelopeRead.{EnvelopeRead}
+use Rattle.refusal.specs.declared.Refusal.{Refusal}
+
+-- what reading a record answers, in numbers
+pub record EnvelopeRead : Type 0 where
+  pub outcome : Outcome
+  pub envelope : Envelope
 
 abbrev pub not_read : ℕ → Outcome → EnvelopeRead
 not_read limit o = record { outcome = o; envelope = empty_envelope limit }
+
+abbrev pub envelope_outcome : ℕ → Result Envelope Refusal → EnvelopeRead
+envelope_outcome limit (Ok e) = record { outcome = Accepted; envelope = e }
+envelope_outcome limit (Err r) = not_read limit (refusal_outcome r)
 
 abbrev pub stated_ball : List ℤ → ℤ → ℤ → Bool → Option Ball
 stated_ball X (pos M) (pos L) s = some (filled_ball X M L s)

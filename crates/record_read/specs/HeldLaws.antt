@@ -27,9 +27,8 @@ use Rattle.record_form.specs.Weights.{placed_in, weights_of}
 use Rattle.record_lines.specs.Clauses.{held_limit, held_weight_limit, held, held_weight}
 use Rattle.record_lines.specs.ContractLaws.{held_size, held_same, held-negative}
 use Rattle.record_form.specs.Clauses.{held_weights, held_record, stated_record}
-use Rattle.record_read.specs.declared.EnvelopeRead.{EnvelopeRead}
 use Rattle.ball.specs.Ball.{filled_ball}
-use Rattle.record_read.specs.Clauses.{not_read, stated_ball, stated_envelope, agreed_ball, ball_answer, stated_answer}
+use Rattle.record_read.specs.Clauses.{not_read, stated_ball, stated_envelope, agreed_ball, ball_answer, stated_answer, EnvelopeRead}
 use Rattle.record_read.specs.ReadLaws.{accepting, sound_answer}
 
 -- ---- numbers

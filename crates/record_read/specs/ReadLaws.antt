@@ -16,9 +16,8 @@ use Rattle.std.proofs.Common.{sym, ◌∙◌, ap, ap₂, arith, length-take-le}
 use Rattle.std.proofs.Math.Option.{Option, none, some}
 use Rattle.integers.specs.Tests.{both, cond_some, impossible, nonzero, unlike}
 use Rattle.refusal.specs.Number.{text_length, outside_limits, record_form, disagreement}
-use Rattle.refusal.specs.Outcome.{refused, refused_at, number_of, require_some}
+use Rattle.refusal.specs.Outcome.{refused, refused_at, number_of, require_some, Accepted}
 use Rattle.refusal.specs.OutcomeLaws.{each_answer, each_found}
-use Rattle.refusal.specs.declared.Outcome.TheVariants.{Accepted}
 use Rattle.geometry.specs.Table.{rows_within}
 use Rattle.ball.specs.declared.Ball.{Ball}
 use Rattle.text.specs.Parts.{text_within, same}
@@ -31,10 +30,9 @@ use Rattle.envelope.specs.declared.Envelope.{Envelope}
 use Rattle.record_form.specs.Record.{Record, Form, faulty, sound, form, print_record, Within}
 use Rattle.record_form.specs.RecordLaws.{each_sound, form_printed, printed_form}
 use Rattle.record_form.specs.Weights.{weights_of}
-use Rattle.record_read.specs.Clauses.{not_read, ball_of_record, stated_envelope, agreed_ball, record_read}
+use Rattle.record_read.specs.Clauses.{not_read, ball_of_record, stated_envelope, agreed_ball, record_read, EnvelopeRead}
 use Rattle.typed_rows.specs.Given.{given_within}
 use Rattle.typed_rows.specs.GivenLaws.{given-within, within-given}
-use Rattle.record_read.specs.declared.EnvelopeRead.{EnvelopeRead}
 
 abbrev pub accepting : Envelope → EnvelopeRead
 accepting e = record { outcome = Accepted; envelope = e }

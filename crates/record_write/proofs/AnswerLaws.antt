@@ -5,16 +5,15 @@ use Rattle.std.specs.Prelude.{ℕ, ◌≡◌, true, false, List, ℤ}
 use Rattle.std.proofs.Common.{ap, arith}
 use Rattle.integers.specs.Tests.{nonzero}
 use Rattle.refusal.specs.Number.{disagreement}
-use Rattle.refusal.specs.Outcome.{number_of}
-use Rattle.refusal.specs.declared.Outcome.TheVariants.{Accepted}
+use Rattle.refusal.specs.Outcome.{number_of, Accepted}
 use Rattle.geometry.specs.Table.{rows_within}
 use Rattle.channel.specs.Channel.{Types}
 use Rattle.envelope.specs.Figures.{figures_known}
 use Rattle.agreement.specs.Agreement.{agrees}
 use Rattle.envelope.specs.declared.Envelope.{Envelope}
 use Rattle.record_write.specs.Clauses.{record_written}
-use Rattle.lent.specs.declared.TextWritten.{TextWritten}
 use Rattle.record_write.specs.WriteLaws.{Writing, each_written}
+use Rattle.lent.specs.Clauses.{TextWritten}
 
 module _ (D limit : ℕ) (types : Types) (rows : List ℤ) (m : ℕ) (e : Envelope) (places : ℕ) where
   pub written-writing : (record_written D limit types rows m e places).outcome ≡ Accepted → Writing D limit types rows m e

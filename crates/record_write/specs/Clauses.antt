@@ -9,8 +9,7 @@ use Rattle.envelope.specs.Figures.{figures_known}
 use Rattle.agreement.specs.Agreement.{agrees}
 use Rattle.envelope.specs.declared.Envelope.{Envelope}
 use Rattle.record_print.specs.Printed.{record_text}
-use Rattle.lent.specs.Clauses.{not_written, text_written}
-use Rattle.lent.specs.declared.TextWritten.{TextWritten}
+use Rattle.lent.specs.Clauses.{not_written, text_written, TextWritten}
 
 -- 8, 12, 13
 unfoldable pub record_written : ℕ → ℕ → Types → List ℤ → ℕ → Envelope → ℕ → TextWritten

@@ -26,8 +26,7 @@ use Rattle.record_print.specs.Printed.{record_text}
 use Rattle.record_print.specs.Clauses.{Printing}
 use Rattle.lent.specs.ContractLaws.{text_short, text_fits}
 use Rattle.record_write.specs.Clauses.{record_written}
-use Rattle.lent.specs.Clauses.{not_written, written, text_written}
-use Rattle.lent.specs.declared.TextWritten.{TextWritten}
+use Rattle.lent.specs.Clauses.{not_written, written, text_written, TextWritten}
 
 pub within_printing : (types : Types) (f : Figures) (weights : List ℕ) → figures_known total types f ≡ true → length weights ≡ row_limit
     → Printing f weights

@@ -2,9 +2,10 @@
 #![tactic(auto)]
 
 ghost use Rattle.std.specs.Prelude.{◌≡◌, length};
-ghost use Rattle.refusal.specs.Outcome.{number_of};
+ghost use Rattle.refusal.specs.Outcome.{number_of, outcome_of};
 ghost use Rattle.limits.specs.Limits.{total, row_limit};
 ghost use Rattle.lent.specs.Filled.{filled};
+ghost use Rattle.lent.specs.Clauses.{text_outcome};
 ghost use Rattle.channel.specs.Channel.{channel_types};
 ghost use Rattle.record_print.specs.Printed.{record_text};
 ghost use Rattle.record_write.specs.Clauses.{record_written};
@@ -12,7 +13,7 @@ ghost use Rattle.record_write.specs.Clauses.{record_written};
 use agreement::agrees;
 use envelope::{Envelope, figures_known};
 use figures::table::rows_within;
-use lent::{TextWritten, hand_out, not_written};
+use lent::hand_out;
 use limits::{
     CENTRE_DIGITS, CHANNEL_DIGITS, CHANNELS, DISTANCE_DIGITS, MOVES_DIGITS, ROW_DIGITS, ROWS,
     TAG_MOST, WEIGHT_DIGITS,
@@ -20,6 +21,7 @@ use limits::{
 use printing::FIELD_ROOM;
 use record_lines::words::{LETTER_BYTES, LINE_WORD_BYTES, RECORD_WORD_BYTES};
 use record_print::print_record;
+use refusal::{Kind, Refusal};
 
 // The most bytes of a heading, of a `C`, an `R` and a `W` line, each with its byte 10, and of a record that is written. Each field is a
 // comma and a tag, a number of so many digits (those of X after a hyphen), or a letter.
@@ -51,22 +53,24 @@ const RECORD_ROOM: usize = HEADING_LINE_MOST
 
 // Writes the record of an envelope, drawn from the first m rows, to the first places of the buffer, and to no other. Refused, with
 // the buffer as it was: 8, 12, 13.
-pub fn write(envelope: Envelope, rows: &[i32], m: usize, buffer: &mut [u8]) -> TextWritten
-    ensures answer { result ≡ record_written total row_limit channel_types rows.now m envelope (length buffer.old) }
-    ensures buffer_filled { buffer.new ≡ filled (number_of result.outcome) result.length (record_text channel_types envelope) buffer.old }
+pub fn write(
+    envelope: Envelope,
+    rows: &[i32],
+    m: usize,
+    buffer: &mut [u8],
+) -> Result<usize, Refusal>
+    ensures answer { text_outcome result ≡ record_written total row_limit channel_types rows.now m envelope (length buffer.old) }
+    ensures buffer_filled { buffer.new ≡ filled (number_of (outcome_of result)) (text_outcome result).length (record_text channel_types envelope)
+        buffer.old }
 {
     let figures = envelope.figures;
     let weights = envelope.weights;
-    let ball = figures.ball;
     let n = figures.n;
-    if !figures_known(figures) {
-        return not_written(refusal::OUTSIDE_LIMITS);
+    if !figures_known(figures) || !rows_within(rows, m, n) {
+        return Err(Kind::OutsideLimits.into());
     }
-    if !rows_within(rows, m, n) {
-        return not_written(refusal::OUTSIDE_LIMITS);
-    }
-    if !agrees(rows, m, n, ball, &weights) {
-        return not_written(refusal::DISAGREEMENT);
+    if !agrees(rows, m, n, figures.ball, &weights) {
+        return Err(Kind::Disagreement.into());
     }
     let mut text = [0u8; RECORD_ROOM];
     let length = print_record(figures, &weights, &mut text);

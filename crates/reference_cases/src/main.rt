@@ -5,11 +5,12 @@
 
 ghost use Rattle.std.specs.Prelude.{◌+◌, ◌≤◌, ◌<◌, length};
 
-use case_io::{byte_at, least, print_number, raised, read_full, two_bytes};
+use case_io::{byte_at, digest, least, print_number, raised, read_full, two_bytes};
 use channel::Code;
 use limits::{CHANNELS, COORDINATE_MOST, PLACES};
 use reference::read::{Reference, read};
 use reference_label::{Part, label_part};
+use refusal::Refusal;
 use std::io::Stdout;
 
 // The most bytes of the input.
@@ -21,57 +22,39 @@ const UNTOUCHED: i32 = -COORDINATE_MOST;
 // What is added to a number of the table.
 const RAISED_BY: i64 = COORDINATE_MOST as i64;
 
-// A number of the table with this added.
-fn raised_number(number: i32) -> u64
-    ensures { result < 4294967296 }
-{
-    raised(number as i64, RAISED_BY)
-}
-
-fn widened(code: Code) -> u64
-    ensures { result < 256 }
-{
-    code as u64
-}
-
-// The sum of place times (number there + RAISED_BY), as the sum of the sums from each place on.
+// The sum of place times (number there + RAISED_BY).
 fn table_digest(table: &[i32; PLACES]) -> u64 {
-    let mut sum: u64 = 0;
-    let mut tail: u64 = 0;
-    let mut k = PLACES;
-    while 0 < k {
-        k -= 1;
-        tail += raised_number(table[k]);
-        sum += tail;
-    }
-    sum
+    digest(table, |number| raised(number as i64, RAISED_BY))
 }
 
-// The sum of place times code, in the same way.
-fn codes_digest(codes: [Code; CHANNELS]) -> u64 {
-    let mut sum: u64 = 0;
-    let mut tail: u64 = 0;
-    let mut k = CHANNELS;
-    while 0 < k {
-        k -= 1;
-        tail += widened(codes[k]);
-        sum += tail;
-    }
-    sum
+// The sum of place times code.
+fn codes_digest(codes: &[Code; CHANNELS]) -> u64 {
+    digest(codes, |code| code as u64)
 }
 
-// The line of a case.
-fn print_line(stdout: &Stdout, reference: Reference, table: u64, label: Part) {
-    let outcome = reference.outcome;
-    let codes = reference.codes;
-    print_number(stdout, refusal::number_of(outcome) as u64, b',');
-    print_number(stdout, refusal::line_of(outcome) as u64, b',');
-    print_number(stdout, reference.m as u64, b',');
-    print_number(stdout, reference.n as u64, b',');
+// The line of a case: what the text holds is 0 where it is refused, and so is where a label stands where there is none.
+fn print_line(
+    stdout: &Stdout,
+    answer: &Result<Reference, Refusal>,
+    table: u64,
+    label: Option<Part>,
+) {
+    let (m, n, codes) = match answer {
+        Ok(reference) => (reference.m, reference.n, codes_digest(&reference.codes)),
+        Err(_) => (0, 0, 0),
+    };
+    let (start, length) = match label {
+        Some(part) => (part.start, part.length),
+        None => (0, 0),
+    };
+    print_number(stdout, refusal::number_of(answer) as u64, b',');
+    print_number(stdout, refusal::line_of(answer) as u64, b',');
+    print_number(stdout, m as u64, b',');
+    print_number(stdout, n as u64, b',');
     print_number(stdout, table, b',');
-    print_number(stdout, codes_digest(codes), b',');
-    print_number(stdout, label.start as u64, b',');
-    print_number(stdout, label.length as u64, b'\n');
+    print_number(stdout, codes, b',');
+    print_number(stdout, start as u64, b',');
+    print_number(stdout, length as u64, b'\n');
 }
 
 // Reads a text into so many places of a table, writes the line of the case, and looks up the label of the last row, or of the
@@ -79,12 +62,12 @@ fn print_line(stdout: &Stdout, reference: Reference, table: u64, label: Part) {
 fn run_text(stdout: &Stdout, text: &[u8], places: usize) {
     let mut table = [UNTOUCHED; PLACES];
     let lent = least(places, PLACES);
-    let reference = read(text, &mut table[..lent]);
-    let digest = table_digest(&table);
-    let m = reference.m;
-    let row = if m == 0 { 1 } else { m };
-    let label = label_part(text, row);
-    print_line(stdout, reference, digest, label);
+    let answer = read(text, &mut table[..lent]);
+    let row = match &answer {
+        Ok(reference) => reference.m,
+        Err(_) => 1,
+    };
+    print_line(stdout, &answer, table_digest(&table), label_part(text, row));
 }
 
 // Runs the case at this byte and answers where the next one starts.
@@ -108,6 +91,7 @@ fn run_all(stdout: &Stdout, input: &[u8])
     requires { length input.now ≤ 200000 }
 {
     let mut at = 0;
+    // The step is a case, as long as it says.
     while at < input.len() {
         at = run_case(stdout, input, at);
     }

@@ -1,29 +1,38 @@
 -- The walk over the rows that are lent, row by row.
+--     told                            a refusal of the code, in numbers
+--     found_key, no_key               the number of a label that is found, and where none is
 --     Taken                           what is lent is within its limits, as facts
 --     Walk                            what holds before a row: no row passed has a fault, and the text has them
 --     heading-within, walk_start      the heading has room for its byte 10; before the first row
 --     walk_label, walk_places         the label and the places of a row are within what is lent
 --     Turn                            what a turn learns of a row
+--     fault_form, -range, -repeated, -none     the refusal that it meets
 --     turn_room                       a row without a fault has room
 --     walk_stops, walk_next           the refusal of a row with a fault, and what holds after one without
 --     walk_done                       after the last row
-use Prim.Native.Nat.{ℕ, ◌+◌, ◌-◌, ◌*◌, ◌≤◌, ◌<◌}
+use Prim.Native.Nat.{ℕ, zero, suc, ◌+◌, ◌-◌, ◌*◌, ◌≤◌, ◌<◌}
 use mathlib.Core.Path.{◌≡◌, refl, sym, ap, ap₂, subst, ◌∙◌}
 use mathlib.Core.Bool.{Bool, true, false}
 use mathlib.Core.List.{List, [], ◌∷◌, ◌++◌, map, map-append}
 use mathlib.Core.Logic.{◌⊎◌, inl, inr}
 use native.Mathlib.Numerals.{add-one}
 use native.Mathlib.Omega.{arith}
+use borrow.Author.Tests.{le-leb}
 use lib.Dec.{leb}
 use lib.IntN.{ℤ, pos, nat_abs}
 use lib.ListN.{length, get_or, set, take, drop, length-append, length-drop, length-set}
 use lib.Seq.{drop-cons, get_or-drop, get_or-take, length-take-le, take-length, take-suc, take-suc-set, take-take}
 use Rattle.integers.specs.SumLaws.{last_or_below}
-use Rattle.refusal.specs.Outcome.{refused_at}
+use Rattle.refusal.specs.Number.{line_form, value_range, label_repeated}
+use Rattle.refusal.specs.Outcome.{refused_at, kind_number}
+use Rattle.refusal.specs.declared.Kind.{Kind}
+use Rattle.refusal.specs.declared.Refusal.{Refusal}
+use Rattle.std.specs.Prelude.{None, Some, Err}
+use Rattle.integers.specs.Tests.{impossible}
+use Rattle.number.specs.Clauses.{above_zero}
 use Rattle.limits.specs.Limits.{row_limit}
 use Rattle.geometry.specs.Table.{coordinate}
-use Rattle.lent.specs.Clauses.{not_written, written}
-use Rattle.lent.specs.declared.TextWritten.{TextWritten}
+use Rattle.lent.specs.Clauses.{not_written, written, text_outcome, TextWritten}
 use Rattle.text.specs.Parts.{line_end}
 use Rattle.text.specs.Lines.{print_lines}
 use Rattle.text.specs.LinesLaws.{printed-more}
@@ -51,8 +60,22 @@ use Rattle.reference_write.specs.LabelsLaws.{labels_next, reach_most, reach_next
 use Rattle.reference_write.specs.Writing.{Lent, labels_lent, plain_row, plain_rows, lent_text}
 use Rattle.reference_write.specs.Clauses.{fault_by, RowRoom, text_room, TextPut}
 use Rattle.reference_write.specs.PlainRowsLaws.{rows-count, rows_at}
-use Rattle.reference_write.specs.FaultLaws.{row_fault, fault_none, lent_row, lent_fault, NoFault, first_fault, no_fault}
+use Rattle.reference_write.specs.FaultLaws.{row_fault, fault_none as unfaulted, lent_row, lent_fault, NoFault, first_fault, no_fault}
 use Rattle.reference_write.specs.LendingLaws.{Lending, row_places, row_within}
+
+-- a refusal of the code, in numbers
+pub told : {r : Refusal} (kind : Kind) {line : ℕ} → r ≡ record { kind = kind; line = line }
+    → text_outcome (Err r) ≡ not_written (refused_at (kind_number kind) line)
+told kind e = ap (λ (r : Refusal). text_outcome (Err r)) e
+
+-- the number of a label that is found, and where none is
+pub found_key : (n : ℕ) {key : ℕ} → Some key ≡ above_zero n → (key ≡ n) × (key ≡ 0 → ⊥)
+found_key zero e = impossible cc
+found_key (suc k) {key} e = let is : key ≡ suc k = cc in (is, λ z. omega arith)
+
+pub no_key : (n : ℕ) → None ≡ above_zero n → n ≡ 0
+no_key zero e = refl
+no_key (suc k) e = impossible cc
 
 -- ---- what is lent
 
@@ -153,16 +176,10 @@ module _ {lent : Lent} (l : Taken lent) where
 
 -- ---- a row
 
--- what a turn learns of a row: the number of its label and its fault
-pub record Turn (lent : Lent) (keys : List ℕ) (from place i key fault : ℕ) : Type 0 where
+-- what a turn learns of a row: the number of its label
+pub record Turn (lent : Lent) (from i key : ℕ) : Type 0 where
   pub below : i < lent.m
-  pub within : Bool
-  pub repeated : Bool
   pub is_key : key ≡ row_label_key (take (get_or lent.ends i 0 - from) (drop from lent.labels))
-  pub is_within : within
-      ≡ values_in_range channel_types (codes_in lent) (map number (take lent.n (take (place + lent.n - place) (drop place lent.rows))))
-  pub is_repeated : repeated ≡ key_used key (take i keys)
-  pub is_fault : fault ≡ fault_by (leb 1 key) within repeated
 
 module _ {lent : Lent} (l : Taken lent) {out keys : List ℕ} {marks : List Bool} {at from place i : ℕ}
     (w : Walk lent out keys marks at from place i) where
@@ -200,7 +217,34 @@ module _ {lent : Lent} (l : Taken lent) {out keys : List ℕ} {marks : List Bool
         take-take lent.n (place + lent.n - place) (drop place lent.rows) (omega arith)
         ∙ ap (λ (k : ℕ). take lent.n (drop k lent.rows)) w.placed
 
-  module _ {key fault : ℕ} (t : Turn lent keys from place i key fault) where
+  module _ {key : ℕ} (t : Turn lent from i key) where
+    -- whether its values are within their ranges, whether an earlier row has its label, and the refusal that it meets
+    abbrev within : Bool
+    within = values_in_range channel_types (codes_in lent) (map number (take lent.n numbers))
+
+    abbrev repeated : Bool
+    repeated = key_used key (take i keys)
+
+    abbrev fault : ℕ
+    fault = fault_by (leb 1 key) within repeated
+
+    pub fault_form : key ≡ 0 → fault ≡ line_form
+    fault_form e = ap (λ (k : ℕ). fault_by (leb 1 k) within repeated) e
+
+    module _ (labelled : key ≡ 0 → ⊥) where
+      has_label : leb 1 key ≡ true
+      has_label = le-leb 1 key (omega arith)
+
+      pub fault_range : false ≡ within → fault ≡ value_range
+      fault_range e = ap₂ (λ (x y : Bool). fault_by x y repeated) has_label (sym e)
+
+      module _ (in_ranges : true ≡ within) where
+        pub fault_repeated : true ≡ repeated → fault ≡ label_repeated
+        fault_repeated e = ap₂ (λ (x y : Bool). fault_by x y repeated) has_label (sym in_ranges) ∙ ap (fault_by true true) (sym e)
+
+        pub fault_none : false ≡ repeated → fault ≡ 0
+        fault_none e = ap₂ (λ (x y : Bool). fault_by x y repeated) has_label (sym in_ranges) ∙ ap (fault_by true true) (sym e)
+
     abbrev label : List ℕ
     label = get_or (labels_lent lent) i []
 
@@ -214,27 +258,27 @@ module _ {lent : Lent} (l : Taken lent) {out keys : List ℕ} {marks : List Bool
     unfolding row_fault
     fault_is = go (is_row_label label) refl
       where
-        values : t.within ≡ values_in_range channel_types (codes_in lent) (lent_row lent i).values
-        values = t.is_within ∙ ap (λ (zs : List ℤ). values_in_range channel_types (codes_in lent) (map number zs)) (numbers_are t.below)
+        values : within ≡ values_in_range channel_types (codes_in lent) (lent_row lent i).values
+        values = ap (λ (zs : List ℤ). values_in_range channel_types (codes_in lent) (map number zs)) (numbers_are t.below)
 
-        used_is : is_row_label label ≡ true → t.repeated ≡ label_used label earlier
+        used_is : is_row_label label ≡ true → repeated ≡ label_used label earlier
         used_is labelled =
-            t.is_repeated ∙ ap₂ key_used key_is w.keyed ∙ key_used_lem label labelled earlier w.labelled
+            ap₂ key_used key_is w.keyed ∙ key_used_lem label labelled earlier w.labelled
 
-        by_label : (b : Bool) → is_row_label label ≡ b → fault ≡ fault_by b (values_in_range channel_types (codes_in lent) (lent_row lent i).values) t.repeated
+        by_label : (b : Bool) → is_row_label label ≡ b → fault ≡ fault_by b (values_in_range channel_types (codes_in lent) (lent_row lent i).values) repeated
         by_label b e =
-            t.is_fault ∙ ap₂ (λ (x y : Bool). fault_by x y t.repeated) (ap (leb 1) key_is ∙ row_key-label label ∙ e) values
+            ap₂ (λ (x y : Bool). fault_by x y repeated) (ap (leb 1) key_is ∙ row_key-label label ∙ e) values
 
         go : (b : Bool) → is_row_label label ≡ b → fault ≡ fault_by b (values_in_range channel_types (codes_in lent) (lent_row lent i).values) (label_used label earlier)
         go true e = by_label true e ∙ ap (fault_by true (values_in_range channel_types (codes_in lent) (lent_row lent i).values)) (used_is e)
         go false e = by_label false e
 
-    pub walk_stops : (out : List ℕ) (r : TextWritten) → (fault ≡ 0 → ⊥) → r ≡ not_written (refused_at fault (2 + i))
+    pub walk_stops : (out : List ℕ) (r : TextWritten) (k : ℕ) → fault ≡ suc k → r ≡ not_written (refused_at (suc k) (2 + i))
         → TextPut (lent_text row_limit channel_types lent) out r
-    walk_stops out r some e =
+    walk_stops out r k is-fault e =
         let line : i + 2 ≡ 2 + i = omega arith in
-        let is = first_fault row_limit channel_types lent l.within i t.below w.none (omega (arith, fault_is))
-        ∙ ap₂ faulty (sym fault_is) line in
+        let is = first_fault row_limit channel_types lent l.within i t.below w.none (omega (arith, fault_is, is-fault))
+        ∙ ap₂ faulty (sym fault_is ∙ is-fault) line in
         subst (λ (c : Content). TextPut c out r) (sym is)
         record { is = e; within = omega (arith, ap (λ (x : TextWritten). x.length) e); text = ap (λ (x : TextWritten). take x.length out) e }
 
@@ -243,7 +287,7 @@ module _ {lent : Lent} (l : Taken lent) {out keys : List ℕ} {marks : List Bool
       none_here = sym fault_is ∙ fine
 
       labelled_here : is_row_label label ≡ true
-      labelled_here = (fault_none channel_types (codes_in lent) earlier (lent_row lent i) none_here).0
+      labelled_here = (unfaulted channel_types (codes_in lent) earlier (lent_row lent i) none_here).0
 
       pub turn_room : RowRoom part numbers lent.n out at
       unfolding coordinate

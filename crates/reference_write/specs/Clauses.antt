@@ -9,8 +9,7 @@ use Rattle.std.specs.Prelude.{ℕ, ◌+◌, ◌*◌, ◌≤◌, ◌<◌, ◌≡�
 use Rattle.refusal.specs.Number.{line_form, value_range, label_repeated}
 use Rattle.refusal.specs.Outcome.{refused_at, require}
 use Rattle.limits.specs.Limits.{row_limit, channel_limit, coordinate_limit}
-use Rattle.lent.specs.Clauses.{not_written, written, text_written}
-use Rattle.lent.specs.declared.TextWritten.{TextWritten}
+use Rattle.lent.specs.Clauses.{not_written, written, text_written, TextWritten}
 use Rattle.printing.specs.Clauses.{field_room}
 use Rattle.channel.specs.Channel.{Types, channel_types}
 use Rattle.reference_rows.specs.Rows.{Content, faulty, sound}

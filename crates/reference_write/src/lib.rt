@@ -2,10 +2,11 @@
 // Reference texts written (document 02, job 1): the text of a table, its types and the labels of its rows, with plain values. Labels
 // are lent as their bytes, one label after another, and the index at which each ends. The text is printed row by row into places of
 // its own, so that a refused call changes nothing that is lent.
-ghost use Rattle.std.specs.Prelude.{◌≡◌, ◌&&◌, [], ◌∷◌, ◌++◌, map, ◌+◌, ◌≤◌, eqb, leb, length, take};
-ghost use Rattle.refusal.specs.Outcome.{number_of};
+ghost use Rattle.std.specs.Prelude.{◌≡◌, ◌&&◌, [], ◌∷◌, ◌++◌, map, ◌≤◌, eqb, length, take};
+ghost use Rattle.refusal.specs.Outcome.{number_of, outcome_of};
 ghost use Rattle.limits.specs.Limits.{row_limit};
 ghost use Rattle.lent.specs.Filled.{filled};
+ghost use Rattle.lent.specs.Clauses.{text_outcome};
 ghost use Rattle.text.specs.Parts.{line_end};
 ghost use Rattle.printing.specs.Clauses.{Put};
 ghost use Rattle.channel.specs.Channel.{channel_types};
@@ -14,17 +15,17 @@ ghost use Rattle.value.specs.Values.{values_in_range};
 ghost use Rattle.reference_row.specs.Row.{print_row};
 ghost use Rattle.reference_write.specs.Labels.{ends_reach};
 ghost use Rattle.reference_write.specs.Writing.{lent_table, plain_row, lent_text};
-ghost use Rattle.reference_write.specs.Clauses.{written_text, reference_written, fault_by, RowRoom, TextAsked, TextPut};
+ghost use Rattle.reference_write.specs.Clauses.{written_text, reference_written, RowRoom, TextAsked, TextPut};
 
 use channel::{Code, range_of};
 use heading::put_heading;
 use label::marks::{MARKS, mark, used_of_marked};
 use label::row::row_label_key;
-use lent::{TextWritten, hand_out, not_written};
+use lent::hand_out;
 use limits::{CHANNEL_DIGITS, CHANNELS, COORDINATE_DIGITS, LABEL_MOST, ROWS, TAG_MOST};
 use printing::{FIELD_ROOM, put_line};
 use reference::read::{FIRST_ROW_LINE, WORD, WORD_BYTES};
-use refusal::Outcome;
+use refusal::{Kind, Refusal};
 use text::parts::LINE_END;
 use typed_rows::given_within;
 use value::in_range;
@@ -48,14 +49,11 @@ fn ends_within(labels: &[u8], ends: &[usize], m: usize) -> bool
         return false;
     }
     let mut reached = 0;
-    let mut i = 0;
-    while i < ends.len() {
-        let end = ends[i];
+    for &end in ends {
         if end < reached {
             return false;
         }
         reached = end;
-        i += 1;
     }
     reached == labels.len()
 }
@@ -65,30 +63,12 @@ fn row_in_range(numbers: &[i32], codes: &[Code], n: usize) -> bool
     requires { (n ≤ length numbers.now) × (n ≤ length codes.now) }
     ensures { result ≡ values_in_range channel_types (take n codes.now) (map number (take n numbers.now)) }
 {
-    let mut i = 0;
-    while i < n {
+    for i in 0..n {
         if !in_range(numbers[i], range_of(codes[i])) {
             return false;
         }
-        i += 1;
     }
     true
-}
-
-// The refusal that a row meets, 0 where there is none: 3, 4, 5. The number of a label is 0 where it is none.
-fn row_fault(key: u64, within: bool, repeated: bool) -> u32
-    ensures { result ≡ fault_by (leb 1 key) within repeated }
-{
-    if key == 0 {
-        return refusal::LINE_FORM;
-    }
-    if !within {
-        return refusal::VALUE_RANGE;
-    }
-    if repeated {
-        return refusal::LABEL_REPEATED;
-    }
-    0
 }
 
 // The line of a row of n plain values, with its byte 10. Answers the index after it.
@@ -98,10 +78,8 @@ fn put_row(out: &mut [u8], at: usize, label: &[u8], numbers: &[i32], n: usize) -
         out.new result }
 {
     let mut values = [0i64; CHANNELS];
-    let mut i = 0;
-    while i < n {
-        values[i] = numbers[i] as i64;
-        i += 1;
+    for i in 0..n {
+        values[i] = i64::from(numbers[i]);
     }
     put_line(out, at, label, &values, n)
 }
@@ -115,11 +93,11 @@ fn put_text(
     labels: &[u8],
     ends: &[usize],
     out: &mut [u8],
-) -> TextWritten
+) -> Result<usize, Refusal>
     requires { TextAsked (lent_table rows.now (length ends.now) n codes.now labels.now ends.now) out.old }
     ensures { TextPut
         (lent_text row_limit channel_types (lent_table rows.now (length ends.now) n codes.now labels.now ends.now))
-        out.new result }
+        out.new (text_outcome result) }
 {
     let mut keys = [0u64; ROWS];
     let mut marks = [false; MARKS];
@@ -128,32 +106,28 @@ fn put_text(
     let mut at = heading_end + 1;
     let mut from = 0;
     let mut place = 0;
-    let mut i = 0;
-    while i < ends.len() {
+    for i in 0..ends.len() {
+        let line = FIRST_ROW_LINE + i as u32;
         let end = ends[i];
         let next = place + n;
         let label = &labels[from..end];
         let numbers = &rows[place..next];
-        let key = row_label_key(label);
-        let within = row_in_range(numbers, codes, n);
-        let fault = row_fault(key, within, used_of_marked(&keys, i, &marks, key));
-        if fault != 0 {
-            return TextWritten {
-                outcome: refusal::refused_at(fault, FIRST_ROW_LINE + i as u32),
-                length: 0,
-            };
+        let Some(key) = row_label_key(label) else {
+            return Err(Refusal::new(Kind::LineForm, line));
+        };
+        if !row_in_range(numbers, codes, n) {
+            return Err(Refusal::new(Kind::ValueRange, line));
+        }
+        if used_of_marked(&keys, i, &marks, key) {
+            return Err(Refusal::new(Kind::LabelRepeated, line));
         }
         at = put_row(out, at, label, numbers, n);
         keys[i] = key;
         mark(&mut marks, key);
         from = end;
         place = next;
-        i += 1;
     }
-    TextWritten {
-        outcome: Outcome::Accepted,
-        length: at,
-    }
+    Ok(at)
 }
 
 // Writes the reference text of the first m rows of n channels, of the types that the first n codes have and with these labels, to the
@@ -167,25 +141,17 @@ pub fn write(
     labels: &[u8],
     ends: &[usize],
     buffer: &mut [u8],
-) -> TextWritten
-    ensures answer { result ≡ reference_written row_limit channel_types
+) -> Result<usize, Refusal>
+    ensures answer { text_outcome result ≡ reference_written row_limit channel_types
         (lent_table rows.now m n codes.now labels.now ends.now) (length buffer.old) }
-    ensures buffer_filled { buffer.new ≡ filled (number_of result.outcome) result.length
+    ensures buffer_filled { buffer.new ≡ filled (number_of (outcome_of result)) (text_outcome result).length
         (written_text channel_types (lent_text row_limit channel_types
         (lent_table rows.now m n codes.now labels.now ends.now))) buffer.old }
 {
-    if !given_within(rows, m, n, codes) {
-        return not_written(refusal::OUTSIDE_LIMITS);
-    }
-    if !ends_within(labels, ends, m) {
-        return not_written(refusal::OUTSIDE_LIMITS);
+    if !given_within(rows, m, n, codes) || !ends_within(labels, ends, m) {
+        return Err(Kind::OutsideLimits.into());
     }
     let mut text = [0u8; TEXT_ROOM];
-    let put = put_text(rows, n, codes, labels, ends, &mut text);
-    let length = put.length;
-    let outcome = put.outcome;
-    match outcome {
-        Outcome::Accepted => hand_out(&text[..length], buffer),
-        Outcome::Refused(_) => put,
-    }
+    let length = put_text(rows, n, codes, labels, ends, &mut text)?;
+    hand_out(&text[..length], buffer)
 }

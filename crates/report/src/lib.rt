@@ -2,11 +2,9 @@
 // equation (`message`); that it is written, no contract can say.
 #![tactic(auto)]
 
-ghost use Rattle.std.specs.Prelude.{◌^◌, ◌<◌};
+ghost use Rattle.message.specs.Clauses.{IndexFits};
 
-use message::{
-    MESSAGE_ROOM, put_excess, put_file, put_input, put_missing, put_named_argument, put_output,
-};
+use message::{MESSAGE_ROOM, Message, put_message};
 use std::fmt::InlineText;
 use std::io::{Error, Print, Stderr};
 
@@ -16,56 +14,24 @@ const REASON_MOST: usize = 128;
 // What std puts between the system's words for an error and its number.
 const BEFORE_NUMBER: &str = " (os error ";
 
-pub fn tell_missing(stderr: &Stderr, program: &[u8], index: usize)
-    requires { index < 2 ^ 63 }
+pub fn tell(stderr: &Stderr, program: &[u8], message: Message<'_>)
+    requires { IndexFits message }
 {
-    let mut message = [0u8; MESSAGE_ROOM];
-    let length = put_missing(&mut message, program, index);
-    let _ = stderr.write_all(&message[..length]);
+    let mut text = [0u8; MESSAGE_ROOM];
+    let length = put_message(&mut text, program, message);
+    let _ = stderr.write_all(&text[..length]);
 }
 
-pub fn tell_excess(stderr: &Stderr, program: &[u8], index: usize, name: &[u8])
-    requires { index < 2 ^ 63 }
+// Tells a message, and ends it with a reason: the words of an error, without the system's number for it.
+pub fn fail(stderr: &Stderr, program: &[u8], message: Message<'_>, error: Error)
+    requires { IndexFits message }
 {
-    let mut message = [0u8; MESSAGE_ROOM];
-    let length = put_excess(&mut message, program, index, name);
-    let _ = stderr.write_all(&message[..length]);
-}
-
-// Ends a message with a reason: the words of an error, without the system's number for it.
-fn fail(stderr: &Stderr, message: &[u8], error: Error) {
     let told = InlineText::<REASON_MOST>::of(error);
     let text = told.as_str();
     let reason = match text.split_once(BEFORE_NUMBER) {
         Some((words, _)) => words,
         None => text,
     };
-    let _ = stderr.write_all(message);
+    tell(stderr, program, message);
     let _ = stderr.println(format_args!(": {reason}"));
-}
-
-pub fn fail_argument(stderr: &Stderr, program: &[u8], index: usize, name: &[u8], error: Error)
-    requires { index < 2 ^ 63 }
-{
-    let mut message = [0u8; MESSAGE_ROOM];
-    let length = put_named_argument(&mut message, program, index, name);
-    fail(stderr, &message[..length], error);
-}
-
-pub fn fail_file(stderr: &Stderr, program: &[u8], name: &[u8], error: Error) {
-    let mut message = [0u8; MESSAGE_ROOM];
-    let length = put_file(&mut message, program, name);
-    fail(stderr, &message[..length], error);
-}
-
-pub fn fail_input(stderr: &Stderr, program: &[u8], error: Error) {
-    let mut message = [0u8; MESSAGE_ROOM];
-    let length = put_input(&mut message, program);
-    fail(stderr, &message[..length], error);
-}
-
-pub fn fail_output(stderr: &Stderr, program: &[u8], error: Error) {
-    let mut message = [0u8; MESSAGE_ROOM];
-    let length = put_output(&mut message, program);
-    fail(stderr, &message[..length], error);
 }

@@ -12,7 +12,8 @@
 --     Keeping rows m n .. next              the columns that are kept from move to move
 --     slot_beside next slot                  the slot that is filled next, that of a column in use passed over
 --     Elsewhere slot before after           no place outside a slot has changed
---     ColumnKept rows m n j next .. r       the column of row j is kept, and no place outside the slot `next` has changed
+--     KeptFor rows m n c                     the same of a value of the code
+--     ColumnKept rows m n j before after slot     the column of row j is kept in a slot, and no place outside the slot that was filled next has changed
 --     Raisable, Raised                      t times the column of a row can be added to the scores, and is
 --     Carriable, Carried                    and that of another row taken off them, of the two rows of a move
 -- The bounds are those of the largest total, `total`, which the machine's numbers hold.
@@ -22,7 +23,7 @@ use Rattle.geometry.specs.Figures.{squared_distance}
 use Rattle.geometry.specs.Table.{coordinate}
 use Rattle.geometry.specs.Clauses.{Table}
 use Rattle.limits.specs.Limits.{total, row_limit, distance_limit, separation_limit}
-use Rattle.scores.specs.declared.kept.Kept.{Kept}
+use Rattle.scores.specs.declared.kept.KeptColumns.{KeptColumns}
 
 -- the score of row i: places past the end of the list are 0
 abbrev pub score_of : List ℕ → ℕ → ℕ
@@ -83,6 +84,10 @@ pub record Keeping (rows : List ℤ) (m n : ℕ) (columns kept slots : List ℕ)
   pub by_row : length slots ≡ row_limit
   pub next_within : next < column_limit
 
+-- the columns that are kept, as the code has them together
+abbrev pub KeptFor : List ℤ → ℕ → ℕ → KeptColumns → Type 0
+KeptFor rows m n c = Keeping rows m n c.columns c.kept c.slots c.next
+
 -- the slot that is filled next, or the one after it where it is a given one
 abbrev pub slot_beside : ℕ → ℕ → ℕ
 slot_beside next slot = cond (eqb next slot) ((next + 1) % column_limit) next
@@ -92,12 +97,12 @@ pub record Elsewhere (slot : ℕ) (before after : List ℕ) : Type 0 where
   pub same_length : length after ≡ length before
   pub same : (p : ℕ) → (p < slot * row_limit) ⊎ ((slot + 1) * row_limit ≤ p) → get_or after p 0 ≡ get_or before p 0
 
--- the column of row j is in a slot, and no slot but `next` has changed
-pub record ColumnKept (rows : List ℤ) (m n j next : ℕ) (before columns kept slots : List ℕ) (r : Kept) : Type 0 where
-  pub slot_within : r.slot < column_limit
-  pub column : IsColumn rows m n j (r.slot * row_limit) columns
-  pub keeping : Keeping rows m n columns kept slots r.next
-  pub elsewhere : Elsewhere next before columns
+-- the column of row j is in a slot, and no slot but the one that was filled next has changed
+pub record ColumnKept (rows : List ℤ) (m n j : ℕ) (before after : KeptColumns) (slot : ℕ) : Type 0 where
+  pub slot_within : slot < column_limit
+  pub column : IsColumn rows m n j (slot * row_limit) after.columns
+  pub keeping : KeptFor rows m n after
+  pub elsewhere : Elsewhere before.next before.columns after.columns
 
 -- t times the column of row j can be added to the scores
 pub record Raisable (rows : List ℤ) (m n j t : ℕ) (scores : List ℕ) : Type 0 where

@@ -15,10 +15,8 @@ pub fn fill_column(rows: &[i32], m: usize, n: usize, j: usize, columns: &mut [u3
     requires { Table rows.now m n × ((j < m) × (base + m ≤ length columns.old)) }
     ensures { ColumnFilled rows.now m n j base columns.old columns.new }
 {
-    let mut i = 0;
-    while i < m {
+    for i in 0..m {
         columns[base + i] = squared_distance(rows, n, i, j) as u32;
-        i += 1;
     }
 }
 
@@ -51,10 +49,8 @@ pub fn add_column(scores: &mut [u64], m: usize, columns: &[u32], base: usize, t:
     requires { Gainable m scores.old columns.now base t }
     ensures { Placed (λ i. score_of scores.old i + t * get_or columns.now (base + i) 0) 0 scores.old scores.new m }
 {
-    let mut i = 0;
-    while i < m {
+    for i in 0..m {
         scores[i] = raised(scores[i], t, columns[base + i]);
-        i += 1;
     }
 }
 
@@ -71,9 +67,7 @@ pub fn move_columns(
     ensures { Placed (λ i. score_of scores.old i + t * get_or columns.now (gained + i) 0 - t * get_or columns.now (lost + i) 0)
         0 scores.old scores.new m }
 {
-    let mut row = 0;
-    while row < m {
+    for row in 0..m {
         scores[row] = moved_score(scores[row], t, columns[gained + row], columns[lost + row]);
-        row += 1;
     }
 }

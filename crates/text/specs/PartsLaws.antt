@@ -1,6 +1,7 @@
 -- Laws of the parts between separators.
 --     text-within                      the test of a text's length, as two bounds
 --     same_refl, same_eq, same_ne      `same` is equality
+--     same_pointwise                   it is what `==` answers of two slices
 --     same_lengths                     lists of two lengths differ
 --     same_on, same_off, same_done     the bytes from an index on, by the two that stand there, and at the end
 --     cut_some                         there is a first part
@@ -41,6 +42,7 @@ use native.Mathlib.Omega.{arith}
 use Rattle.std.proofs.lemmas.Bool.{lt-leb, not-true}
 use Rattle.std.proofs.Math.Dec.{eqb, leb}
 use Rattle.std.proofs.Math.ListN.{length, drop, length-drop}
+use lib.Pointwise.{pointwise}
 use Rattle.std.proofs.Math.Seq.{drop-drop, take-length}
 use Rattle.text.specs.Bytes.{index_of, index_after, slice}
 use Rattle.integers.specs.Tests.{both, clash}
@@ -68,6 +70,13 @@ same_eq (a ∷ k) [] h = clash h refl
 same_eq (a ∷ k) (b ∷ l) h =
     let t = both (eqb a b) (same k l) h in
     ap₂ ◌∷◌ (eqb-true a b t.0) (same_eq k l t.1)
+
+pub same_pointwise : (a b : List ℕ) → pointwise eqb a b ≡ same a b
+unfolding same
+same_pointwise [] [] = refl
+same_pointwise [] (b ∷ l) = refl
+same_pointwise (a ∷ k) [] = refl
+same_pointwise (a ∷ k) (b ∷ l) = ap (λ t. eqb a b && t) (same_pointwise k l)
 
 pub same_ne : (a b : List ℕ) → same a b ≡ false → a ≡ b → ⊥
 same_ne a b h e = clash (ap (same a) (sym e) ∙ same_refl a) h

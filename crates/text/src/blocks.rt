@@ -12,10 +12,8 @@ fn block_free(text: &[u8], at: usize, byte: u8) -> bool
     ensures { result ≡ free byte (take block_length (drop at text.now)) }
 {
     let mut clear = true;
-    let mut k = 0;
-    while k < BLOCK {
+    for k in 0..BLOCK {
         clear = clear & (text[at + k] != byte);
-        k += 1;
     }
     clear
 }
@@ -26,10 +24,8 @@ pub fn part_end(text: &[u8], at: usize, byte: u8) -> usize
     ensures { PartEnd byte text.now at result }
 {
     let mut from = at;
-    while BLOCK <= text.len() - from {
-        if !block_free(text, from, byte) {
-            break;
-        }
+    // The step is a block.
+    while BLOCK <= text.len() - from && block_free(text, from, byte) {
         from += BLOCK;
     }
     crate::scan::find(text, from, text.len(), byte)

@@ -8,12 +8,10 @@ pub fn find(text: &[u8], from: usize, to: usize, byte: u8) -> usize
     ensures is { result ≡ from + index_of byte (slice from to text.now) }
     ensures high { result ≤ to }
 {
-    let mut at = from;
-    while at < to {
+    for at in from..to {
         if text[at] == byte {
             return at;
         }
-        at += 1;
     }
     to
 }

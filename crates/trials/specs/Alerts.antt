@@ -9,28 +9,26 @@ use Rattle.text.specs.Lines.{print_lines}
 use Rattle.text.specs.Parts.{join}
 use Rattle.number.specs.Number.{decimal, print, print_magnitude}
 use Rattle.printing.specs.Clauses.{numbers_after}
-use Rattle.reading.specs.Verdict.{refused_verdict}
-use Rattle.reading.specs.declared.Verdict.{Verdict}
-use Rattle.reading.specs.declared.Verdict.TheVariants.{Alarm, Quiet}
+use Rattle.reading.specs.Verdict.{refused_verdict, VerdictOutcome, Alarm, Quiet}
 use Rattle.alert.specs.Alert.{Setting, ends_in, passed, raised, stands}
 use Rattle.alert_trial.specs.Trial.{count, history_from, trial_lines}
 
 pub record AlertCase : Type 0 where
   pub settings : List Setting
-  pub verdicts : List Verdict
+  pub verdicts : List VerdictOutcome
   pub printed : List ℕ
 
 abbrev setting : ℕ → ℕ → Setting
 setting k c = record { k = k; c = c }
 
 -- an Alarm by 1, a Quiet, and a reading that is turned back
-abbrev A : Verdict
+abbrev A : VerdictOutcome
 A = Alarm 1
 
-abbrev Q : Verdict
+abbrev Q : VerdictOutcome
 Q = Quiet
 
-abbrev N : Verdict
+abbrev N : VerdictOutcome
 N = refused_verdict line_form 1
 
 pub alert_cases : List AlertCase

@@ -18,8 +18,7 @@ use Rattle.limits.specs.Limits.{total, row_limit, channel_limit}
 use Rattle.geometry.specs.Places.{weights_total, tabulate, centre_list}
 use Rattle.ball.specs.Ball.{ball_of, empty_ball}
 use Rattle.checking.specs.Check.{checking}
-use Rattle.drawing.specs.Draw.{run, start, run_from, drawing}
-use Rattle.drawing.specs.declared.Drawing.{Drawing}
+use Rattle.drawing.specs.Draw.{run, start, run_from, drawing, DrawingOutcome}
 use Rattle.text.specs.Ascii.{ascii}
 use Rattle.text.specs.Parts.{same, extend, cut, join}
 use Rattle.text.specs.Lines.{print_lines}
@@ -62,15 +61,15 @@ flag : Bool → ℕ
 flag b = cond b 1 0
 
 -- the drawing of m rows of n channels
-draw : ℕ → List ℤ → ℕ → ℕ → Drawing
+draw : ℕ → List ℤ → ℕ → ℕ → DrawingOutcome
 draw n rows m budget = drawing total row_limit rows m n budget
 
 -- the drawing of the rows of a reference text, of no row where it is refused
-draw_found : Content → ℕ → Drawing
+draw_found : Content → ℕ → DrawingOutcome
 draw_found (faulty number line) budget = draw 0 [] 0 budget
 draw_found (sound found) budget = draw (channel_count found) (table_of found) (row_count found) budget
 
-draw_text : List ℕ → ℕ → Drawing
+draw_text : List ℕ → ℕ → DrawingOutcome
 draw_text text = draw_found (content row_limit channel_types text)
 
 -- the table of a reference text, or the refusal's number and line
@@ -82,12 +81,12 @@ read_text : List ℕ → List ℤ
 read_text text = told (content row_limit channel_types text)
 
 -- moves, M, L, Settled
-outline : Drawing → List ℤ
+outline : DrawingOutcome → List ℤ
 outline r =
     numbers (r.moves ∷ r.ball.scaled_squared_radius ∷ r.ball.scaled_lower_bound ∷ flag r.ball.settled ∷ [])
 
 -- the outline, X and the weights of the first m rows
-whole : ℕ → ℕ → Drawing → List ℤ
+whole : ℕ → ℕ → DrawingOutcome → List ℤ
 whole m n r = outline r ++ take n r.ball.scaled_centre ++ numbers (take m r.weights)
 
 -- g, and t, of one channel's rows under some weights

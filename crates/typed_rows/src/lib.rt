@@ -13,11 +13,5 @@ use figures::table::rows_within;
 pub fn given_within(rows: &[i32], m: usize, n: usize, codes: &[Code]) -> bool
     ensures { result ≡ given_within row_limit channel_types rows.now m n codes.now }
 {
-    if !rows_within(rows, m, n) {
-        return false;
-    }
-    if codes.len() < n {
-        return false;
-    }
-    codes_known(codes, n)
+    rows_within(rows, m, n) && n <= codes.len() && codes_known(codes, n)
 }

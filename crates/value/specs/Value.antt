@@ -10,14 +10,14 @@
 --     print_value v               the field of a value
 --     value_under range o         what the functions answer for a value under a range, if it is one
 --     value_read range l          the same for the field l
-use Rattle.std.specs.Prelude.{ℕ, Bool, cond, ◌&&◌, List, [], ◌∷◌, eqb, ℤ, pos}
+use Rattle.std.specs.Prelude.{ℕ, Bool, cond, ◌&&◌, List, [], ◌∷◌, eqb, ℤ, pos, Result, Ok, Err}
 use Rattle.std.proofs.Math.Option.{Option, none, some, map}
 use Rattle.std.specs.Int.Signed.{le_z, quot_z}
 use Rattle.text.specs.Ascii.{byte}
 use Rattle.number.specs.Number.{plain, print}
 use Rattle.channel.specs.declared.Range.{Range}
-use Rattle.value.specs.declared.Value.{Value}
-use Rattle.value.specs.declared.Value.TheVariants.{Malformed, OutOfRange, Reads}
+use Rattle.value.specs.declared.Fault.{Fault}
+use Rattle.value.specs.declared.Fault.TheVariants.{Malformed, OutOfRange}
 
 pub data Written : Type 0 where
   number : ℤ → Written
@@ -53,9 +53,9 @@ unfoldable pub print_value : Written → List ℕ
 print_value (number z) = print z
 print_value (below z) = less_than ∷ print z
 
-abbrev pub value_under : Range → Option Written → Value
-value_under range none = Malformed
-value_under range (some v) = cond (value_in_range range v) (Reads (reads v)) OutOfRange
+abbrev pub value_under : Range → Option Written → Result ℤ Fault
+value_under range none = Err Malformed
+value_under range (some v) = cond (value_in_range range v) (Ok (reads v)) (Err OutOfRange)
 
-unfoldable pub value_read : Range → List ℕ → Value
+unfoldable pub value_read : Range → List ℕ → Result ℤ Fault
 value_read range l = value_under range (value_of l)

@@ -11,59 +11,49 @@ ghost use Rattle.value.specs.Clauses.{RangeWithin, plain_under, below_under, wri
 
 use channel::Range;
 use limits::COORDINATE_MOST;
-use number::{Plain, plain_number_at};
-use text::parts::past_byte;
+use number::{Number, plain_number_at};
+use text::parts::{Field, past_byte};
 
 const LESS_THAN: u8 = b'<';
 
-// What a value field holds.
+// Why a field holds no value.
 #[derive(Clone, Copy)]
-pub enum Value {
+pub enum Fault {
     Malformed,
     OutOfRange,
-    Reads(i32),
 }
 
-// The number of the value field that starts somewhere in a line, whether `<` stands before it, and where the field ends.
+// The number of a value field, and whether `<` stands before it.
 #[derive(Clone, Copy)]
-pub struct WrittenAt {
+pub struct Written {
     pub below: bool,
-    pub number: Plain,
-    pub end: usize,
+    pub number: Option<Number>,
 }
 
 // Whether a whole number is within a range.
 pub fn in_range(whole: i32, range: Range) -> bool
     ensures { result ≡ in_range range whole }
 {
-    if whole < range.low {
-        return false;
-    }
-    whole <= range.high
+    range.low <= whole && whole <= range.high
 }
 
 // A plain number under a range.
-fn plain_value(number: Plain, range: Range) -> Value
+fn plain_value(number: Option<Number>, range: Range) -> Result<i32, Fault>
     requires { RangeWithin range }
     ensures { result ≡ plain_under range number }
 {
-    match number {
-        Plain::Malformed => Value::Malformed,
-        Plain::Number {
-            negative,
-            magnitude,
-        } => {
-            if (COORDINATE_MOST as u64) < magnitude {
-                return Value::OutOfRange;
-            }
-            let size = magnitude as i32;
-            let whole = if negative { -size } else { size };
-            if in_range(whole, range) {
-                Value::Reads(whole)
-            } else {
-                Value::OutOfRange
-            }
-        }
+    let Some(plain) = number else {
+        return Err(Fault::Malformed);
+    };
+    if (COORDINATE_MOST as u64) < plain.magnitude {
+        return Err(Fault::OutOfRange);
+    }
+    let size = plain.magnitude as i32;
+    let whole = if plain.negative { -size } else { size };
+    if in_range(whole, range) {
+        Ok(whole)
+    } else {
+        Err(Fault::OutOfRange)
     }
 }
 
@@ -76,7 +66,7 @@ fn half(v: u32) -> u32
 }
 
 // What stands after `<` under a range: a plain number from 1 to the high.
-fn below_detection(number: Plain, range: Range) -> Value
+fn below_detection(number: Option<Number>, range: Range) -> Result<i32, Fault>
     requires { RangeWithin range }
     ensures { result ≡ below_under range number }
 {
@@ -84,16 +74,12 @@ fn below_detection(number: Plain, range: Range) -> Value
         low: 1,
         high: range.high,
     };
-    let value = plain_value(number, detectable);
-    match value {
-        Value::Malformed => Value::Malformed,
-        Value::OutOfRange => Value::OutOfRange,
-        Value::Reads(v) => Value::Reads(half(v as u32) as i32),
-    }
+    let value = plain_value(number, detectable)?;
+    Ok(half(value as u32) as i32)
 }
 
 // A number under a range, after `<` or by itself.
-pub fn written_value(below: bool, number: Plain, range: Range) -> Value
+pub fn written_value(below: bool, number: Option<Number>, range: Range) -> Result<i32, Fault>
     requires { RangeWithin range }
     ensures { result ≡ written_under range below number }
 {
@@ -105,16 +91,17 @@ pub fn written_value(below: bool, number: Plain, range: Range) -> Value
 }
 
 // The field of a line that starts at `at` as a number, after `<` or by itself, and where it ends.
-pub fn read_written_at(line: &[u8], at: usize) -> WrittenAt
+pub fn read_written_at(line: &[u8], at: usize) -> Field<Written>
     requires { at ≤ length line.now }
-    ensures { WrittenRead line.now at result.below result.number result.end }
+    ensures { WrittenRead line.now at result.value.below result.value.number result.end }
 {
     let below = past_byte(line, at, LESS_THAN);
     let plain = plain_number_at(line, below.next);
-    let number = plain.number;
-    WrittenAt {
-        below: below.found,
-        number,
+    Field {
+        value: Written {
+            below: below.found,
+            number: plain.value,
+        },
         end: plain.end,
     }
 }

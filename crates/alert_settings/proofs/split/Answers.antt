@@ -6,7 +6,7 @@ use Rattle.alert_settings.proofs.SplitSteps.{split_done}
 use Rattle.alert_settings.proofs.split.Goals as goal
 
 pub loop-j-init : goal.loop-j-init
-loop-j-init c = (placed_none, placed_none, omega arith)
+loop-j-init c = (placed_none, placed_none)
 
 pub loop-j-preserved : goal.loop-j-preserved
 loop-j-preserved c =
@@ -14,7 +14,6 @@ loop-j-preserved c =
     let inv = c.loop-j.invariant in (
       placed_next inv.0 _ zero-le (omega (arith, asked.ks_places)) refl,
       placed_next inv.1 _ zero-le (omega (arith, asked.cs_places)) refl,
-      omega arith,
     )
 
 pub returns : goal.returns

@@ -1,6 +1,6 @@
 -- `ball::ball_of` meets its contract: M is s of the far row, and the weights are Settled by the test of the definition.
 use Prim.Native.Nat.{ℕ}
-use mathlib.Core.Path.{◌≡◌}
+use mathlib.Core.Path.{◌≡◌, refl}
 use mathlib.Core.Bool.{Bool}
 use mathlib.Core.List.{List}
 use lib.IntN.{ℤ}
@@ -31,4 +31,4 @@ pub returns : goal.returns
 returns c =
     let asked = c.requires in
     gathered asked.0 asked.1.1.0 asked.1.1.1 c.scaled_lower_bound-scaled_lower_bound.ensures
-    c.is_settled-settled.ensures c.filled_ball.ensures
+    c.is_settled.ensures refl

@@ -1,7 +1,7 @@
 -- `ball::ball_of_scores` meets its contract: M is D times e of the far row, less L, and the weights are Settled by the test of the
 -- definition.
 use Prim.Native.Nat.{ℕ, ◌*◌, ◌-◌, ◌≤◌, ◌<◌}
-use mathlib.Core.Path.{◌≡◌, sym, ap, subst}
+use mathlib.Core.Path.{◌≡◌, refl, sym, ap, subst}
 use mathlib.Core.Bool.{Bool}
 use mathlib.Core.List.{List}
 use native.Mathlib.Omega.{arith}
@@ -47,8 +47,8 @@ module _ {D : ℕ} (some : 0 < D) {rows : List ℤ} {m n : ℕ} {ws : List ℕ} 
   gathered centres bounds radii settles filled =
       cc (score_radius D m n (coordinate rows n) (weight_of ws) some good.sum table.some_row, pairs.score_is, pairs.difference_is, pairs.separation_is)
 
-pub radius_of_score-radius-requires : goal.radius_of_score-radius-requires
-radius_of_score-radius-requires c =
+pub radius_of_score-scaled_squared_radius-requires : goal.radius_of_score-scaled_squared_radius-requires
+radius_of_score-scaled_squared_radius-requires c =
     let asked = c.requires in (
       score_most (lit< tt) asked.0 asked.1.0 asked.1.1,
       subst (λ b. b ≤ total * c.args.pair.score) (sym c.scaled_lower_bound-scaled_lower_bound.ensures)
@@ -59,4 +59,4 @@ pub returns : goal.returns
 returns c =
     let asked = c.requires in
     gathered (lit< tt) asked.0 asked.1.0 asked.1.1 c.scaled_centre-scaled_centre.ensures c.scaled_lower_bound-scaled_lower_bound.ensures
-    c.radius_of_score-radius.ensures c.is_settled-settled.ensures c.filled_ball.ensures
+    c.radius_of_score-scaled_squared_radius.ensures c.is_settled.ensures refl

@@ -1,31 +1,26 @@
-use mathlib.Core.Path.{◌≡◌, refl, sym, ap, ◌∙◌}
+use mathlib.Core.Path.{refl, sym, ap, ◌∙◌}
 use native.Mathlib.Omega.{arith}
-use lib.ListN.{take}
-use Rattle.channel.specs.Channel.{channel_types, codes_known}
+use lib.Seq.{get_or-take, length-take-le}
+use Rattle.channel.specs.Channel.{channel_types, known, codes_known}
 use Rattle.channel.specs.CodesLaws.{codes_next, codes_fail}
 use Rattle.channel.proofs.codes_known.Goals as goal
 
-pub loop-i-init : goal.loop-i-init
+pub loop-code-init : goal.loop-code-init
 unfolding codes_known
-loop-i-init c = (omega arith, refl)
+loop-code-init c = refl
 
 pub returns-then-not-is_known : goal.returns-then-not-is_known
 returns-then-not-is_known c =
     let s = c.args in
-    codes_fail channel_types s.codes.now s.n c.loop-i.i (omega arith) (omega arith)
-    (sym c.is_known.ensures ∙ c.if-not-is_known.true)
+    let many = length-take-le s.n s.codes.now c.requires in
+    let here = get_or-take s.n s.codes.now c.loop-code.code-index 0 (omega (arith, many)) in
+    codes_fail channel_types s.codes.now s.n c.loop-code.code-index c.requires (omega (arith, many))
+    (ap (known channel_types) (sym here) ∙ sym c.is_known.ensures ∙ c.if-not-is_known.true)
 
-pub loop-i-preserved : goal.loop-i-preserved
-loop-i-preserved c =
+pub loop-code-preserved : goal.loop-code-preserved
+loop-code-preserved c =
     let s = c.args in
-    let l = c.loop-i in (
-      omega arith,
-      codes_next channel_types s.codes.now l.i (omega arith) l.invariant.1 (sym c.is_known.ensures ∙ c.if-not-is_known.false),
-    )
-
-pub returns : goal.returns
-returns c =
-    let s = c.args in
-    let l = c.loop-i in
-    let e : l.i ≡ s.n = omega arith in
-    sym l.invariant.1 ∙ ap (λ j. codes_known channel_types (take j s.codes.now)) e
+    let many = length-take-le s.n s.codes.now c.requires in
+    let here = get_or-take s.n s.codes.now c.loop-code.code-index 0 (omega (arith, many)) in
+    codes_next channel_types s.codes.now c.loop-code.code-index (omega (arith, many)) c.loop-code.invariant
+    (ap (known channel_types) (sym here) ∙ sym c.is_known.ensures ∙ c.if-not-is_known.false)

@@ -9,5 +9,5 @@ use Rattle.chart.proofs.chart.Goals as goal
 pub returns : goal.returns
 returns c =
     let args = c.args in
-    own_lent (λ (f : Figures). chart_mark total channel_types f args.horizontal args.vertical) args.figures c.scalars_of.ensures
+    own_lent (λ (f : Figures). chart_mark total channel_types f args.horizontal args.vertical) args.figures c.scalars.ensures
     c.chart_lent.ensures

@@ -6,9 +6,8 @@ use mir.Syntax.{w64}
 use mir.ValLaws.{to_z_pos}
 use Rattle.limits.specs.Limits.{total}
 use Rattle.chart.specs.Fraction.{fraction_of}
-use Rattle.chart.specs.Mark.{mark_of}
+use Rattle.chart.specs.Mark.{mark_of, Disc}
 use Rattle.chart.specs.MarkLaws.{disc_of}
-use Rattle.chart.specs.declared.Mark.TheVariants.{Disc}
 use Rattle.chart.proofs.mark_of.Goals as goal
 
 pub returns-then-scaled_squared_radius-eq0 : goal.returns-then-scaled_squared_radius-eq0

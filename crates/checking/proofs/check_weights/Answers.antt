@@ -13,13 +13,14 @@ use mathlib.Core.Bool.{true}
 use mathlib.Core.List.{List}
 use lib.IntN.{ℤ}
 use lib.ListN.{length}
-use Rattle.refusal.specs.declared.Outcome.TheVariants.{Accepted}
 use Rattle.geometry.specs.Move.{weight_of}
 use Rattle.geometry.specs.Table.{coordinate, rows_within}
 use Rattle.ball.specs.declared.Ball.{Ball}
 use Rattle.ball.specs.Ball.{ball_of}
 use Rattle.geometry.specs.Places.{weights_total}
 use Rattle.checking.proofs.check_weights.Goals as goal
+use Rattle.refusal.specs.Outcome.{Accepted, refusal_outcome}
+use Rattle.refusal.specs.declared.Refusal.{Refusal}
 
 -- the answer, put together
 weighed : (limit : ℕ) (rows : List ℤ) (m n : ℕ) {D : ℕ} {ws : List ℕ} {b : Ball} → rows_within limit rows m n ≡ true
@@ -35,7 +36,7 @@ good places sum_is passed = record { places = omega (arith, places); sum = sym s
 
 pub returns-then-weights-m : goal.returns-then-weights-m
 returns-then-weights-m c =
-    c.not_checked.ensures ∙ ap not_checked c.refused_at.ensures
+    ap (λ (r : Refusal). not_checked (refusal_outcome r)) c.into.ensures
     ∙ sym (checking_places _ _ _ _ _ _ c.requires c.if-weights-m.true)
 
 pub weights_total-requires : goal.weights_total-requires
@@ -43,7 +44,7 @@ weights_total-requires c = omega (arith, (within-table _ _ _ c.requires).rows_mo
 
 pub returns-then-weights_total : goal.returns-then-weights_total
 returns-then-weights_total c =
-    c.not_checked-then-weights_total.ensures ∙ ap not_checked c.refused_at-then-weights_total.ensures
+    ap (λ (r : Refusal). not_checked (refusal_outcome r)) c.into-then-weights_total.ensures
     ∙ sym (checking_sum _ _ _ _ _ _ c.requires c.if-weights-m.false
     (λ e. c.if-weights_total.true (c.weights_total.ensures ∙ e)))
 
@@ -53,8 +54,8 @@ scaled_centre-scaled_centre-requires c = (within-table _ _ _ c.requires, weights
 pub pair_of-pair-requires : goal.pair_of-pair-requires
 pair_of-pair-requires c = (within-table _ _ _ c.requires, (good c.if-weights-m.false c.weights_total.ensures c.if-weights_total.false, c.scaled_centre-scaled_centre.ensures))
 
-pub ball_of-ball-requires : goal.ball_of-ball-requires
-ball_of-ball-requires c = (within-table _ _ _ c.requires, (good c.if-weights-m.false c.weights_total.ensures c.if-weights_total.false, (c.scaled_centre-scaled_centre.ensures, c.pair_of-pair.ensures)))
+pub ball_of-requires : goal.ball_of-requires
+ball_of-requires c = (within-table _ _ _ c.requires, (good c.if-weights-m.false c.weights_total.ensures c.if-weights_total.false, (c.scaled_centre-scaled_centre.ensures, c.pair_of-pair.ensures)))
 
 pub returns : goal.returns
-returns c = weighed _ _ _ _ c.requires c.if-weights-m.false (good c.if-weights-m.false c.weights_total.ensures c.if-weights_total.false) c.ball_of-ball.ensures
+returns c = weighed _ _ _ _ c.requires c.if-weights-m.false (good c.if-weights-m.false c.weights_total.ensures c.if-weights_total.false) c.ball_of.ensures

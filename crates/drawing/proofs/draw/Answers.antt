@@ -1,6 +1,8 @@
 -- `drawing::draw` meets its contract: its tests are those of the definition, in its order.
 use mathlib.Core.Path.{sym, ◌∙◌, ap}
 use Rattle.limits.specs.Limits.{row_limit}
+use Rattle.refusal.specs.Outcome.{refusal_outcome}
+use Rattle.refusal.specs.declared.Refusal.{Refusal}
 use Rattle.drawing.specs.Draw.{not_drawn}
 use Rattle.drawing.specs.Demand.{draw_promise}
 use Rattle.drawing.specs.DrawLaws.{drawing_limits, drawing_budget, drawing-drawn}
@@ -11,13 +13,13 @@ pub returns-then-not-rows_within : goal.returns-then-not-rows_within
 returns-then-not-rows_within c =
     let outside = sym c.rows_within.ensures ∙ c.if-not-rows_within.true in
     draw_promise _ _ _ _ _
-    (c.not_drawn.ensures ∙ ap (not_drawn row_limit) c.refused_at.ensures ∙
+    (ap (λ (r : Refusal). not_drawn row_limit (refusal_outcome r)) c.into.ensures ∙
     sym (drawing_limits _ _ _ _ _ _ outside))
 
 pub returns-then-budget-gt-BUDGET_MOST : goal.returns-then-budget-gt-BUDGET_MOST
 returns-then-budget-gt-BUDGET_MOST c =
     draw_promise _ _ _ _ _
-    (c.not_drawn-then-budget-gt-BUDGET_MOST.ensures ∙ ap (not_drawn row_limit) c.refused_at-then-budget-gt-BUDGET_MOST.ensures ∙
+    (ap (λ (r : Refusal). not_drawn row_limit (refusal_outcome r)) c.into-then-budget-gt-BUDGET_MOST.ensures ∙
     sym (drawing_budget _ _ _ _ _ _ (sym c.rows_within.ensures ∙ c.if-not-rows_within.false) c.if-budget-gt-BUDGET_MOST.true))
 
 pub drawn_within-requires : goal.drawn_within-requires

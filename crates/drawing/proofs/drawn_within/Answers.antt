@@ -3,4 +3,4 @@ use Rattle.drawing.proofs.Laws.{drew}
 use Rattle.drawing.proofs.drawn_within.Goals as goal
 
 pub returns : goal.returns
-returns c = drew c.run-ended.ensures c.ball_of_scores-ball.ensures
+returns c = drew c.run-ended.ensures c.ball_of_scores.ensures

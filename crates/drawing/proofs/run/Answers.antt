@@ -3,27 +3,27 @@ use native.Mathlib.Omega.{arith}
 use native.Mathlib.Nat.{le_refl}
 use lib.Dec.{lit≤}
 use Rattle.limits.specs.Limits.{total}
-use Rattle.drawing.proofs.Laws.{scores_none, keeping_none, start_good, start_scored, begins, ends, more, apart, can_move, can_carry, moved_good, moved_scored, again}
+use Rattle.drawing.proofs.Laws.{scores_none, start_good, start_scored, begins, ends, more, apart, can_move, can_carry, moved_good, moved_scored, again}
 use Rattle.drawing.proofs.run.Goals as goal
 
-pub first_scores-next-requires : goal.first_scores-next-requires
-first_scores-next-requires c =
+pub first_scores-requires : goal.first_scores-requires
+first_scores-requires c =
     let table = c.requires in (
       record { table = table; row = table.some_row; factor = le_refl total; within = scores_none table.rows_most },
-      keeping_none table.rows_most,
+      c.new-columns.ensures _ _ _ table.rows_most,
     )
 
 pub pair_of_scores-pair-requires : goal.pair_of_scores-pair-requires
 pair_of_scores-pair-requires c =
     let table = c.requires in
     let first = c.all_on_first-weights.ensures in
-    (table, (start_good table first, start_scored table first c.first_scores-next.ensures.scores))
+    (table, (start_good table first, start_scored table first c.first_scores.ensures.scores))
 
 pub loop-scores-init : goal.loop-scores-init
 loop-scores-init c =
     let table = c.requires in
     let first = c.all_on_first-weights.ensures in
-    let raise = c.first_scores-next.ensures in (
+    let raise = c.first_scores.ensures in (
       begins table first (lit≤ tt) (le_refl total) (omega (arith, raise.scores.same_length)) (start_scored table first raise.scores) c.pair_of_scores-pair.ensures,
       raise.columns,
     )
@@ -38,8 +38,8 @@ one_move-weights-requires c =
     let here = c.loop-scores.invariant.0 in
     can_move c.requires here (sym c.goes_on.ensures ∙ c.loop-scores-test.true) c.transfer_of-t.ensures (omega (arith, here.paired)) (omega (arith, here.paired))
 
-pub carry_scores-next-requires : goal.carry_scores-next-requires
-carry_scores-next-requires c =
+pub carry_scores-requires : goal.carry_scores-requires
+carry_scores-requires c =
     let here = c.loop-scores.invariant.0 in (
       can_carry c.requires here (sym c.goes_on.ensures ∙ c.loop-scores-test.true) c.transfer_of-t.ensures (omega (arith, here.paired)) (omega (arith, here.paired)),
       c.loop-scores.invariant.1,
@@ -51,7 +51,7 @@ pair_of_scores-pair-requires-in-loop-scores c =
     let here = c.loop-scores.invariant.0 in
     let stepped = c.transfer_of-t.ensures in
     let move = c.one_move-weights.ensures in
-    let carry = c.carry_scores-next.ensures.scores in (
+    let carry = c.carry_scores.ensures.scores in (
       table,
       (
         moved_good table here (sym c.goes_on.ensures ∙ c.loop-scores-test.true) stepped (omega (arith, here.paired)) _ move (omega (arith, here.paired)),
@@ -70,7 +70,7 @@ loop-scores-preserved c =
     let here = c.loop-scores.invariant.0 in
     let stepped = c.transfer_of-t.ensures in
     let move = c.one_move-weights.ensures in
-    let carry = c.carry_scores-next.ensures in (
+    let carry = c.carry_scores.ensures in (
       again c.requires here (sym c.goes_on.ensures ∙ c.loop-scores-test.true) stepped (omega (arith, here.paired)) _ move (omega (arith, here.paired)) carry.scores refl refl
           c.pair_of_scores-pair-in-loop-scores.ensures,
       carry.columns,

@@ -1,32 +1,25 @@
-use Rattle.std.proofs.Common.{rules}
-use Rattle.std.proofs.lemmas.Bool.{not_from_false, not_from_true}
-use native.Mathlib.Omega.{arith}
-use mir.Syntax.{w64}
+-- `envelope::centre_within` meets its contract: the test of the elements one after another is that of the places.
+use Rattle.std.specs.Prelude.{ℕ, zero, suc, Bool, ◌≡◌, ◌≤◌, ◌&&◌, refl, List, ℤ, pos, nat_abs, leb, get_or, length}
+use Rattle.std.proofs.Common.{◌∙◌, ap, arith, rules, take, add-one}
+use Rattle.std.specs.List.{list_all}
+use Rattle.std.proofs.lemmas.Iterator.{YieldsList-from_slice}
+use Rattle.std.proofs.lemmas.Iterator.Search.{all_from_yields_List}
+use Rattle.std.proofs.lemmas.List.Folds.{list_all_more}
+use Rattle.geometry.specs.Table.{places_within}
 use Rattle.limits.specs.Limits.{total, centre_limit}
-use Rattle.geometry.specs.TableLaws.{places_none, places_next, places_fail, places_done}
 use Rattle.envelope.proofs.centre_within.Goals as goal
 
-pub loop-k-init : goal.loop-k-init
-loop-k-init c = places_none (centre_limit total) c.args.scaled_centre.now c.args.n
+-- the test of one place
+abbrev within : ℕ → ℤ → Bool
+within bound z = leb (nat_abs z) bound
 
-pub returns-then-not-place_within : goal.returns-then-not-place_within
-returns-then-not-place_within c =
-    let s = c.args in
-    let l = c.loop-k in
-    let t = c.place_within in
-    places_fail (centre_limit total) s.scaled_centre.now s.n w64 l.k
-    (omega arith) (search rules) t.result t.ensures (not_from_false _ c.if-not-place_within.true)
-
-pub loop-k-preserved : goal.loop-k-preserved
-loop-k-preserved c =
-    let s = c.args in
-    let l = c.loop-k in
-    let t = c.place_within in
-    places_next (centre_limit total) s.scaled_centre.now s.n w64 l.k
-    (omega arith) (search rules) t.result t.ensures l.invariant (not_from_true _ c.if-not-place_within.false)
+all-places : (bound c : ℕ) (l : List ℤ) → c ≤ length l → list_all (within bound) (take c l) ≡ places_within bound c l
+unfolding places_within
+all-places bound zero l h = refl
+all-places bound (suc c) l h =
+    rw (← add-one c) (list_all_more (within bound) l c (pos 0) (omega arith)) ∙ ap (λ b. b && within bound (get_or l c (pos 0))) (all-places bound c l (omega arith))
 
 pub returns : goal.returns
 returns c =
-    let s = c.args in
-    let l = c.loop-k in
-    places_done (centre_limit total) s.scaled_centre.now s.n l.k l.invariant (omega arith)
+    all_from_yields_List (within (centre_limit total)) _ _ c.all.result c.all.ensures.ran (YieldsList-from_slice (take c.args.n c.args.scaled_centre.now) (search rules)) (λ x b q k. search rules)
+    ∙ all-places (centre_limit total) c.args.n c.args.scaled_centre.now c.requires

@@ -7,5 +7,5 @@ use Rattle.envelope.proofs.figures_known.Goals as goal
 
 pub returns : goal.returns
 returns c =
-    own_lent (figures_known total channel_types) c.args.figures c.scalars_of.ensures
+    own_lent (figures_known total channel_types) c.args.figures c.scalars.ensures
     c.figures_known_lent.ensures

@@ -1,5 +1,4 @@
--- The loop fills an array of 0 place by place, up to n; what is left of the places falls.
-use Prim.Native.Nat.{◌-◌}
+-- The loop fills an array of 0 place by place, up to n.
 use lib.IntN.{pos}
 use lib.ListN.{replicate}
 use Rattle.limits.specs.Limits.{channel_limit}
@@ -8,6 +7,3 @@ use Rattle.export_record.proofs.centre_kept.Given as goal
 
 abbrev pub invariant-loop-channel : goal.invariant-loop-channel
 invariant-loop-channel l = Filling (replicate channel_limit (pos 0)) l.scaled_centre l.n l.kept l.channel
-
-abbrev pub decreases-loop-channel : goal.decreases-loop-channel
-decreases-loop-channel l = channel_limit - l.channel

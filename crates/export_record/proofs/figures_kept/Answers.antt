@@ -4,7 +4,6 @@ use mathlib.Core.Path.{◌≡◌}
 use mathlib.Core.List.{List}
 use lib.IntN.{ℤ}
 use Rattle.ball.specs.Ball.{filled_ball}
-use Rattle.ball.specs.declared.Ball.{Ball}
 use Rattle.envelope.specs.Figures.{figures_of}
 use Rattle.envelope.specs.declared.Figures.{Figures}
 use Rattle.envelope.specs.declared.Scalars.{Scalars}
@@ -12,13 +11,11 @@ use Rattle.export_figures.specs.Clauses.{scalars_given, figures_given}
 use Rattle.export_figures.specs.declared.FiguresGiven.{FiguresGiven}
 use Rattle.export_record.proofs.figures_kept.Goals as goal
 
--- the figures r that are made of the parts s, b, codes and X
-made : (given : FiguresGiven) {s : Scalars} {b : Ball} {codes codes' : List ℕ} {X X' : List ℤ} {r : Figures} → s ≡ scalars_given given
-    → codes ≡ codes' → X ≡ X' → b ≡ filled_ball X s.scaled_squared_radius s.scaled_lower_bound s.settled
-    → r ≡ figures_of given.n codes b s.moves → r ≡ figures_given given codes' X'
-made given numbers coded placed ball figures = cc
+-- the figures r that are made of the parts s, codes and X
+made : (given : FiguresGiven) {s : Scalars} {codes codes' : List ℕ} {X X' : List ℤ} {r : Figures} → s ≡ scalars_given given
+    → codes ≡ codes' → X ≡ X' → r ≡ figures_of given.n codes (filled_ball X s.scaled_squared_radius s.scaled_lower_bound s.settled) s.moves
+    → r ≡ figures_given given codes' X'
+made given numbers coded placed figures = cc
 
 pub returns : goal.returns
-returns c =
-    made c.args.given c.scalars_given-scalars.ensures c.fill_codes.ensures
-    c.centre_kept-kept_centre.ensures c.filled_ball-ball.ensures c.filled_figures.ensures
+returns c = made c.args.given c.scalars-scalars.ensures c.fill.ensures c.centre_kept-kept_centre.ensures c.new.ensures

@@ -3,9 +3,10 @@ use mathlib.Core.Path.{◌≡◌, refl, sym, ap, ap₂, ◌∙◌}
 use mathlib.Core.List.{List, [], ◌∷◌, ◌++◌}
 use native.Mathlib.Omega.{arith}
 use lib.IntN.{pos}
-use lib.ListN.{length, get_or, set, take, length-set}
+use lib.ListN.{length, get_or, set, take}
 use lib.Seq.{length-take-le}
 use mir.Syntax.{w64}
+use Rattle.std.proofs.Common.{get_or-take}
 use mir.Val.{to_z}
 use Rattle.integers.specs.Absolute.{fits64}
 use Rattle.limits.specs.Limits.{channel_limit}
@@ -49,26 +50,27 @@ put_numbers-from-requires c =
     let n = c.args.n in
     (omega arith, (held_below (n ∷ []) (alone (2 ^ 63) n (omega arith)), omega arith))
 
-pub loop-i-init : goal.loop-i-init
-loop-i-init c =
+pub loop-code-init : goal.loop-code-init
+loop-code-init c =
     let first = counted c.args.n (omega arith) c.args.word.now c.put_numbers-from.ensures in
-    (omega arith, omega arith, put_as (put_none _ _) (sym (tags_first channel_types)) refl)
+    (omega arith, put_as (put_none _ _) (sym (tags_first channel_types)) refl)
 
-pub put_tag-from-requires : goal.put_tag-from-requires
-put_tag-from-requires c = omega (arith, length-set c.loop-i.out c.loop-i.from comma)
-
-pub loop-i-preserved : goal.loop-i-preserved
-loop-i-preserved c =
-    let more = tag-more c.args.codes.now c.loop-i.i (omega arith) (omega arith) c.loop-i.invariant.2 c.put_tag-from.ensures in
-    (omega arith, omega arith, more.1)
+pub loop-code-preserved : goal.loop-code-preserved
+loop-code-preserved c =
+    let all = length-take-le c.args.n c.args.codes.now (omega arith) in
+    let i = c.loop-code.code-index in
+    let printed = put_as c.put_tag-from.ensures (ap (tag_of channel_types) (get_or-take c.args.n c.args.codes.now i 0 (omega arith))) refl in
+    let more = tag-more c.args.codes.now i (omega arith) (omega arith) c.loop-code.invariant.1 printed in
+    (omega arith, more.1)
 
 pub returns : goal.returns
 returns c =
-    let all : c.loop-i.i ≡ c.args.n = omega arith in
+    let all = length-take-le c.args.n c.args.codes.now (omega arith) in
+    let done : c.loop-code.code-index ≡ c.args.n = omega arith in
     let codes = take c.args.n c.args.codes.now in
-    let n : c.args.n ≡ length codes = sym (length-take-le _ _ (omega arith)) in
+    let n : c.args.n ≡ length codes = sym all in
     let word = c.args.word.now in
     let first = counted c.args.n (omega arith) word c.put_numbers-from.ensures in
-    put_as (put_then first.1 c.loop-i.invariant.2)
-    (ap₂ (λ k j. numbers_after word (pos k ∷ []) ++ tags_after channel_types (take j c.args.codes.now)) n all
+    put_as (put_then first.1 c.loop-code.invariant.1)
+    (ap₂ (λ k j. numbers_after word (pos k ∷ []) ++ tags_after channel_types (take j c.args.codes.now)) n done
     ∙ heading-after channel_types word codes) refl

@@ -11,8 +11,9 @@ use Rattle.text.specs.Parts.{comma, cut, parts_from}
 use Rattle.text.specs.PartsLaws.{parts_none, parts_from_lem, first_part_from}
 use Rattle.channel.specs.Channel.{channel_types}
 use Rattle.heading.specs.Clauses.{heading_read, tags_read}
-use Rattle.heading.proofs.HeadingSteps.{count_most, heading_other_word, heading_short, heading_no_count, heading_tags}
+use Rattle.heading.proofs.HeadingSteps.{no_count, some_count, count_most, heading_other_word, heading_short, heading_no_count, heading_tags}
 use Rattle.heading.proofs.read_heading.Goals as goal
+use Rattle.heading.proofs.read_heading.Goals.{then-not-same_bytes-via-then-not-same_bytes, then-not-same_bytes-via-else-not-same_bytes+then-line-at}
 
 first : {line : List ℕ} {end : ℕ} → PartEnd comma line 0 end → cut comma line ≡ take end line ∷ parts_from comma line (end + 1)
 first = first_part_from comma _ _
@@ -27,32 +28,32 @@ slice_bounds-same_bytes-end c = sym (length-take-le _ _ c.field_end-word_end.ens
 
 pub returns-then-not-same_bytes : goal.returns-then-not-same_bytes
 returns-then-not-same_bytes c =
-    c.no_heading.ensures
-    ∙ sym (ap heading_read (heading_other_word c.args.word.now channel_limit channel_types _ (first c.field_end-word_end.ensures)
-    (sym c.same_bytes.ensures ∙ c.if-not-same_bytes.true)))
-
-pub returns-then-line-at : goal.returns-then-line-at
-returns-then-line-at c =
     let line = c.args.line.now in
     let end = c.field_end-word_end.result in
-    c.no_heading-then-line-at.ensures
-    ∙ sym (ap heading_read (heading_short c.args.word.now channel_limit channel_types _
-    (first c.field_end-word_end.ensures ∙ ap (λ l. take end line ∷ l) (parts_none comma line (end + 1) c.if-line-at.true))))
+    elim c.then-not-same_bytes.branch [
+      | then-not-same_bytes-via-then-not-same_bytes w ↦
+          sym (ap heading_read (heading_other_word c.args.word.now channel_limit channel_types _ (first c.field_end-word_end.ensures)
+          (sym c.same_bytes.ensures ∙ w.if-not-same_bytes.true)))
+      | then-not-same_bytes-via-else-not-same_bytes+then-line-at w ↦
+          sym (ap heading_read (heading_short c.args.word.now channel_limit channel_types _
+          (first c.field_end-word_end.ensures ∙ ap (λ l. take end line ∷ l) (parts_none comma line (end + 1) w.if-line-at.true))))
+    ]
 
-pub returns-then-n-eq0 : goal.returns-then-n-eq0
-returns-then-n-eq0 c =
-    c.no_heading-then-n-eq0.ensures
+pub returns-in_err-n : goal.returns-in_err-n
+returns-in_err-n c =
+    c.from_residual.ensures
     ∙ sym (ap heading_read (heading_no_count c.args.word.now channel_limit channel_types _ (fields c.field_end-word_end.ensures c.if-line-at.false c.field_end-count_end.ensures)
-    (sym c.stated_count-n.ensures ∙ c.if-n-eq0.true)))
+    (no_count channel_limit _ c.in_err-n.ensures)))
 
 pub read_tags-requires : goal.read_tags-requires
-read_tags-requires c = rw c.stated_count-n.ensures (count_most channel_limit _)
+read_tags-requires c = rw (← (some_count channel_limit _ c.in_ok-n.ensures).0) (count_most channel_limit _)
 
 pub returns : goal.returns
 returns c =
     let line = c.args.line.now in
+    let count = some_count channel_limit _ c.in_ok-n.ensures in
     c.read_tags.ensures
-    ∙ ap (λ n. tags_read channel_types n (parts_from comma line (c.field_end-count_end.result + 1))) c.stated_count-n.ensures
+    ∙ ap (λ n. tags_read channel_types n (parts_from comma line (c.field_end-count_end.result + 1))) (sym count.0)
     ∙ sym (heading_tags c.args.word.now channel_limit channel_types _ (fields c.field_end-word_end.ensures c.if-line-at.false c.field_end-count_end.ensures)
     (sym c.same_bytes.ensures ∙ c.if-not-same_bytes.false)
-    (λ z. c.if-n-eq0.false (c.stated_count-n.ensures ∙ z)))
+    (λ z. count.1 (sym count.0 ∙ z)))

@@ -1,4 +1,4 @@
-use mathlib.Core.Path.{sym, ◌∙◌}
+use mathlib.Core.Path.{◌∙◌}
 use Rattle.text.specs.Parts.{comma, parts_from}
 use Rattle.text.specs.PartsLaws.{parts_none, parts_some, parts_from_lem}
 use Rattle.channel.specs.Channel.{channel_types}
@@ -11,23 +11,20 @@ unfolding padded
 loop-i-init c = tags_none channel_types c.args.n (parts_from comma c.args.line.now c.args.at)
 
 pub returns-then-line-from : goal.returns-then-line-from
-returns-then-line-from c = c.no_heading.ensures ∙ tags_few c.loop-i.invariant c.loop-i-test.true (parts_none comma _ _ c.if-line-from.true)
+returns-then-line-from c = tags_few c.loop-i.invariant c.loop-i-test.true (parts_none comma _ _ c.if-line-from.true)
 
-pub returns-then-code-eq0 : goal.returns-then-code-eq0
-returns-then-code-eq0 c =
-    c.no_heading-then-code-eq0.ensures
-    ∙ tags_unknown c.loop-i.invariant (parts_from_lem comma _ _ _ c.if-line-from.false c.field_end-end.ensures)
-    (sym c.find_tag-code.ensures ∙ c.if-code-eq0.true)
+pub returns-in_err-code : goal.returns-in_err-code
+returns-in_err-code c =
+    c.from_residual.ensures
+    ∙ tags_unknown c.loop-i.invariant (parts_from_lem comma _ _ _ c.if-line-from.false c.field_end-end.ensures) c.in_err-code.ensures
 
 pub loop-i-preserved : goal.loop-i-preserved
 loop-i-preserved c =
     tags_next c.loop-i.invariant c.requires c.loop-i-test.true
-    (parts_from_lem comma _ _ _ c.if-line-from.false c.field_end-end.ensures) c.find_tag-code.ensures c.if-code-eq0.false
+    (parts_from_lem comma _ _ _ c.if-line-from.false c.field_end-end.ensures) c.in_ok-code.ensures
 
 pub returns-then-from-line : goal.returns-then-from-line
-returns-then-from-line c =
-    let more = parts_some comma _ _ c.if-from-line.true in
-    c.no_heading-then-from-line.ensures ∙ tags_many c.loop-i.invariant c.loop-i-test.false more.2
+returns-then-from-line c = tags_many c.loop-i.invariant c.loop-i-test.false (parts_some comma _ _ c.if-from-line.true).2
 
 pub returns : goal.returns
 returns c = tags_done c.loop-i.invariant c.loop-i-test.false (parts_none comma _ _ c.if-from-line.false)

@@ -1,6 +1,5 @@
 -- The loop's invariant: the codes of the tags so far stand in the first places, and the codes of all are they with those of the
--- fields from here on. A field that is missing, unknown or too many decides the answer. What is left of n falls.
-use Prim.Native.Nat.{◌-◌}
+-- fields from here on. A field that is missing, unknown or too many decides the answer.
 use Rattle.text.specs.Parts.{comma, parts_from}
 use Rattle.channel.specs.Channel.{channel_types}
 use Rattle.heading.proofs.HeadingSteps.{TagsSoFar}
@@ -8,6 +7,3 @@ use Rattle.heading.proofs.read_tags.Given as goal
 
 abbrev pub invariant-loop-i : goal.invariant-loop-i
 invariant-loop-i l = TagsSoFar channel_types l.n (parts_from comma l.line l.at) (parts_from comma l.line l.from) l.codes l.i
-
-abbrev pub decreases-loop-i : goal.decreases-loop-i
-decreases-loop-i l = l.n - l.i

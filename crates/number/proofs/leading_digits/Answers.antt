@@ -22,26 +22,27 @@ ended line at i n within most ends is h =
     record { is = sym (is ∙ none.0); ends = omega (arith, ends, none.1); high = within }
 
 pub loop-i-init : goal.loop-i-init
-loop-i-init c = (omega arith, omega arith, refl, refl)
+loop-i-init c = (omega arith, refl, refl)
 
 pub returns-then-not-is_digit : goal.returns-then-not-is_digit
 returns-then-not-is_digit c =
     let k = c.loop-i.invariant in
-    ended _ _ _ _ k.0 k.1 k.2 k.3 (λ _. sym c.is_digit.ensures ∙ c.if-not-is_digit.true)
+    ended _ _ _ _ (omega arith) k.0 k.1 k.2 (λ _. sym c.is_digit.ensures ∙ c.if-not-is_digit.true)
 
 pub with_digit-magnitude-requires : goal.with_digit-magnitude-requires
 with_digit-magnitude-requires c =
     let tests = both _ _ (sym c.is_digit.ensures ∙ c.if-not-is_digit.false) in
-    (c.loop-i.invariant.1, leb-true _ _ tests.0, leb-true _ _ tests.1)
+    (c.loop-i.invariant.0, leb-true _ _ tests.0, leb-true _ _ tests.1)
 
 pub loop-i-preserved : goal.loop-i-preserved
 loop-i-preserved c =
     let more =
     digits_more c.args.line.now c.loop-i.i c.loop-i.magnitude c.with_digit-magnitude.result
     c.loop-i-test.true (sym c.is_digit.ensures ∙ c.if-not-is_digit.false) c.with_digit-magnitude.ensures in
-    (omega arith, omega (arith, c.with_digit-magnitude.ensures), c.loop-i.invariant.2 ∙ omega (arith, more.1), c.loop-i.invariant.3 ∙ more.0)
+    (omega (arith, c.with_digit-magnitude.ensures), c.loop-i.invariant.1 ∙ omega (arith, more.1), c.loop-i.invariant.2 ∙ more.0)
 
 pub returns : goal.returns
 returns c =
     let k = c.loop-i.invariant in
-    ended _ _ _ _ k.0 k.1 k.2 k.3 (λ h. absurd (omega arith))
+    let end : length c.args.line.now ≡ c.loop-i.i = omega arith in
+    rw end (ended _ _ c.loop-i.i _ (omega arith) k.0 k.1 k.2 (λ h. absurd (omega arith)))

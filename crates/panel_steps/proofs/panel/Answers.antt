@@ -7,5 +7,5 @@ use Rattle.panel_steps.proofs.panel.Goals as goal
 
 pub returns : goal.returns
 returns c =
-    own_lent (panel_shown total channel_types) c.args.figures c.scalars_of.ensures
+    own_lent (panel_shown total channel_types) c.args.figures c.scalars.ensures
     c.panel_lent.ensures

@@ -1,6 +1,5 @@
--- `panel_steps::steps_of` meets its contract. The loop's invariant: the places passed hold their channels' steps, the others 0. The measure
--- is what is left of the channels.
-use Prim.Native.Nat.{ℕ, ◌-◌, ◌≤◌}
+-- `panel_steps::steps_of` meets its contract. The loop's invariant: the places passed hold their channels' steps, the others 0.
+use Prim.Native.Nat.{ℕ}
 use mathlib.Core.Path.{◌≡◌}
 use mathlib.Core.List.{List}
 use lib.IntN.{ℤ}
@@ -13,7 +12,4 @@ abbrev pub stepsIn : List ℤ → ℕ → ℤ
 stepsIn x k = nearest_step total (centre_of x k)
 
 abbrev pub invariant-loop-k : goal.invariant-loop-k
-invariant-loop-k l = (l.k ≤ l.n) × (l.steps ≡ centre_list l.k (stepsIn l.scaled_centre))
-
-abbrev pub decreases-loop-k : goal.decreases-loop-k
-decreases-loop-k l = l.n - l.k
+invariant-loop-k l = l.steps ≡ centre_list l.k (stepsIn l.scaled_centre)

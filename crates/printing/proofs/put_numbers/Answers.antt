@@ -3,8 +3,10 @@ use mathlib.Core.Path.{◌≡◌, refl, sym, ap, ◌∙◌}
 use mathlib.Core.List.{List, []}
 use native.Mathlib.Omega.{arith}
 use lib.IntN.{ℤ, pos, nat_abs}
-use lib.ListN.{length, get_or, set, take, length-set}
+use lib.ListN.{length, get_or, set, take}
+use lib.Seq.{length-take-le}
 use mir.Syntax.{w64}
+use Rattle.std.proofs.Common.{get_or-take}
 use Rattle.integers.specs.Absolute.{back64}
 use Rattle.integers.specs.Reading.{back}
 use Rattle.text.specs.Parts.{comma}
@@ -27,24 +29,21 @@ module _ (numbers : List ℤ) (i : ℕ) (h : i < length numbers) (most : nat_abs
             (sym (numbers_more [] (take i numbers) z) ∙ ap (numbers_after []) (take_next numbers i (pos 0) h)) refl,
       )
 
-pub loop-i-init : goal.loop-i-init
-loop-i-init c = (omega arith, omega arith, put_as (put_none _ _) (sym (numbers_none [])) refl)
+pub loop-number-init : goal.loop-number-init
+loop-number-init c = (omega arith, put_as (put_none _ _) (sym (numbers_none [])) refl)
 
-pub put_number-from-requires : goal.put_number-from-requires
-put_number-from-requires c =
-    let most = c.requires.1.0 c.loop-i.i c.loop-i-test.true in
-    let number = get_or c.args.numbers.now c.loop-i.i (pos 0) in
-    (omega (arith, ap nat_abs (back64 number most)), omega (arith, length-set c.loop-i.out c.loop-i.from comma))
-
-pub loop-i-preserved : goal.loop-i-preserved
-loop-i-preserved c =
-    let most = c.requires.1.0 c.loop-i.i c.loop-i-test.true in
-    let printed = c.put_number-from.ensures in
-    let more = number_more c.args.numbers.now c.loop-i.i (omega arith) most (omega arith) c.loop-i.invariant.2 printed in
-    (omega arith, omega arith, more.1)
+pub loop-number-preserved : goal.loop-number-preserved
+loop-number-preserved c =
+    let all = length-take-le c.args.count c.args.numbers.now c.requires.0 in
+    let i = c.loop-number.number-index in
+    let printed = rw (get_or-take c.args.count c.args.numbers.now i (pos 0) (omega arith)) at c.put_number-from.ensures in
+    let more =
+    number_more c.args.numbers.now i (omega arith) (c.requires.1.0 i (omega arith)) (omega arith) c.loop-number.invariant.1 printed in
+    (omega arith, more.1)
 
 pub returns : goal.returns
 returns c =
-    let all : c.loop-i.i ≡ c.args.count = omega arith in
-    put_as (put_then c.put_bytes-from.ensures c.loop-i.invariant.2)
-    (numbers_after_lem _ _ ∙ ap (λ (j : ℕ). numbers_after c.args.word.now (take j c.args.numbers.now)) all) refl
+    let all = length-take-le c.args.count c.args.numbers.now c.requires.0 in
+    let done : c.loop-number.number-index ≡ c.args.count = omega arith in
+    put_as (put_then c.put_bytes-from.ensures c.loop-number.invariant.1)
+    (numbers_after_lem _ _ ∙ ap (λ (j : ℕ). numbers_after c.args.word.now (take j c.args.numbers.now)) done) refl

@@ -1,13 +1,10 @@
--- `printing::put_numbers` meets its contract. The loop's invariant: the word and the first i numbers are printed, each number in
--- its room. The measure is how many numbers are left.
-use Prim.Native.Nat.{◌+◌, ◌-◌, ◌*◌, ◌≤◌}
+-- `printing::put_numbers` meets its contract. The loop's invariant: the word and the numbers so far are printed, each number in
+-- its room.
+use Prim.Native.Nat.{◌+◌, ◌*◌, ◌≤◌}
 use mathlib.Core.List.{[]}
 use lib.ListN.{take}
 use Rattle.printing.specs.Clauses.{field_room, numbers_after, Put}
 use Rattle.printing.proofs.put_numbers.Given as goal
 
-abbrev pub invariant-loop-i : goal.invariant-loop-i
-invariant-loop-i l = (l.i ≤ l.count) × (l.from ≤ l.initial.from + l.i * field_room) × Put (numbers_after [] (take l.i l.numbers)) l.initial.out l.initial.from l.out l.from
-
-abbrev pub decreases-loop-i : goal.decreases-loop-i
-decreases-loop-i l = l.count - l.i
+abbrev pub invariant-loop-number : goal.invariant-loop-number
+invariant-loop-number l = (l.from ≤ l.initial.from + l.number-index * field_room) × Put (numbers_after [] (take l.number-index l.numbers)) l.initial.out l.initial.from l.out l.from

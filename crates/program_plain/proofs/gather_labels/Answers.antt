@@ -7,7 +7,7 @@ use lib.ListN.{length}
 use Rattle.program_plain.proofs.gather_labels.Goals as goal
 
 pub loop-row-init : goal.loop-row-init
-loop-row-init c = (omega arith, gathering_none)
+loop-row-init c = gathering_none
 
 pub field_end-end-requires : goal.field_end-end-requires
 field_end-end-requires c = c.requires.0.each_start c.loop-row.row c.loop-row-test.true
@@ -18,19 +18,17 @@ put_bytes-length-requires c =
       arith,
       ap length (label-part _ _ _ c.field_end-end.ensures),
       c.requires.0.each_short c.loop-row.row c.loop-row-test.true,
-      c.loop-row.invariant.1.most,
-      c.loop-row.invariant.1.same_labels,
+      c.loop-row.invariant.most,
+      c.loop-row.invariant.same_labels,
       c.requires.0.most,
     )
 
 pub loop-row-preserved : goal.loop-row-preserved
 loop-row-preserved c =
-    let room = c.requires.1.1.0 in (
-      omega arith,
-      gathering_next c.loop-row.invariant.1 (omega (arith, c.loop-row-test.true, room))
-          (c.requires.0.each_short c.loop-row.row c.loop-row-test.true)
-          (put_as c.put_bytes-length.ensures (label-part _ _ _ c.field_end-end.ensures) refl),
-    )
+    let room = c.requires.1.1.0 in
+    gathering_next c.loop-row.invariant (omega (arith, c.loop-row-test.true, room))
+    (c.requires.0.each_short c.loop-row.row c.loop-row-test.true)
+    (put_as c.put_bytes-length.ensures (label-part _ _ _ c.field_end-end.ensures) refl)
 
 pub returns : goal.returns
-returns c = gathering_done c.loop-row.invariant.1 (omega arith) c.requires.0.most (omega arith)
+returns c = gathering_done c.loop-row.invariant (omega arith) c.requires.0.most (omega arith)

@@ -16,7 +16,7 @@ use Rattle.value.specs.ContractLaws.{range_found, value-at}
 use Rattle.value.proofs.ValuesSteps.{read_under, read_malformed, read_told, values_outside, values_within}
 use Rattle.reading_line.proofs.LineSteps.{two_fields, pairs_none, pairs_next, value-here, pairs_malformed, pairs_few, pairs_many, pairs_done}
 use Rattle.reading_line.proofs.read_pairs.Goals as goal
-use Rattle.reading_line.proofs.read_pairs.Goals.{in-OutOfRange, in-Reads}
+use Rattle.reading_line.proofs.read_pairs.Goals.{in-Err-OutOfRange, in-Ok}
 
 pub loop-i-init : goal.loop-i-init
 loop-i-init c =
@@ -31,32 +31,37 @@ returns-then-line-tag c =
     pairs_few c.loop-i.invariant (omega (arith, length-take-le c.args.n c.args.codes.now c.requires.0))
     (last_part_lem comma _ _ _ c.if-line-from.false c.read_tag-tag.ensures.ends (sym c.if-line-tag.true)) (omega arith)
 
-pub read_written_at-written-requires : goal.read_written_at-written-requires
-read_written_at-written-requires c = omega (arith, c.if-line-tag.false, c.read_tag-tag.ensures.ends.high)
+pub read_written_at-field-requires : goal.read_written_at-field-requires
+read_written_at-field-requires c = omega (arith, c.if-line-tag.false, c.read_tag-tag.ensures.ends.high)
 
-pub returns-in-Malformed : goal.returns-in-Malformed
-returns-in-Malformed c =
-    let read = value-at _ (range_found _ _ c.range_of-range.ensures) c.read_written_at-written.ensures c.written_value-value.ensures in
+pub returns-in-Err-Malformed : goal.returns-in-Err-Malformed
+returns-in-Err-Malformed c =
+    let is = rw c.in-Err-Malformed.field-0-is at c.in-Err-Malformed.ensures in
+    let read = value-at _ (range_found _ _ c.range_of-range.ensures) c.read_written_at-field.ensures is in
     pairs_malformed c.loop-i.invariant
     (two_fields _ _ c.if-line-from.false c.read_tag-tag.ensures.ends c.if-line-tag.false read.ends)
-    (read_malformed _ _ (sym c.in-Malformed.is ∙ read_under _ read.is c.range_of-range.ensures))
+    (read_malformed _ _ (read_under _ read.is c.range_of-range.ensures))
 
 pub loop-i-preserved : goal.loop-i-preserved
 loop-i-preserved c =
     let args = c.args in
-    let read = value-at _ (range_found _ _ c.range_of-range.ensures) c.read_written_at-written.ensures c.written_value-value.ensures in
+    let range = range_found _ _ c.range_of-range.ensures in
+    let read = value-at _ range c.read_written_at-field.ensures c.written_value.ensures in
     let tag = c.read_tag-tag.ensures in
     let within : c.loop-i.i < length (take args.n args.codes.now) = omega (arith, length-take-le c.args.n c.args.codes.now c.requires.0) in
     let fields = two_fields _ _ c.if-line-from.false tag.ends c.if-line-tag.false read.ends in
     let code = get_or-take args.n args.codes.now c.loop-i.i 0 c.loop-i-test.true in
     pairs_next c.loop-i.invariant within fields code (ap (λ b. b && c.loop-i.tags_agree) tag.is)
-    (elim c.match-value.branch [
-      | in-OutOfRange w ↦
-          let t = read_told _ _ false (pos 0) (sym w.in-OutOfRange.is ∙ read_under _ read.is c.range_of-range.ensures) in
+    (elim c.match-written_value.branch [
+      | in-Err-OutOfRange w ↦
+          let is = rw w.in-Err-OutOfRange.field-0-is at w.in-Err-OutOfRange.ensures in
+          let here = value-at _ range c.read_written_at-field.ensures is in
+          let t = read_told _ _ false (pos 0) (read_under _ here.is c.range_of-range.ensures) in
           values_outside c.loop-i.invariant.values within (value-here c.loop-i.invariant fields) code t.0 w.places-is w.out_of_range-is
-      | in-Reads w ↦
-          let t = read_told _ _ true w.in-Reads.whole (sym w.in-Reads.is ∙ read_under _ read.is c.range_of-range.ensures) in
-          let fits : SFits w32 w.in-Reads.whole = search rules in
+      | in-Ok w ↦
+          let here = value-at _ range c.read_written_at-field.ensures w.in-Ok.ensures in
+          let t = read_told _ _ true w.in-Ok.whole (read_under _ here.is c.range_of-range.ensures) in
+          let fits : SFits w32 w.in-Ok.whole = search rules in
           values_within c.loop-i.invariant.values within (value-here c.loop-i.invariant fields) code t.0 (to_z-of_z fits ∙ t.1 refl) (omega arith)
           w.places-is w.out_of_range-is
     ])
@@ -81,5 +86,5 @@ returns c =
     pairs_done c.loop-i.invariant true false c.if-not-tags_agree.false c.if-out_of_range.false (omega (arith, length-take-le c.args.n c.args.codes.now c.requires.0))
     (parts_none comma _ _ c.if-from-line.false)
 
-pub written_value-value-requires : goal.written_value-value-requires
-written_value-value-requires c = range_found _ _ c.range_of-range.ensures
+pub written_value-requires : goal.written_value-requires
+written_value-requires c = range_found _ _ c.range_of-range.ensures

@@ -1,7 +1,6 @@
 -- The loop's invariant: the values so far are those of the walk over the values alone, two fields a turn are passed, and the tags
 -- of all agree where those so far do and those of the fields from here on. A field that is missing, too many or no value decides
--- the answer. What is left of n falls.
-use Prim.Native.Nat.{◌-◌}
+-- the answer.
 use lib.ListN.{take}
 use Rattle.text.specs.Parts.{comma, parts_from}
 use Rattle.channel.specs.Channel.{channel_types}
@@ -10,6 +9,3 @@ use Rattle.reading_line.proofs.read_pairs.Given as goal
 
 abbrev pub invariant-loop-i : goal.invariant-loop-i
 invariant-loop-i l = PairsSoFar channel_types (take l.n l.codes) (parts_from comma l.line l.at) (parts_from comma l.line l.from) l.fn.places l.places l.tags_agree l.out_of_range l.i
-
-abbrev pub decreases-loop-i : goal.decreases-loop-i
-decreases-loop-i l = l.n - l.i

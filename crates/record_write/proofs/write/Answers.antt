@@ -7,39 +7,37 @@ use native.Mathlib.Omega.{arith}
 use borrow.Author.Rules.{rules}
 use lib.ListN.{length}
 use lib.Seq.{length-take-le}
-use Rattle.lent.specs.Filled.{filled}
-use Rattle.refusal.specs.Outcome.{number_of}
+use Rattle.lent.specs.Filled.{filled, filled-refused}
+use Rattle.refusal.specs.Outcome.{number_of, outcome_of, refusal_outcome}
+use Rattle.refusal.specs.OutcomeLaws.{kind_nonzero}
+use Rattle.refusal.specs.declared.Refusal.{Refusal}
 use Rattle.limits.specs.Limits.{total, row_limit}
 use Rattle.channel.specs.Channel.{channel_types}
 use Rattle.record_print.specs.Printed.{record_text}
-use Rattle.lent.specs.Clauses.{text_written}
+use Rattle.lent.specs.Clauses.{not_written, text_outcome, text_written}
 use Rattle.record_write.specs.WriteLaws.{within_printing, outside_figures, outside_rows, refused-writing, writing_agreed}
 use Rattle.record_write.proofs.WriteSteps.{printed-text, printed_fits}
-use Rattle.lent.specs.ContractLaws.{buffer_left}
 use Rattle.record_write.proofs.write.Goals as goal
+use Rattle.record_write.proofs.write.Goals.{
+  then-not-figures_known-via-then-not-figures_known,
+  then-not-figures_known-via-else-not-figures_known+then-not-rows_within,
+}
 
 pub returns-then-not-figures_known : goal.returns-then-not-figures_known
 returns-then-not-figures_known c =
     let args = c.args in
-    let e = c.not_written.ensures in
     record {
       answer =
-          e
-          ∙ sym (outside_figures total row_limit channel_types args.rows.now args.m args.envelope (length args.buffer.now)
-          (sym c.figures_known.ensures ∙ c.if-not-figures_known.true));
-      buffer_filled = buffer_left c.not_written.result 7 (record_text channel_types args.envelope) args.buffer.now e;
-    }
-
-pub returns-then-not-rows_within : goal.returns-then-not-rows_within
-returns-then-not-rows_within c =
-    let args = c.args in
-    let e = c.not_written-then-not-rows_within.ensures in
-    record {
-      answer =
-          e
-          ∙ sym (outside_rows total row_limit channel_types args.rows.now args.m args.envelope (length args.buffer.now)
-          (sym c.figures_known.ensures ∙ c.if-not-figures_known.false) (sym c.rows_within.ensures ∙ c.if-not-rows_within.true));
-      buffer_filled = buffer_left c.not_written-then-not-rows_within.result 7 (record_text channel_types args.envelope) args.buffer.now e;
+          ap (λ (r : Refusal). not_written (refusal_outcome r)) c.into.ensures
+          ∙ elim c.then-not-figures_known.branch [
+            | then-not-figures_known-via-then-not-figures_known w ↦
+                sym (outside_figures total row_limit channel_types args.rows.now args.m args.envelope (length args.buffer.now)
+                (sym c.figures_known.ensures ∙ w.if-not-figures_known.true))
+            | then-not-figures_known-via-else-not-figures_known+then-not-rows_within w ↦
+                sym (outside_rows total row_limit channel_types args.rows.now args.m args.envelope (length args.buffer.now)
+                (sym c.figures_known.ensures ∙ w.if-not-figures_known.false) (sym w.rows_within.ensures ∙ w.if-not-rows_within.true))
+          ];
+      buffer_filled = filled-refused _ 0 (record_text channel_types args.envelope) args.buffer.now (kind_nonzero c.into.result.kind);
     }
 
 pub agrees-requires : goal.agrees-requires
@@ -48,14 +46,13 @@ agrees-requires c = sym c.rows_within.ensures ∙ c.if-not-rows_within.false
 pub returns-then-not-agrees : goal.returns-then-not-agrees
 returns-then-not-agrees c =
     let args = c.args in
-    let e = c.not_written-then-not-agrees.ensures in
     record {
       answer =
-          e
+          ap (λ (r : Refusal). not_written (refusal_outcome r)) c.into-then-not-agrees.ensures
           ∙ sym (refused-writing total row_limit channel_types args.rows.now args.m args.envelope (length args.buffer.now)
           (sym c.figures_known.ensures ∙ c.if-not-figures_known.false) (sym c.rows_within.ensures ∙ c.if-not-rows_within.false)
           (sym c.agrees.ensures ∙ c.if-not-agrees.true));
-      buffer_filled = buffer_left c.not_written-then-not-agrees.result 11 (record_text channel_types args.envelope) args.buffer.now e;
+      buffer_filled = filled-refused _ 0 (record_text channel_types args.envelope) args.buffer.now (kind_nonzero c.into-then-not-agrees.result.kind);
     }
 
 -- there is a weight for each row
@@ -87,5 +84,7 @@ returns c =
             rows_kept = sym c.rows_within.ensures ∙ c.if-not-rows_within.false;
             agreeing = sym c.agrees.ensures ∙ c.if-not-agrees.false;
           }));
-      buffer_filled = handed.buffer_filled ∙ ap (λ (l : List ℕ). filled (number_of answer.outcome) answer.length l args.buffer.now) text;
+      buffer_filled =
+          handed.buffer_filled
+          ∙ ap (λ (l : List ℕ). filled (number_of (outcome_of answer)) (text_outcome answer).length l args.buffer.now) text;
     }

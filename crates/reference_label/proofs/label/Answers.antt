@@ -15,21 +15,27 @@ use Rattle.reference_label.proofs.label.Goals as goal
 inside : (text : List ℕ) (row : ℕ) (p : Part) → p ≡ label_part row_limit channel_types text row → p.start + p.length ≤ length text
 inside text row p is = rw is (label_inside row_limit channel_types text row)
 
-pub overflow_add-end : goal.overflow_add-end
-overflow_add-end c = omega (arith, inside _ _ _ c.label_part-part.ensures)
+pub overflow_add-result : goal.overflow_add-result
+overflow_add-result c = omega (arith, inside _ _ _ c.in-Some.ensures.part)
 
 pub slice_bounds-result-end : goal.slice_bounds-result-end
-slice_bounds-result-end c = omega (arith, inside _ _ _ c.label_part-part.ensures)
+slice_bounds-result-end c = omega (arith, inside _ _ _ c.in-Some.ensures.part)
 
-pub returns : goal.returns
-returns c =
-    let part = c.label_part-part.result in
+pub returns-in-Some : goal.returns-in-Some
+returns-in-Some c =
+    let part = c.in-Some.field-0 in
     let text = c.args.text.now in
     let long : part.start + part.length - part.start ≡ part.length = omega arith in
     let at = c.args.text.ref_ptr.1 in
     record {
-      place = (refl, add_comm part.start at ∙ ap (λ p. at + p.start) c.label_part-part.ensures);
+      place = (refl, add_comm part.start at ∙ ap (λ p. at + p.start) c.in-Some.ensures.part);
       bytes =
           ap (λ k. take k (drop part.start text)) long
-          ∙ ap (λ p. take p.length (drop p.start text)) c.label_part-part.ensures;
+          ∙ ap (λ p. take p.length (drop p.start text)) c.in-Some.ensures.part;
     }
+
+pub returns-in-None : goal.returns-in-None
+returns-in-None c = record {
+  place = (refl, omega (arith, ap (λ p. p.start) c.in-None.ensures.part));
+  bytes = ap (λ p. take p.length (drop p.start c.args.text.now)) c.in-None.ensures.part;
+}

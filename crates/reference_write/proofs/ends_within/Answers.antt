@@ -11,29 +11,27 @@ use Rattle.reference_write.proofs.ends_within.Goals as goal
 pub returns-then-end-reached : goal.returns-then-end-reached
 returns-then-end-reached c =
     let args = c.args in
-    let loop = c.loop-i in
+    let loop = c.loop-end in
     let count = length args.labels.now in
-    let end = get_or args.ends.now loop.i 0 in
+    let end = get_or args.ends.now loop.end-index 0 in
     ap₂ ◌&&◌ (sym (eq-eqb (length args.ends.now) args.m (omega arith)))
     (sym
-    (loop.invariant.1 ∙ reach-at args.ends.now loop.i (omega arith) loop.reached count
-    ∙ ap (λ t. t && ends_reach end (drop (loop.i + 1) args.ends.now) count) (lt-leb loop.reached end c.if-end-reached.true)))
+    (loop.invariant ∙ reach-at args.ends.now loop.end-index (omega arith) loop.reached count
+    ∙ ap (λ t. t && ends_reach end (drop (loop.end-index + 1) args.ends.now) count) (lt-leb loop.reached end c.if-end-reached.true)))
 
-pub loop-i-preserved : goal.loop-i-preserved
-loop-i-preserved c =
+pub loop-end-preserved : goal.loop-end-preserved
+loop-end-preserved c =
     let args = c.args in
-    let loop = c.loop-i in
+    let loop = c.loop-end in
     let count = length args.labels.now in
-    let end = get_or args.ends.now loop.i 0 in (
-      omega arith,
-      loop.invariant.1 ∙ reach-at args.ends.now loop.i (omega arith) loop.reached count
-          ∙ ap (λ t. t && ends_reach end (drop (loop.i + 1) args.ends.now) count) (le-leb loop.reached end (omega arith)),
-    )
+    let end = get_or args.ends.now loop.end-index 0 in
+    loop.invariant ∙ reach-at args.ends.now loop.end-index (omega arith) loop.reached count
+    ∙ ap (λ t. t && ends_reach end (drop (loop.end-index + 1) args.ends.now) count) (le-leb loop.reached end (omega arith))
 
 pub returns : goal.returns
 returns c =
     let args = c.args in
-    let loop = c.loop-i in
+    let loop = c.loop-end in
     sym
     (ap₂ ◌&&◌ (eq-eqb (length args.ends.now) args.m (omega arith))
-    (loop.invariant.1 ∙ reach_done args.ends.now loop.i (omega arith) loop.reached (length args.labels.now)))
+    (loop.invariant ∙ reach_done args.ends.now loop.end-index (omega arith) loop.reached (length args.labels.now)))

@@ -1,29 +1,14 @@
-use Prim.Native.Nat.{ℕ, ◌+◌, ◌-◌, ◌<◌}
-use mathlib.Core.Path.{◌≡◌, refl, ap}
-use mathlib.Core.Bool.{Bool}
-use mathlib.Core.List.{List, map}
-use lib.Dec.{leb}
+-- Each refusal is that of the row at which the walk stops.
+use mathlib.Core.Path.{refl, sym, ◌∙◌}
 use native.Mathlib.Omega.{arith}
-use lib.ListN.{length, get_or, take, drop}
-use Rattle.refusal.specs.declared.Outcome.{Outcome}
+use lib.ListN.{length}
+use Rattle.refusal.specs.declared.Kind.TheVariants.{LineForm, ValueRange, LabelRepeated}
 use Rattle.limits.specs.Limits.{row_limit}
 use Rattle.channel.specs.Channel.{channel_types}
-use Rattle.label.specs.RowLabel.{row_label_key, key_used}
-use Rattle.value.specs.Value.{number}
-use Rattle.value.specs.Values.{values_in_range}
-use Rattle.reference_write.specs.Writing.{Lent, lent_table}
-use Rattle.reference_write.specs.Clauses.{fault_by}
+use Rattle.reference_write.specs.Writing.{lent_table}
 use Rattle.reference_write.specs.LendingLaws.{lending}
-use Rattle.reference_write.proofs.Walk.{heading-within, walk_start, walk_label, walk_places, Turn, turn_room, walk_stops, walk_next, walk_done}
+use Rattle.reference_write.proofs.Walk.{told, found_key, no_key, heading-within, walk_start, walk_label, walk_places, Turn, fault_form, fault_range, fault_repeated, fault_none, turn_room, walk_stops, walk_next, walk_done}
 use Rattle.reference_write.proofs.put_text.Goals as goal
-
--- what a turn learns, from what it calls
-turn_of : (lent : Lent) {keys : List ℕ} {from place i key fault : ℕ} {within repeated : Bool} → i < lent.m
-    → key ≡ row_label_key (take (get_or lent.ends i 0 - from) (drop from lent.labels))
-    → within ≡ values_in_range channel_types (take lent.n lent.codes) (map number (take lent.n (take (place + lent.n - place) (drop place lent.rows))))
-    → repeated ≡ key_used key (take i keys) → fault ≡ fault_by (leb 1 key) within repeated → Turn lent keys from place i key fault
-turn_of lent {within = within} {repeated = repeated} below key values used fault =
-    record { below = below; within = within; repeated = repeated; is_key = key; is_within = values; is_repeated = used; is_fault = fault }
 
 pub put_heading-heading_end-requires : goal.put_heading-heading_end-requires
 put_heading-heading_end-requires c =
@@ -76,32 +61,53 @@ used_of_marked-requires c =
     let walk = c.loop-i.invariant in
     (omega (arith, walk.key_places, c.loop-i-test.true, facts.table.rows_most), walk.marked)
 
-pub overflow_cast-i : goal.overflow_cast-i
-overflow_cast-i c =
+pub overflow_cast-line : goal.overflow_cast-line
+overflow_cast-line c =
     let facts = lending row_limit channel_types _ c.requires.within in
     omega (arith, c.loop-i-test.true, facts.table.rows_most)
 
-pub overflow_add-i : goal.overflow_add-i
-overflow_add-i c =
+pub overflow_add-line : goal.overflow_add-line
+overflow_add-line c =
     let facts = lending row_limit channel_types _ c.requires.within in
     omega (arith, c.loop-i-test.true, facts.table.rows_most)
 
-pub returns-then-fault-ne0 : goal.returns-then-fault-ne0
-returns-then-fault-ne0 c =
+pub returns-in_default : goal.returns-in_default
+returns-in_default c =
     let facts = lending row_limit channel_types _ c.requires.within in
-    let turn =
-    turn_of (lent_table c.args.rows.now (length c.args.ends.now) c.args.n c.args.codes.now c.args.labels.now c.args.ends.now) c.loop-i-test.true
-    c.row_label_key-key.ensures c.row_in_range-within.ensures c.used_of_marked.ensures c.row_fault-fault.ensures in
-    walk_stops facts c.loop-i.invariant turn _ _ c.if-fault-ne0.true
-    (ap (λ (o : Outcome). record { outcome = o; length = 0 }) c.refused_at.ensures)
+    let turn : Turn (lent_table c.args.rows.now (length c.args.ends.now) c.args.n c.args.codes.now c.args.labels.now c.args.ends.now) c.loop-i.from c.loop-i.i 0 =
+    record { below = c.loop-i-test.true; is_key = sym (no_key _ c.in_default.ensures) } in
+    walk_stops facts c.loop-i.invariant turn _ _ 2 (fault_form facts c.loop-i.invariant turn refl) (told LineForm c.new.ensures)
+
+pub returns-then-not-row_in_range : goal.returns-then-not-row_in_range
+returns-then-not-row_in_range c =
+    let facts = lending row_limit channel_types _ c.requires.within in
+    let found = found_key _ c.in-Some.ensures in
+    let turn : Turn (lent_table c.args.rows.now (length c.args.ends.now) c.args.n c.args.codes.now c.args.labels.now c.args.ends.now) c.loop-i.from c.loop-i.i c.in-Some.key =
+    record { below = c.loop-i-test.true; is_key = found.0 } in
+    let outside = sym c.if-not-row_in_range.true ∙ c.row_in_range.ensures in
+    walk_stops facts c.loop-i.invariant turn _ _ 3 (fault_range facts c.loop-i.invariant turn found.1 outside)
+    (told ValueRange c.new-then-not-row_in_range.ensures)
+
+pub returns-then-used_of_marked : goal.returns-then-used_of_marked
+returns-then-used_of_marked c =
+    let facts = lending row_limit channel_types _ c.requires.within in
+    let found = found_key _ c.in-Some.ensures in
+    let turn : Turn (lent_table c.args.rows.now (length c.args.ends.now) c.args.n c.args.codes.now c.args.labels.now c.args.ends.now) c.loop-i.from c.loop-i.i c.in-Some.key =
+    record { below = c.loop-i-test.true; is_key = found.0 } in
+    let inside = sym c.if-not-row_in_range.false ∙ c.row_in_range.ensures in
+    let used = sym c.if-used_of_marked.true ∙ c.used_of_marked.ensures in
+    walk_stops facts c.loop-i.invariant turn _ _ 4 (fault_repeated facts c.loop-i.invariant turn found.1 inside used)
+    (told LabelRepeated c.new-then-used_of_marked.ensures)
 
 pub put_row-at-requires : goal.put_row-at-requires
 put_row-at-requires c =
     let facts = lending row_limit channel_types _ c.requires.within in
-    let turn =
-    turn_of (lent_table c.args.rows.now (length c.args.ends.now) c.args.n c.args.codes.now c.args.labels.now c.args.ends.now) c.loop-i-test.true
-    c.row_label_key-key.ensures c.row_in_range-within.ensures c.used_of_marked.ensures c.row_fault-fault.ensures in
-    turn_room facts c.loop-i.invariant turn c.if-fault-ne0.false
+    let found = found_key _ c.in-Some.ensures in
+    let turn : Turn (lent_table c.args.rows.now (length c.args.ends.now) c.args.n c.args.codes.now c.args.labels.now c.args.ends.now) c.loop-i.from c.loop-i.i c.in-Some.key =
+    record { below = c.loop-i-test.true; is_key = found.0 } in
+    let inside = sym c.if-not-row_in_range.false ∙ c.row_in_range.ensures in
+    let unused = sym c.if-used_of_marked.false ∙ c.used_of_marked.ensures in
+    turn_room facts c.loop-i.invariant turn (fault_none facts c.loop-i.invariant turn found.1 inside unused)
 
 pub bounds-keys-i : goal.bounds-keys-i
 bounds-keys-i c =
@@ -111,10 +117,12 @@ bounds-keys-i c =
 pub loop-i-preserved : goal.loop-i-preserved
 loop-i-preserved c =
     let facts = lending row_limit channel_types _ c.requires.within in
-    let turn =
-    turn_of (lent_table c.args.rows.now (length c.args.ends.now) c.args.n c.args.codes.now c.args.labels.now c.args.ends.now) c.loop-i-test.true
-    c.row_label_key-key.ensures c.row_in_range-within.ensures c.used_of_marked.ensures c.row_fault-fault.ensures in
-    walk_next facts c.loop-i.invariant turn c.if-fault-ne0.false c.put_row-at.ensures c.mark.ensures
+    let found = found_key _ c.in-Some.ensures in
+    let turn : Turn (lent_table c.args.rows.now (length c.args.ends.now) c.args.n c.args.codes.now c.args.labels.now c.args.ends.now) c.loop-i.from c.loop-i.i c.in-Some.key =
+    record { below = c.loop-i-test.true; is_key = found.0 } in
+    let inside = sym c.if-not-row_in_range.false ∙ c.row_in_range.ensures in
+    let unused = sym c.if-used_of_marked.false ∙ c.used_of_marked.ensures in
+    walk_next facts c.loop-i.invariant turn (fault_none facts c.loop-i.invariant turn found.1 inside unused) c.put_row-at.ensures c.mark.ensures
 
 pub returns : goal.returns
 returns c =

@@ -2,19 +2,21 @@
 -- out from there, or its refusal is answered.
 use Prim.Native.Nat.{ℕ}
 use mathlib.Core.Path.{◌≡◌, sym, ap, ap₂, subst, ◌∙◌}
-use mathlib.Core.Bool.{Bool, true, ◌&&◌}
+use mathlib.Core.Bool.{Bool, true, false, ◌&&◌}
 use mathlib.Core.List.{List}
 use lib.Dec.{eqb}
 use lib.ListN.{length}
 use Rattle.limits.specs.Limits.{row_limit}
-use Rattle.lent.specs.declared.TextWritten.{TextWritten}
 use Rattle.channel.specs.Channel.{channel_types}
 use Rattle.reference_write.specs.Labels.{ends_reach}
 use Rattle.reference_write.specs.Writing.{Lent, lent_table, lent_within, lent_text}
 use Rattle.reference_write.specs.Clauses.{TextPut}
 use Rattle.reference_write.specs.FaultLaws.{lent_within_lem}
 use Rattle.reference_write.proofs.WriteSteps.{outside_written, refused-written, handed-written}
+use Rattle.std.proofs.lemmas.Result.{err_from_is_err_and}
 use Rattle.reference_write.proofs.write.Goals as goal
+use Rattle.reference_write.proofs.write.Goals.{then-not-given_within-via-then-not-given_within, then-not-given_within-via-else-not-given_within+then-not-ends_within}
+use Rattle.lent.specs.Clauses.{TextWritten}
 
 -- the text as it is printed, there being as many ends as rows
 printed : (l : Lent) {out : List ℕ} {r : TextWritten} → lent_within row_limit channel_types l ≡ true
@@ -27,36 +29,33 @@ printed l {out} {r} within put =
 pub returns-then-not-given_within : goal.returns-then-not-given_within
 returns-then-not-given_within c =
     let args = c.args in
-    let w =
-    outside_written (lent_table args.rows.now args.m args.n args.codes.now args.labels.now args.ends.now) _
-    (ap (λ (t : Bool). t && (eqb (length args.ends.now) args.m && ends_reach 0 args.ends.now (length args.labels.now)))
-    (sym c.given_within.ensures ∙ c.if-not-given_within.true))
-    c.not_written.ensures in
+    let l = lent_table args.rows.now args.m args.n args.codes.now args.labels.now args.ends.now in
+    let outside : lent_within row_limit channel_types l ≡ false =
+    elim c.then-not-given_within.branch [
+      | then-not-given_within-via-then-not-given_within w ↦
+          ap (λ (t : Bool). t && (eqb (length args.ends.now) args.m && ends_reach 0 args.ends.now (length args.labels.now)))
+          (sym c.given_within.ensures ∙ w.if-not-given_within.true)
+      | then-not-given_within-via-else-not-given_within+then-not-ends_within w ↦
+          ap₂ ◌&&◌ (sym c.given_within.ensures ∙ w.if-not-given_within.false) (sym w.ends_within.ensures ∙ w.if-not-ends_within.true)
+    ] in
+    let w = outside_written l args.buffer.now outside c.into.ensures in
     record { answer = w.0; buffer_filled = w.1 }
 
-pub returns-then-not-ends_within : goal.returns-then-not-ends_within
-returns-then-not-ends_within c =
-    let args = c.args in
-    let w =
-    outside_written (lent_table args.rows.now args.m args.n args.codes.now args.labels.now args.ends.now) _
-    (ap₂ ◌&&◌ (sym c.given_within.ensures ∙ c.if-not-given_within.false) (sym c.ends_within.ensures ∙ c.if-not-ends_within.true))
-    c.not_written-then-not-ends_within.ensures in
-    record { answer = w.0; buffer_filled = w.1 }
-
-pub returns-in-Accepted : goal.returns-in-Accepted
-returns-in-Accepted c =
+pub returns-in_err-length : goal.returns-in_err-length
+returns-in_err-length c =
     let args = c.args in
     let l = lent_table args.rows.now args.m args.n args.codes.now args.labels.now args.ends.now in
     let within : lent_within row_limit channel_types l ≡ true =
     ap₂ ◌&&◌ (sym c.given_within.ensures ∙ c.if-not-given_within.false) (sym c.ends_within.ensures ∙ c.if-not-ends_within.false) in
-    let w = handed-written l args.buffer.now (printed l within c.put_text-put.ensures) c.in-Accepted.is c.hand_out.ensures.answer c.hand_out.ensures.buffer_filled in
-    record { answer = w.0; buffer_filled = w.1 }
+    let p = err_from_is_err_and c.from_residual.result c.from_residual.ensures.1 in
+    let w = refused-written l args.buffer.now c.in_err-length.field-0.0 (printed l within c.in_err-length.ensures) in
+    rw (p.1, p.2) record { answer = w.0; buffer_filled = w.1 }
 
-pub returns-in-Refused : goal.returns-in-Refused
-returns-in-Refused c =
+pub returns : goal.returns
+returns c =
     let args = c.args in
     let l = lent_table args.rows.now args.m args.n args.codes.now args.labels.now args.ends.now in
     let within : lent_within row_limit channel_types l ≡ true =
     ap₂ ◌&&◌ (sym c.given_within.ensures ∙ c.if-not-given_within.false) (sym c.ends_within.ensures ∙ c.if-not-ends_within.false) in
-    let w = refused-written l args.buffer.now (printed l within c.put_text-put.ensures) c.in-Refused.is in
+    let w = handed-written l args.buffer.now (printed l within c.in_ok-length.ensures) c.hand_out.result c.hand_out.ensures.answer c.hand_out.ensures.buffer_filled in
     record { answer = w.0; buffer_filled = w.1 }

@@ -1,23 +1,22 @@
-use native.Mathlib.Omega.{arith}
+use Rattle.std.proofs.Common.{arith, lit≤}
 use Rattle.integers.specs.Sum.{square}
 use Rattle.geometry.specs.Figures.{squared_length}
+use Rattle.limits.specs.Limits.{channel_limit}
 use Rattle.integers.specs.Partial.{partial_none, partial_more, partial_all}
 use Rattle.geometry.specs.TableLaws.{centre_held}
 use Rattle.integers.specs.Reading.{passed, given}
-use Rattle.limits.specs.Limits.{channel_limit}
 use Rattle.figures.proofs.bound.squared_length_of_centre.Goals as goal
 
 pub loop-k-init : goal.loop-k-init
 loop-k-init c = partial_none
 
-pub square_of_centre-sum-requires : goal.square_of_centre-sum-requires
-square_of_centre-sum-requires c = passed (centre_held c.requires.0 c.loop-k.k (omega arith))
+pub square-sum-requires : goal.square-sum-requires
+square-sum-requires c = (passed (centre_held c.requires.0 c.loop-k.k (omega arith)), lit≤ tt)
 
 pub loop-k-preserved : goal.loop-k-preserved
 loop-k-preserved c =
     let l = c.loop-k in
-    partial_more 1 l.invariant (omega arith)
-    (given (centre_held c.requires.0 l.k (omega arith)) square c.square_of_centre-sum.ensures)
+    partial_more 1 l.invariant (omega arith) (given (centre_held c.requires.0 l.k (omega arith)) square c.square-sum.ensures)
 
 pub returns : goal.returns
 unfolding squared_length

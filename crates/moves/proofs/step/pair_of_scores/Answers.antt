@@ -27,8 +27,8 @@ nearest_row-near-requires c =
 pub overflow_sub-difference : goal.overflow_sub-difference
 overflow_sub-difference c = near_most c.farthest_row-far.ensures c.nearest_row-near.ensures
 
-pub squared_distance-separation-requires : goal.squared_distance-separation-requires
-squared_distance-separation-requires c =
+pub pair_with-requires : goal.pair_with-requires
+pair_with-requires c =
     let table = c.requires.0 in
     (table-row table _ c.farthest_row-far.ensures.within, table-row table _ c.nearest_row-near.ensures.within)
 
@@ -48,4 +48,4 @@ returns c =
     let gap = ap₂ ◌-◌ (far_score (le_refl total) table good scored.are far-by Near-by far near)
     (near_score (le_refl total) table good scored.are far-by Near-by far near)
     ∙ sym (score_difference total a.m a.n rows w (lit< tt) good.sum table.some_row) in
-    paired (le_refl total) table good scored.are far-by Near-by far near gap c.squared_distance-separation.ensures
+    paired (le_refl total) table good scored.are far-by Near-by far near gap c.pair_with.ensures

@@ -1,19 +1,18 @@
 -- The `R` line is passed by what its reader answers, so that the text is known from the `W` lines on; each return is the first line
 -- that is at fault, or what these lines state beside the figures given.
 use Prim.Native.Nat.{ℕ, ◌+◌, ◌≤◌}
-use mathlib.Core.Path.{◌≡◌, sym, ap, ◌∙◌}
+use mathlib.Core.Path.{◌≡◌, sym, ap}
 use mathlib.Core.List.{List}
 use mathlib.Core.Option.{some}
 use lib.ListN.{length}
+use Rattle.std.proofs.lemmas.Result.{err_from_is_err_and}
 use Rattle.text.specs.Parts.{line_end}
 use Rattle.text.specs.Clauses.{PartEnd}
-use borrow.Author.Tests.{not-true, not-false}
 use lib.IntN.{ℤ}
 use Rattle.text.specs.PartsLaws.{part_at}
 use Rattle.record_lines.specs.Lines.{Result, result_line}
-use Rattle.record_lines.specs.Clauses.{result_read}
 use Rattle.record_form.specs.Clauses.{stated_form}
-use Rattle.record_form.proofs.FormSteps.{AtWeights, line-unended, line_read_lem, at_result, found, not_found, in_form, weights_faulty, rest-stated}
+use Rattle.record_form.proofs.FormSteps.{AtWeights, line-unended, line_read_lem, at_result, no_result, in_form, weights_faulty, rest-stated}
 use Rattle.record_form.proofs.form.read_after_centre.Goals as goal
 
 -- the text past an `R` line in form
@@ -26,33 +25,34 @@ returns-then-end-text c =
     record {
       is = λ codes X count tags point.
           let here = at_result codes X _ _ c.requires in
-          c.faulty.ensures ∙ ap stated_form (sym (line-unended here c.line_end-end.ensures c.if-end-text.true));
+          ap stated_form (sym (line-unended here c.line_end-end.ensures c.if-end-text.true));
     }
 
-pub returns-then-not-result : goal.returns-then-not-result
-returns-then-not-result c =
-    let none = not_found _ (sym (in_form _ _ c.read_result-result.ensures) ∙ not-true _ c.if-not-result.true) in
+pub returns-in_default : goal.returns-in_default
+returns-in_default c =
+    let none = no_result _ c.in_default.ensures in
     record {
       is = λ codes X count tags point.
           let here = at_result codes X _ _ c.requires in
-          c.faulty-then-not-result.ensures ∙ ap stated_form (sym (line_read_lem here c.line_end-end.ensures c.if-end-text.false none));
+          ap stated_form (sym (line_read_lem here c.line_end-end.ensures c.if-end-text.false none));
     }
 
-pub returns-then-line-ne0 : goal.returns-then-line-ne0
-returns-then-line-ne0 c =
-    let result = found _ (sym (in_form _ _ c.read_result-result.ensures) ∙ not-false _ c.if-not-result.false) in
-    record {
+pub returns-in_err-read_weights : goal.returns-in_err-read_weights
+returns-in_err-read_weights c =
+    let result = in_form _ c.in-Some.ensures in
+    let p = err_from_is_err_and c.from_residual.result c.from_residual.ensures.1 in
+    rw (p.1, p.2)
+    (record {
       is = λ codes X count tags point.
           let here = past_result codes X c.requires c.line_end-end.ensures c.if-end-text.false result.1 in
-          c.faulty-then-line-ne0.ensures ∙ ap stated_form (sym (weights_faulty here c.read_weights-line.ensures c.if-line-ne0.true));
-    }
+          ap stated_form (sym (weights_faulty here c.in_err-read_weights.ensures));
+    })
 
 pub returns : goal.returns
 returns c =
-    let result = found _ (sym (in_form _ _ c.read_result-result.ensures) ∙ not-false _ c.if-not-result.false) in
+    let result = in_form _ c.in-Some.ensures in
     record {
       is = λ codes X count tags point.
           let here = past_result codes X c.requires c.line_end-end.ensures c.if-end-text.false result.1 in
-          rest-stated here c.read_weights-line.ensures c.if-line-ne0.false
-          (c.read_result-result.ensures ∙ ap result_read result.1) count tags point;
+          rest-stated here c.in_ok-read_weights.ensures result.2 count tags point;
     }

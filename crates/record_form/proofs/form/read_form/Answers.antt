@@ -10,36 +10,32 @@ use Rattle.record_form.proofs.form.read_form.Goals as goal
 
 pub returns-then-heading_end-text : goal.returns-then-heading_end-text
 returns-then-heading_end-text c =
-    c.faulty.ensures
-    ∙ ap stated_form (sym (line-unended (at-heading channel_types _) c.line_end-heading_end.ensures c.if-heading_end-text.true))
+    ap stated_form (sym (line-unended (at-heading channel_types _) c.line_end-heading_end.ensures c.if-heading_end-text.true))
 
-pub returns-then-n-eq0 : goal.returns-then-n-eq0
-returns-then-n-eq0 c =
-    c.faulty-then-n-eq0.ensures
-    ∙ ap stated_form (sym (heading_read_lem channel_types _ c.line_end-heading_end.ensures c.if-heading_end-text.false
-    (not_headed record_word channel_types _ _ c.read_heading-heading.ensures c.if-n-eq0.true)))
+pub returns-in_default : goal.returns-in_default
+returns-in_default c =
+    ap stated_form (sym (heading_read_lem channel_types _ c.line_end-heading_end.ensures c.if-heading_end-text.false
+    (not_headed record_word channel_types _ c.in_default.ensures)))
 
 pub returns-then-centre_end-text : goal.returns-then-centre_end-text
 returns-then-centre_end-text c =
-    let head = headed record_word channel_types _ _ c.read_heading-heading.ensures c.if-n-eq0.false in
+    let head = headed record_word channel_types _ _ c.in-Some.ensures in
     let here = past_heading_lem channel_types _ c.line_end-heading_end.ensures c.if-heading_end-text.false head in
-    c.faulty-then-centre_end-text.ensures
-    ∙ ap stated_form (sym (line-unended here c.line_end-centre_end.ensures c.if-centre_end-text.true))
+    ap stated_form (sym (line-unended here c.line_end-centre_end.ensures c.if-centre_end-text.true))
 
 pub read_centre-requires : goal.read_centre-requires
-read_centre-requires c = (headed record_word channel_types _ _ c.read_heading-heading.ensures c.if-n-eq0.false).channels
+read_centre-requires c = (headed record_word channel_types _ _ c.in-Some.ensures).channels
 
 pub returns-then-not-read_centre : goal.returns-then-not-read_centre
 returns-then-not-read_centre c =
-    let head = headed record_word channel_types _ _ c.read_heading-heading.ensures c.if-n-eq0.false in
+    let head = headed record_word channel_types _ _ c.in-Some.ensures in
     let here = past_heading_lem channel_types _ c.line_end-heading_end.ensures c.if-heading_end-text.false head in
-    c.faulty-then-not-read_centre.ensures
-    ∙ ap stated_form (sym (line_read_lem here c.line_end-centre_end.ensures c.if-centre_end-text.false
+    ap stated_form (sym (line_read_lem here c.line_end-centre_end.ensures c.if-centre_end-text.false
     (not_found _ (sym c.read_centre.ensures.is ∙ c.if-not-read_centre.true))))
 
 pub returns : goal.returns
 returns c =
-    let head = headed record_word channel_types _ _ c.read_heading-heading.ensures c.if-n-eq0.false in
+    let head = headed record_word channel_types _ _ c.in-Some.ensures in
     let here = past_heading_lem channel_types _ c.line_end-heading_end.ensures c.if-heading_end-text.false head in
     let read = c.read_centre.ensures in
     let centre = found _ (sym read.is ∙ c.if-not-read_centre.false) in

@@ -3,4 +3,4 @@ use Rattle.record_lines.proofs.LineSteps.{centre_read}
 use Rattle.record_lines.proofs.line.read_centre.Goals as goal
 
 pub returns : goal.returns
-returns c = centre_read c.read_numbers-next.ensures
+returns c = rw c.eq.ensures (centre_read c.read_numbers.ensures)

@@ -16,16 +16,16 @@ loop-i-init c = numbers_none c.field_end-word_end.ensures (sym c.same_bytes.ensu
 pub returns-then-line-from : goal.returns-then-line-from
 returns-then-line-from c = numbers_few c.loop-i.invariant c.loop-i-test.true c.if-line-from.true
 
-pub returns-in-Malformed : goal.returns-in-Malformed
-returns-in-Malformed c =
+pub returns-in_err-numbers : goal.returns-in_err-numbers
+returns-in_err-numbers c =
     let read = c.read_number_at-read.ensures in
-    numbers-stop c.loop-i.invariant c.loop-i-test.true c.if-line-from.false read.ends
-    (number_none _ (sym c.in-Malformed.is ∙ read.is))
+    rw c.from_residual.ensures
+    (numbers-stop c.loop-i.invariant c.loop-i-test.true c.if-line-from.false read.ends (number_none _ (sym c.in_err-numbers.was ∙ read.is)))
 
 pub loop-i-preserved : goal.loop-i-preserved
 loop-i-preserved c =
     let read = c.read_number_at-read.ensures in
-    let told = number_some _ _ (sym c.in-Held.is ∙ read.is) in
+    let told = number_some _ _ (sym c.in_ok-numbers.was ∙ read.is) in
     numbers_next_lem c.loop-i.invariant c.loop-i-test.true c.if-line-from.false read.ends
     told.1 (ap (back w64) told.2 ∙ to_z-of_z (held_fits told.0)) (omega arith) refl
 

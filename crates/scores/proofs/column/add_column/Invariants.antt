@@ -1,6 +1,5 @@
--- `scores::column::add_column` meets its contract. The loop's invariant: the first i scores have risen, the others are as they were. The
--- measure is the number of rows left.
-use Prim.Native.Nat.{ℕ, ◌+◌, ◌-◌, ◌*◌, ◌≤◌}
+-- `scores::column::add_column` meets its contract. The loop's invariant: the first i scores have risen, the others are as they were.
+use Prim.Native.Nat.{ℕ, ◌+◌, ◌*◌, ◌≤◌}
 use mathlib.Core.List.{List}
 use lib.ListN.{get_or}
 use Rattle.lists.specs.Placed.{Placed}
@@ -13,6 +12,3 @@ becomes scores columns base t i = score_of scores i + t * get_or columns (base +
 
 abbrev pub invariant-loop-i : goal.invariant-loop-i
 invariant-loop-i l = Placed (becomes l.initial.scores l.columns l.base l.t) 0 l.initial.scores l.scores l.i × (l.i ≤ l.m)
-
-abbrev pub decreases-loop-i : goal.decreases-loop-i
-decreases-loop-i l = l.m - l.i

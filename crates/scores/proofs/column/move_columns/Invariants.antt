@@ -1,5 +1,4 @@
--- `scores::column::move_columns` meets its contract. The loop's invariant: the first scores are moved, the others are as they were. The measure
--- is the number of rows left.
+-- `scores::column::move_columns` meets its contract. The loop's invariant: the first scores are moved, the others are as they were.
 use Prim.Native.Nat.{ℕ, ◌+◌, ◌-◌, ◌*◌, ◌≤◌}
 use mathlib.Core.List.{List}
 use lib.ListN.{get_or}
@@ -13,6 +12,3 @@ becomes scores columns gained lost t i = score_of scores i + t * get_or columns 
 
 abbrev pub invariant-loop-row : goal.invariant-loop-row
 invariant-loop-row l = Placed (becomes l.initial.scores l.columns l.gained l.lost l.t) 0 l.initial.scores l.scores l.row × (l.row ≤ l.m)
-
-abbrev pub decreases-loop-row : goal.decreases-loop-row
-decreases-loop-row l = l.m - l.row

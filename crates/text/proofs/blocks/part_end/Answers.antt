@@ -12,7 +12,7 @@ loop-from-preserved c =
     let args = c.args in (
       omega arith,
       omega arith,
-      end_past args.byte args.text.now c.loop-from.from block_length (omega arith) (sym c.block_free.ensures ∙ c.if-not-block_free.false)
+      end_past args.byte args.text.now c.loop-from.from block_length (omega arith) (sym c.block_free.ensures ∙ c.if-block_free.true)
           ∙ c.loop-from.invariant.2,
     )
 

@@ -1,11 +1,7 @@
--- The first such byte from `at` on is the first one from `from` on, since each byte passed over is another; what is left falls.
-use Rattle.std.proofs.Common.{◌≡◌, ◌+◌, ◌-◌, ◌≤◌}
+-- The first such byte from `at` on is the first one from `from` on, since each byte passed over is another.
+use Rattle.std.proofs.Common.{◌≡◌, ◌+◌}
 use Rattle.text.specs.Bytes.{index_of, slice}
 use Rattle.text.proofs.scan.find.Given as goal
 
 abbrev pub invariant-loop-at : goal.invariant-loop-at
-invariant-loop-at l =
-    (l.from ≤ l.at) × (l.at ≤ l.to) × (l.from + index_of l.byte (slice l.from l.to l.text) ≡ l.at + index_of l.byte (slice l.at l.to l.text))
-
-abbrev pub decreases-loop-at : goal.decreases-loop-at
-decreases-loop-at l = l.to - l.at
+invariant-loop-at l = l.from + index_of l.byte (slice l.from l.to l.text) ≡ l.at + index_of l.byte (slice l.at l.to l.text)

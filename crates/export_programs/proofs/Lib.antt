@@ -1,0 +1,2 @@
+-- What is handed out of a program.
+pub mod Handed
