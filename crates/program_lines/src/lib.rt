@@ -3,7 +3,6 @@
 
 ghost use Rattle.std.specs.Prelude.{◌+◌, ◌^◌, ◌≤◌, ◌<◌, length};
 ghost use Rattle.printing.specs.Clauses.{Put};
-ghost use Rattle.refusal.specs.Outcome.{kind_number};
 ghost use Rattle.reading.specs.Verdict.{verdict_excess, verdict_outcome};
 ghost use Rattle.program_lines.specs.Lines.{print_refusal, print_verdict};
 ghost use Rattle.program_lines.specs.Clauses.{answer_room};
@@ -24,13 +23,12 @@ const QUIET_WORD: [u8; 5] = *b"QUIET";
 const ALARM_WORD: [u8; 5] = *b"ALARM";
 
 // Prints a refusal from index `at` on, and answers the index after it.
-pub fn put_refusal(out: &mut [u8], at: usize, refusal: Refusal) -> usize
+pub fn put_refusal(out: &mut [u8], at: usize, number: u32, line: u32) -> usize
     requires { at + answer_room ≤ length out.old }
     ensures room { result ≤ at + answer_room }
-    ensures line { Put (print_refusal (kind_number refusal.kind) refusal.line) out.old at out.new result }
+    ensures line { Put (print_refusal number line) out.old at out.new result }
 {
-    let number = refusal.number();
-    let numbers = [number as i64, refusal.line as i64];
+    let numbers = [number as i64, line as i64];
     put_line(out, at, &REFUSAL_WORD, &numbers, 2)
 }
 
@@ -44,6 +42,6 @@ pub fn put_verdict(out: &mut [u8], at: usize, verdict: Result<Verdict, Refusal>)
             Verdict::Quiet => put_line(out, at, &QUIET_WORD, &[], 0),
             Verdict::Alarm(excess) => put_line(out, at, &ALARM_WORD, &[excess as i64], 1),
         },
-        Err(refusal) => put_refusal(out, at, refusal),
+        Err(refusal) => put_refusal(out, at, refusal.number(), refusal.line),
     }
 }

@@ -10,7 +10,7 @@ use Rattle.printing.specs.ContractLaws.{put_as}
 use Rattle.printing.specs.UnsignedLaws.{held_below}
 use Rattle.reading.specs.Verdict.{verdict_excess, verdict_outcome, VerdictOutcome, Alarm}
 use Rattle.reading.specs.declared.Verdict.{Verdict}
-use Rattle.program_lines.specs.Lines.{print_verdict}
+use Rattle.program_lines.specs.Lines.{print_refusal, print_verdict}
 use Rattle.program_lines.proofs.LineSteps.{one_below, alarm_put}
 use Rattle.program_lines.proofs.put_verdict.Goals as goal
 
@@ -40,4 +40,6 @@ returns-in-Alarm c =
     put_as (alarm_put c.in-Alarm.excess (small _ _ is c.requires.0) c.put_line-in-Alarm.ensures) (ap print_verdict (sym is)) refl
 
 pub returns-in-Err : goal.returns-in-Err
-returns-in-Err c = put_as c.put_refusal.ensures.line (ap (λ v. print_verdict (verdict_outcome v)) (sym c.in-Err.is)) refl
+returns-in-Err c =
+    put_as c.put_refusal.ensures.line
+    (ap (λ k. print_refusal k c.in-Err.refusal.line) c.number.ensures ∙ ap (λ v. print_verdict (verdict_outcome v)) (sym c.in-Err.is)) refl
