@@ -3,7 +3,7 @@
 #![tactic(auto)]
 
 ghost use Rattle.std.specs.Prelude.{◌≤◌, ◌≡◌, ◌&&◌, leb, length};
-ghost use Rattle.refusal.specs.Outcome.{Accepted, refusal_outcome};
+ghost use Rattle.refusal.specs.Outcome.{number_of, outcome_of, refusal_outcome};
 ghost use Rattle.limits.specs.Limits.{channel_limit};
 ghost use Rattle.lent.specs.Clauses.{with_room, text_outcome};
 ghost use Rattle.lent.specs.Filled.{filled};
@@ -78,9 +78,10 @@ fn both_fit(n: usize, centre_places: usize, m: usize, weights_places: usize) -> 
     n <= centre_places && m <= weights_places
 }
 
-// Hands out an accepted drawing or record. It fills the first n places of `scaled_centre` with X and the first m places of `weights` where
-// both fit, and writes nothing else. Refused: 13.
+// Hands out a drawing or a record. It fills the first n places of `scaled_centre` with X and the first m places of `weights` where
+// accepted and both fit, and writes nothing else. Refused: as answered, then 13.
 pub fn hand_out(
+    answered: Result<(), Refusal>,
     ball: Ball,
     moves: u32,
     drawn: &[u32],
@@ -89,12 +90,15 @@ pub fn hand_out(
     scaled_centre: &mut [i64],
     weights: &mut [u32],
 ) -> EnvelopeAnswer
-    requires { (n ≤ channel_limit) × (m ≤ length drawn.now) }
+    requires { number_of (outcome_of answered) ≡ 0 → (n ≤ channel_limit) × (m ≤ length drawn.now) }
     ensures answer { result ≡ envelope_in_numbers
-        (with_room (leb n (length scaled_centre.old) && leb m (length weights.old)) Accepted) ball moves }
+        (with_room (leb n (length scaled_centre.old) && leb m (length weights.old)) (outcome_of answered)) ball moves }
     ensures centre_filled { scaled_centre.new ≡ filled result.number n ball.scaled_centre scaled_centre.old }
     ensures weights_filled { weights.new ≡ filled result.number m drawn.now weights.old }
 {
+    if let Err(refusal) = answered {
+        return EnvelopeAnswer::from(refusal);
+    }
     if !both_fit(n, scaled_centre.len(), m, weights.len()) {
         return EnvelopeAnswer::from(Refusal::new(Kind::BufferShort, 0));
     }

@@ -68,6 +68,7 @@ pub fn draw(
 {
     match drawing::draw(rows, m, n, budget) {
         Ok(drawing) => hand_out(
+            Ok(()),
             drawing.ball,
             drawing.moves,
             &drawing.weights,

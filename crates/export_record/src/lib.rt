@@ -39,6 +39,7 @@ pub fn read(
 {
     match record_read::read(rows, m, n, codes, text) {
         Ok(envelope) => hand_out(
+            Ok(()),
             envelope.figures.ball,
             envelope.figures.moves,
             &envelope.weights,

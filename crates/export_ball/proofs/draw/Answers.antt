@@ -10,7 +10,7 @@ use Rattle.export_answers.specs.declared.EnvelopeAnswer.{EnvelopeAnswer}
 use Rattle.export_ball.proofs.draw.Goals as goal
 
 pub hand_out-requires : goal.hand_out-requires
-hand_out-requires c =
+hand_out-requires c = λ zero.
     let args = c.args in
     let places : length c.in-Ok.drawing.weights ≡ row_limit = search rules in
     (accepted_places args.rows.now args.m args.n places (ap (λ (d : DrawingOutcome). d.outcome) c.in-Ok.ensures.is)

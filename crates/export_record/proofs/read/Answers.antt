@@ -14,7 +14,7 @@ use Rattle.export_record.proofs.read.Goals as goal
 use Rattle.record_read.specs.Clauses.{EnvelopeRead, record_read}
 
 pub hand_out-requires : goal.hand_out-requires
-hand_out-requires c =
+hand_out-requires c = λ zero.
     let args = c.args in
     let places : length c.in-Ok.envelope.weights ≡ row_limit = search rules in
     (accepted_places args.rows.now args.m args.n places (ap (λ (a : EnvelopeRead). a.outcome) c.in-Ok.ensures)
