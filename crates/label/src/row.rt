@@ -26,5 +26,10 @@ pub(crate) fn used(keys: &[u64], count: usize, key: u64) -> bool
     requires { count ≤ length keys.now }
     ensures { result ≡ key_used key (take count keys.now) }
 {
-    keys[..count].contains(&key)
+    for i in 0..count {
+        if keys[i] == key {
+            return true;
+        }
+    }
+    false
 }
