@@ -7,7 +7,7 @@ ghost use Rattle.std.specs.Prelude.{◌≡◌, ◌≤◌, ◌<◌, length, get_o
 ghost use Rattle.text.specs.Parts.{same};
 ghost use Rattle.text.specs.Clauses.{FieldRead};
 ghost use Rattle.channel.specs.Channel.{channel_types, code_of, tag_of, known, codes_known, house_types, house_count, no_type};
-ghost use Rattle.channel.specs.Clauses.{range_of};
+ghost use Rattle.channel.specs.Clauses.{range_of, tag_in, tag_places};
 ghost use Rattle.number.specs.Clauses.{above_zero};
 
 use text::parts::{Field, field_end};
@@ -97,9 +97,10 @@ fn tag_at(at: usize) -> &'static [u8]
     }
 }
 
-// The tag of a type, empty for a code of no type, as the definition `tag_of` has it.
+// The tag of a type, empty for a code of no type, as the definition `tag_of` has it; in three places it is that of `tag_in`.
 pub fn tag_of(code: Code) -> &'static [u8]
-    ensures { result.now ≡ tag_of channel_types code }
+    ensures tag { result.now ≡ tag_of channel_types code }
+    ensures places { tag_places result.now ≡ tag_in channel_types code }
 {
     match code {
         1..=8 => tag_at((code - 1) as usize),

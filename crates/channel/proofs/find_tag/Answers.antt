@@ -32,14 +32,14 @@ returns-then-eq c =
     let at = c.loop-at.at in
     let code = (get_or house_types at no_type).code in
     ap Some (get_or-map (λ (t : ChannelType). t.code) house_types at no_type)
-    ∙ sym (above_zero_some code (some_place at c.loop-at-test.true))
+    ∙ sym (above_zero_some code (some_place at (omega arith)))
     ∙ ap above_zero
-    (sym (decided _ c.tag_at.result.now at true c.loop-at-test.true c.loop-at.invariant c.tag_at.ensures c.eq.ensures c.if-eq.true)
+    (sym (decided _ c.tag_at.result.now at true (omega arith) c.loop-at.invariant c.tag_at.ensures c.eq.ensures c.if-eq.true)
     ∙ sym (types_of_code house_types _))
 
 pub loop-at-preserved : goal.loop-at-preserved
 loop-at-preserved c =
-    decided _ c.tag_at.result.now c.loop-at.at false c.loop-at-test.true c.loop-at.invariant c.tag_at.ensures c.eq.ensures c.if-eq.false
+    decided _ c.tag_at.result.now c.loop-at.at false (omega arith) c.loop-at.invariant c.tag_at.ensures c.eq.ensures c.if-eq.false
 
 pub returns : goal.returns
 unfolding house_types code_in

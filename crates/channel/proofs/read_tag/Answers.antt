@@ -25,12 +25,12 @@ stands tag code line at here e =
 
 pub returns-then-not-starts_with : goal.returns-then-not-starts_with
 returns-then-not-starts_with c =
-    word_other _ _ _ _ (sym (stands _ c.args.code c.args.line.now c.args.at c.tag_of-tag.ensures c.starts_with.ensures.value) ∙ c.if-not-starts_with.true)
+    word_other _ _ _ _ (sym (stands _ c.args.code c.args.line.now c.args.at c.tag_of-tag.ensures.tag c.starts_with.ensures.value) ∙ c.if-not-starts_with.true)
     c.field_end.ensures
 
 pub returns : goal.returns
 returns c =
     let args = c.args in
     word_stands (tag_of channel_types args.code) _ _ _ _ (house_free args.code)
-    (sym (stands _ args.code args.line.now args.at c.tag_of-tag.ensures c.starts_with.ensures.value) ∙ c.if-not-starts_with.false)
-    (ap (λ (t : List ℕ). args.at + length t) c.tag_of-tag.ensures) c.field_end-end.ensures
+    (sym (stands _ args.code args.line.now args.at c.tag_of-tag.ensures.tag c.starts_with.ensures.value) ∙ c.if-not-starts_with.false)
+    (ap (λ (t : List ℕ). args.at + length t) c.tag_of-tag.ensures.tag) c.field_end-end.ensures

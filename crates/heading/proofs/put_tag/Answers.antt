@@ -7,4 +7,4 @@ use Rattle.channel.specs.ContractLaws.{house_short, type_short}
 use Rattle.heading.proofs.put_tag.Goals as goal
 
 pub put_bytes-requires : goal.put_bytes-requires
-put_bytes-requires c = omega (arith, ap length c.tag_of.ensures, type_short channel_types house_short c.args.code)
+put_bytes-requires c = omega (arith, ap length c.tag_of.ensures.tag, type_short channel_types house_short c.args.code)
