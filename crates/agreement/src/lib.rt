@@ -15,7 +15,13 @@ use checking::check_weights;
 fn none_past(weights: &[u32], m: usize) -> bool
     ensures { result ≡ all_zero (drop m weights.now) }
 {
-    weights.iter().skip(m).all(|weight| *weight == 0)
+    for i in m..weights.len() {
+        let weight = weights[i];
+        if weight != 0 {
+            return false;
+        }
+    }
+    true
 }
 
 // Whether the first n places are the same.

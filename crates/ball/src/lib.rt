@@ -61,11 +61,12 @@ pub fn ball_of(
     ensures { result ≡ ball_of total m n (coordinate rows.now n) (weight_of weights.now) }
 {
     let scaled_lower_bound = bound::scaled_lower_bound(rows, m, n, weights, &scaled_centre);
+    let settles = is_settled(pair);
     Ball {
         scaled_centre,
         scaled_squared_radius: pair.score,
         scaled_lower_bound,
-        settled: is_settled(pair),
+        settled: settles,
     }
 }
 
@@ -87,10 +88,11 @@ pub fn ball_of_scores(rows: &[i32], m: usize, n: usize, weights: &[u32], pair: P
     let scaled_centre = centre::scaled_centre(rows, m, n, weights);
     let scaled_lower_bound = bound::scaled_lower_bound(rows, m, n, weights, &scaled_centre);
     let scaled_squared_radius = radius_of_score(pair.score, scaled_lower_bound);
+    let settled = is_settled(pair);
     Ball {
         scaled_centre,
         scaled_squared_radius,
         scaled_lower_bound,
-        settled: is_settled(pair),
+        settled,
     }
 }

@@ -112,10 +112,11 @@ fn put_text(
         let next = place + n;
         let label = &labels[from..end];
         let numbers = &rows[place..next];
+        let within = row_in_range(numbers, codes, n);
         let Some(key) = row_label_key(label) else {
             return Err(Refusal::new(Kind::LineForm, line));
         };
-        if !row_in_range(numbers, codes, n) {
+        if !within {
             return Err(Refusal::new(Kind::ValueRange, line));
         }
         if used_of_marked(&keys, i, &marks, key) {

@@ -9,10 +9,10 @@ use crate::column::fill_column;
 use limits::ROWS;
 
 // the most columns that are kept
-const COLUMNS: usize = 32;
+pub const COLUMNS: usize = 32;
 
 // the places of all of them
-const COLUMN_PLACES: usize = COLUMNS * ROWS;
+pub const COLUMN_PLACES: usize = COLUMNS * ROWS;
 
 // The slots, the row that each of them names, the slot that is remembered for each row, and the slot that is filled next.
 #[derive(Drop)]
@@ -24,7 +24,7 @@ pub struct KeptColumns {
 }
 
 // The slot that is filled next where that of a column in use is passed over.
-pub(crate) fn slot_beside(next: usize, slot: usize) -> usize
+pub fn slot_beside(next: usize, slot: usize) -> usize
     requires { next < column_limit }
     ensures { result ≡ slot_beside next slot }
 {
@@ -49,7 +49,7 @@ impl KeptColumns {
     }
 
     // The slot that holds the column of row j, which is put into the slot that is filled next where it is not kept. The slots are filled in turn.
-    pub(crate) fn keep(&mut self, rows: &[i32], m: usize, n: usize, j: usize) -> usize
+    pub fn keep(&mut self, rows: &[i32], m: usize, n: usize, j: usize) -> usize
         requires { Table rows.now m n × ((j < m) × KeptFor rows.now m n self.old) }
         ensures { ColumnKept rows.now m n j self.old self.new result }
     {

@@ -1,20 +1,29 @@
--- `agreement::none_past` meets its contract: the test of the weights one after another is the definition's.
-use Rattle.std.specs.Prelude.{ℕ, ◌≡◌, refl, List, [], ◌∷◌, ◌&&◌, eqb}
-use Rattle.std.proofs.Common.{◌∙◌, ap, rules, drop}
-use Rattle.std.specs.List.{list_all}
-use Rattle.std.proofs.lemmas.Iterator.{YieldsList-from_slice}
-use Rattle.std.proofs.lemmas.Iterator.Adapters.{YieldsList-from_skip}
-use Rattle.std.proofs.lemmas.Iterator.Search.{all_from_yields_List}
-use Rattle.agreement.specs.Agreement.{all_zero}
+use Prim.Native.Nat.{ℕ, ◌≤◌, ◌<◌}
+use mathlib.Core.Path.{◌≡◌, sym}
+use mathlib.Core.List.{List}
+use native.Mathlib.Decide.{dec_lt}
+use native.Mathlib.Omega.{arith}
+use lib.ListN.{length, get_or, get_or-eq_default}
+use Rattle.integers.specs.Tests.{refuted}
+use Rattle.agreement.specs.AgreementLaws.{all_zero_at, all_zero_by}
 use Rattle.agreement.proofs.none_past.Goals as goal
 
-zeros : (ws : List ℕ) → list_all (λ w. eqb w 0) ws ≡ all_zero ws
-unfolding all_zero
-zeros [] = refl
-zeros (w ∷ ws) = ap (λ b. eqb w 0 && b) (zeros ws)
+-- at the end every weight from place m on is passed
+ended : (ws : List ℕ) (m i : ℕ) → length ws ≤ i → ((j : ℕ) → j < i → m ≤ j → get_or ws j 0 ≡ 0) → (j : ℕ) → m ≤ j → get_or ws j 0 ≡ 0
+ended ws m i end passed j a = go (dec_lt j i)
+  where
+    go : Dec (j < i) → get_or ws j 0 ≡ 0
+    go (yes l) = passed j l a
+    go (no l) = get_or-eq_default ws 0 (omega arith)
+
+pub returns-then-weight-ne0 : goal.returns-then-weight-ne0
+returns-then-weight-ne0 c =
+    let l = c.loop-i in
+    let a = c.args in
+    refuted _ (λ h. c.if-weight-ne0.true (all_zero_at a.weights.now a.m h l.i l.invariant.0))
 
 pub returns : goal.returns
 returns c =
-    all_from_yields_List (λ w. eqb w 0) _ _ c.all.result c.all.ensures.ran
-    (YieldsList-from_skip c.args.m (YieldsList-from_slice c.args.weights.now (search rules)) (search rules)) (λ x b q k. search rules)
-    ∙ zeros (drop c.args.m c.args.weights.now)
+    let l = c.loop-i in
+    let a = c.args in
+    sym (all_zero_by a.weights.now a.m (ended a.weights.now a.m l.i (omega arith) l.invariant.1))

@@ -31,4 +31,4 @@ pub returns : goal.returns
 returns c =
     let asked = c.requires in
     gathered asked.0 asked.1.1.0 asked.1.1.1 c.scaled_lower_bound-scaled_lower_bound.ensures
-    c.is_settled.ensures refl
+    c.is_settled-settles.ensures refl

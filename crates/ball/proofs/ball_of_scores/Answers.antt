@@ -59,4 +59,4 @@ pub returns : goal.returns
 returns c =
     let asked = c.requires in
     gathered (lit< tt) asked.0 asked.1.0 asked.1.1 c.scaled_centre-scaled_centre.ensures c.scaled_lower_bound-scaled_lower_bound.ensures
-    c.radius_of_score-scaled_squared_radius.ensures c.is_settled.ensures refl
+    c.radius_of_score-scaled_squared_radius.ensures c.is_settled-settled.ensures refl

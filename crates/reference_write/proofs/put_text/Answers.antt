@@ -78,15 +78,15 @@ returns-in_default c =
     record { below = c.loop-i-test.true; is_key = sym (no_key _ c.in_default.ensures) } in
     walk_stops facts c.loop-i.invariant turn _ _ 2 (fault_form facts c.loop-i.invariant turn refl) (told LineForm c.new.ensures)
 
-pub returns-then-not-row_in_range : goal.returns-then-not-row_in_range
-returns-then-not-row_in_range c =
+pub returns-then-not-within : goal.returns-then-not-within
+returns-then-not-within c =
     let facts = lending row_limit channel_types _ c.requires.within in
     let found = found_key _ c.in-Some.ensures in
     let turn : Turn (lent_table c.args.rows.now (length c.args.ends.now) c.args.n c.args.codes.now c.args.labels.now c.args.ends.now) c.loop-i.from c.loop-i.i c.in-Some.key =
     record { below = c.loop-i-test.true; is_key = found.0 } in
-    let outside = sym c.if-not-row_in_range.true ∙ c.row_in_range.ensures in
+    let outside = sym c.if-not-within.true ∙ c.row_in_range-within.ensures in
     walk_stops facts c.loop-i.invariant turn _ _ 3 (fault_range facts c.loop-i.invariant turn found.1 outside)
-    (told ValueRange c.new-then-not-row_in_range.ensures)
+    (told ValueRange c.new-then-not-within.ensures)
 
 pub returns-then-used_of_marked : goal.returns-then-used_of_marked
 returns-then-used_of_marked c =
@@ -94,7 +94,7 @@ returns-then-used_of_marked c =
     let found = found_key _ c.in-Some.ensures in
     let turn : Turn (lent_table c.args.rows.now (length c.args.ends.now) c.args.n c.args.codes.now c.args.labels.now c.args.ends.now) c.loop-i.from c.loop-i.i c.in-Some.key =
     record { below = c.loop-i-test.true; is_key = found.0 } in
-    let inside = sym c.if-not-row_in_range.false ∙ c.row_in_range.ensures in
+    let inside = sym c.if-not-within.false ∙ c.row_in_range-within.ensures in
     let used = sym c.if-used_of_marked.true ∙ c.used_of_marked.ensures in
     walk_stops facts c.loop-i.invariant turn _ _ 4 (fault_repeated facts c.loop-i.invariant turn found.1 inside used)
     (told LabelRepeated c.new-then-used_of_marked.ensures)
@@ -105,7 +105,7 @@ put_row-at-requires c =
     let found = found_key _ c.in-Some.ensures in
     let turn : Turn (lent_table c.args.rows.now (length c.args.ends.now) c.args.n c.args.codes.now c.args.labels.now c.args.ends.now) c.loop-i.from c.loop-i.i c.in-Some.key =
     record { below = c.loop-i-test.true; is_key = found.0 } in
-    let inside = sym c.if-not-row_in_range.false ∙ c.row_in_range.ensures in
+    let inside = sym c.if-not-within.false ∙ c.row_in_range-within.ensures in
     let unused = sym c.if-used_of_marked.false ∙ c.used_of_marked.ensures in
     turn_room facts c.loop-i.invariant turn (fault_none facts c.loop-i.invariant turn found.1 inside unused)
 
@@ -120,7 +120,7 @@ loop-i-preserved c =
     let found = found_key _ c.in-Some.ensures in
     let turn : Turn (lent_table c.args.rows.now (length c.args.ends.now) c.args.n c.args.codes.now c.args.labels.now c.args.ends.now) c.loop-i.from c.loop-i.i c.in-Some.key =
     record { below = c.loop-i-test.true; is_key = found.0 } in
-    let inside = sym c.if-not-row_in_range.false ∙ c.row_in_range.ensures in
+    let inside = sym c.if-not-within.false ∙ c.row_in_range-within.ensures in
     let unused = sym c.if-used_of_marked.false ∙ c.used_of_marked.ensures in
     walk_next facts c.loop-i.invariant turn (fault_none facts c.loop-i.invariant turn found.1 inside unused) c.put_row-at.ensures c.mark.ensures
 
