@@ -21,7 +21,7 @@ fn every_document_is_looked_at() {
                 .into_string()
                 .expect("a name");
             // A page on what changed names what is not there any more.
-            let on_changes = ["PORT.md", "DESIGN-PASS.md"].contains(&name.as_str())
+            let on_changes = ["PORT.md", "DESIGN-PASS.md", "LOOK-BACK.md"].contains(&name.as_str())
                 || name.starts_with(|c: char| c.is_ascii_digit());
             if name.ends_with(".md") && !on_changes {
                 there.insert(format!("{folder}/{name}"));
